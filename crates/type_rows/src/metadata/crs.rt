@@ -102,8 +102,8 @@ fn say_written(it: &mut Asked<'_>, crs: Crs) {
 
 /// Whether a text is read as a metadata.
 fn is_read_as(alloc: Global, text: Option<&str>, metadata: &Metadata) -> bool {
-    match Metadata::deserialize(alloc, text) {
-        Ok(read) => read == *metadata,
+    match &*ManuallyDrop::new(Metadata::deserialize(alloc, text)) {
+        Ok(read) => *read == *metadata,
         Err(_) => false,
     }
 }

@@ -8,7 +8,7 @@ use rows::said::Said;
 use rows::texts::halves;
 use serde_json::Value;
 use std::alloc::AllocError;
-use std::mem::ManuallyDrop;
+use std::mem::{ManuallyDrop, forget};
 
 /// Says the parts of a CRS: its value as JSON, and the text of its type, each `-` where there is none.
 pub fn say_crs(said: &mut Said, crs: &Crs) {
@@ -55,7 +55,8 @@ fn say_read(said: &mut Said, read: &Result<Metadata, ArrowError>) {
 pub fn metadata_of(said: &mut Said, text: &str) -> ManuallyDrop<Metadata> {
     ManuallyDrop::new(match Metadata::deserialize(said.alloc, Some(text)) {
         Ok(metadata) => metadata,
-        Err(_) => {
+        Err(error) => {
+            forget(error);
             said.fail();
             Metadata::new(Crs::default(), None)
         }
@@ -76,22 +77,22 @@ pub fn json(said: &mut Said, text: &str) -> ManuallyDrop<Value> {
 /// Says what a call answers about the metadata of a text, or what the refusal of the text prints.
 pub fn read(it: &mut Asked<'_>) {
     match Metadata::deserialize(it.alloc, Some(it.text)) {
-        Ok(metadata) => say_of(it, metadata),
-        Err(error) => it.said.refusal(&error),
+        Ok(metadata) => say_of(it, ManuallyDrop::new(metadata)),
+        Err(error) => it.said.refusal(&ManuallyDrop::new(error)),
     }
 }
 
 /// Says what a call answers about a metadata: what it prints, the parts of its normal form, or whether it is normal.
-fn say_of(it: &mut Asked<'_>, metadata: Metadata) {
+fn say_of(it: &mut Asked<'_>, metadata: ManuallyDrop<Metadata>) {
     match it.command {
         "serialize" => say_serialized(it, &metadata),
         "to_value" => say_value(it, &metadata),
         "is_normal" => it.said.truth(metadata.is_normal()),
         _ => {
             it.before();
-            let normal = metadata.normalized();
+            let normal = ManuallyDrop::into_inner(metadata).normalized();
             it.after();
-            say_parts(&mut it.said, &normal);
+            say_parts(&mut it.said, &ManuallyDrop::new(normal));
         }
     }
 }
@@ -107,10 +108,10 @@ fn say_serialized(it: &mut Asked<'_>, metadata: &Metadata) {
 /// Says the JSON value that a metadata is written as, `-` for none.
 fn say_value(it: &mut Asked<'_>, metadata: &Metadata) {
     it.before();
-    let value = metadata.to_value(it.alloc);
+    let value = ManuallyDrop::new(metadata.to_value(it.alloc));
     it.after();
-    match value {
-        Ok(Some(value)) => it.said.shown(&value),
+    match &*value {
+        Ok(Some(value)) => it.said.shown(value),
         Ok(None) => it.said.push("-"),
         Err(AllocError) => it.said.fail(),
     }
@@ -136,9 +137,9 @@ pub fn crs_as_written(it: &mut Asked<'_>) {
 /// Says the parts of the metadata of the JSON value of a text.
 pub fn from_value(it: &mut Asked<'_>) {
     let value = json(&mut it.said, it.text);
-    match Metadata::from_value(it.alloc, &value) {
-        Ok(metadata) => say_parts(&mut it.said, &metadata),
-        Err(error) => it.said.geoarrow_refusal(&error),
+    match &*ManuallyDrop::new(Metadata::from_value(it.alloc, &value)) {
+        Ok(metadata) => say_parts(&mut it.said, metadata),
+        Err(error) => it.said.geoarrow_refusal(error),
     }
 }
 

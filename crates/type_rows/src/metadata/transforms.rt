@@ -7,6 +7,7 @@ use rows::said::Said;
 use serde_json::Value;
 use std::alloc::Global;
 use std::fmt::Display;
+use std::mem::ManuallyDrop;
 
 /// It converts each CRS to one text, and none to PROJJSON.
 #[derive(Debug, Drop)]
@@ -29,8 +30,8 @@ impl CrsTransform for OneText {
 }
 
 /// Says the text or the PROJJSON value that a CRS is converted to, `-` for none, or what the refusal prints.
-fn say_converted<T: Display>(said: &mut Said, found: &GeoArrowResult<Option<T>>) {
-    match found {
+fn say_converted<T: Display + Drop>(said: &mut Said, found: GeoArrowResult<Option<T>>) {
+    match &*ManuallyDrop::new(found) {
         Ok(Some(found)) => said.shown(found),
         Ok(None) => said.push("-"),
         Err(error) => said.geoarrow_refusal(error),
@@ -43,15 +44,13 @@ pub fn converted<T: CrsTransform>(it: &mut Asked<'_>, transform: &T, call: &str)
     let crs = metadata.crs();
     it.before();
     match call {
-        "extract_wkt" => say_converted(&mut it.said, &transform.extract_wkt(it.alloc, crs)),
-        "_convert_to_wkt" => {
-            say_converted(&mut it.said, &transform._convert_to_wkt(it.alloc, crs));
-        }
+        "extract_wkt" => say_converted(&mut it.said, transform.extract_wkt(it.alloc, crs)),
+        "_convert_to_wkt" => say_converted(&mut it.said, transform._convert_to_wkt(it.alloc, crs)),
         "extract_projjson" => {
-            say_converted(&mut it.said, &transform.extract_projjson(it.alloc, crs));
+            say_converted(&mut it.said, transform.extract_projjson(it.alloc, crs));
         }
         "_convert_to_projjson" => {
-            say_converted(&mut it.said, &transform._convert_to_projjson(it.alloc, crs));
+            say_converted(&mut it.said, transform._convert_to_projjson(it.alloc, crs));
         }
         _ => it.no_command(),
     }

@@ -29,9 +29,9 @@ pub fn read(said: &mut Said, field: &Field) {
 }
 
 /// What is said of a type that is read, or of the refusal.
-fn said_of(alloc: Global, found: &GeoArrowResult<GeoArrowType>) -> Said {
-    let mut said = Said::new(alloc);
-    match found {
+fn said_of(alloc: Global, found: GeoArrowResult<GeoArrowType>) -> ManuallyDrop<Said> {
+    let mut said = ManuallyDrop::new(Said::new(alloc));
+    match &*ManuallyDrop::new(found) {
         Ok(found) => say_type(&mut said, found),
         Err(error) => say_error(&mut said, error),
     }
@@ -41,8 +41,8 @@ fn said_of(alloc: Global, found: &GeoArrowResult<GeoArrowType>) -> Said {
 /// Says the answers of `try_from_field` and `from_arrow_field`, with ` / ` before each; nothing where both are what is said.
 fn say_otherwise(said: &mut Said, field: &Field) {
     let alloc = said.alloc;
-    let second = said_of(alloc, &GeoArrowType::try_from_field(alloc, field));
-    let third = said_of(alloc, &GeoArrowType::from_arrow_field(alloc, field));
+    let second = said_of(alloc, GeoArrowType::try_from_field(alloc, field));
+    let third = said_of(alloc, GeoArrowType::from_arrow_field(alloc, field));
     if second.is_lacking || third.is_lacking {
         said.fail();
     } else if second.text != said.text || third.text != said.text {

@@ -15,6 +15,7 @@ use rows::asked::Asked;
 use rows::notation::new_field;
 use rows::said::Said;
 use rows::texts::first_word;
+use std::alloc::AllocError;
 use std::mem::ManuallyDrop;
 use std::sync::Arc;
 
@@ -60,19 +61,22 @@ fn of_geometry<E: ExtensionType<Metadata = Arc<Metadata>> + Into<GeoArrowType>>(
     field: &Field,
 ) {
     match made_of::<E>(it, field) {
-        Ok(found) => {
-            let found: GeoArrowType = found.into();
-            say_type(&mut it.said, &found);
-        }
-        Err(error) => it.said.refusal(&error),
+        Ok(found) => say_type(
+            &mut it.said,
+            &ManuallyDrop::<GeoArrowType>::new(found.into()),
+        ),
+        Err(error) => it.said.refusal(&ManuallyDrop::new(error)),
     }
 }
 
 /// What well-known binary or text is made, of which the type says the metadata alone.
 fn of_bytes<E: Encoding>(it: &mut Asked<'_>, field: &Field) {
-    match made_of::<SerializedType<E>>(it, field) {
-        Ok(found) => say_text(&mut it.said, &found.serialize_metadata(it.alloc)),
-        Err(error) => it.said.refusal(&error),
+    match &*ManuallyDrop::new(made_of::<SerializedType<E>>(it, field)) {
+        Ok(found) => {
+            let text = ManuallyDrop::new(found.serialize_metadata(it.alloc));
+            say_text(&mut it.said, &text);
+        }
+        Err(error) => it.said.refusal(error),
     }
 }
 
@@ -135,10 +139,10 @@ fn use_of<E: ExtensionType>(it: &mut Asked<'_>, own: &E, text: &str) {
     match it.command {
         "supports_data_type" => supports(it, own, field.data_type()),
         "try_with_extension_type" => write_on(it, own, &mut field),
-        "with_extension_type" => carry(it, own, &field),
+        "with_extension_type" => carry(it, own, field),
         "serialize_metadata" => {
             it.before();
-            let text = own.serialize_metadata(it.alloc);
+            let text = ManuallyDrop::new(own.serialize_metadata(it.alloc));
             it.after();
             say_text(&mut it.said, &text);
         }
@@ -153,40 +157,40 @@ fn use_of<E: ExtensionType>(it: &mut Asked<'_>, own: &E, text: &str) {
 /// Says whether a type supports a data type, or what the refusal prints.
 fn supports<E: ExtensionType>(it: &mut Asked<'_>, own: &E, data_type: &DataType) {
     it.before();
-    let found = own.supports_data_type(it.alloc, data_type);
+    let found = ManuallyDrop::new(own.supports_data_type(it.alloc, data_type));
     it.after();
-    match found {
+    match &*found {
         Ok(()) => it.said.push("supported"),
-        Err(error) => it.said.refusal(&error),
+        Err(error) => it.said.refusal(error),
     }
 }
 
 /// Says the line of a field on which a type is written, or what the refusal prints and whether the field is as it was. Out of
 /// memory is no answer where it is.
 fn write_on<E: ExtensionType>(it: &mut Asked<'_>, own: &E, field: &mut Field) {
-    let Ok(before) = field.try_clone(it.alloc) else {
-        return it.said.fail();
-    };
-    match field.try_with_extension_type(it.alloc, own) {
-        Ok(()) => it.said.line(field),
-        Err(_) if *field != before => it.said.push("changed"),
-        Err(error) => {
-            it.said.refusal(&error);
+    let before = ManuallyDrop::new(field.try_clone(it.alloc));
+    let written = ManuallyDrop::new(field.try_with_extension_type(it.alloc, own));
+    match (&*before, &*written) {
+        (Err(AllocError), _) => it.said.fail(),
+        (Ok(_), Ok(())) => it.said.line(field),
+        (Ok(before), Err(_)) if *field != *before => it.said.push("changed"),
+        (Ok(_), Err(error)) => {
+            it.said.refusal(error);
             it.said.push(", as it was");
         }
     }
 }
 
 /// Says the line of a field that carries a type. Has no answer where it cannot carry it.
-fn carry<E: ExtensionType>(it: &mut Asked<'_>, own: &E, field: &Field) {
-    if own.supports_data_type(it.alloc, field.data_type()).is_err() {
-        return it.said.fail();
+fn carry<E: ExtensionType>(it: &mut Asked<'_>, own: &E, field: ManuallyDrop<Field>) {
+    let supported = ManuallyDrop::new(own.supports_data_type(it.alloc, field.data_type()));
+    match &*supported {
+        Ok(()) => {
+            let carrying = ManuallyDrop::into_inner(field).with_extension_type(it.alloc, own);
+            it.said.line_or_refusal(&ManuallyDrop::new(carrying));
+        }
+        Err(_) => it.said.fail(),
     }
-    let Ok(field) = field.try_clone(it.alloc) else {
-        return it.said.fail();
-    };
-    let carrying = field.with_extension_type(it.alloc, own);
-    it.said.line_or_refusal(&carrying);
 }
 
 /// Says the type id of a native type, its offset, and the dimension by which it goes.

@@ -11,34 +11,33 @@ use std::mem::ManuallyDrop;
 
 /// Says a type after a change, as its getters tell it.
 pub fn changed(it: &mut Asked<'_>, one: ManuallyDrop<GeoArrowType>, part: &str) {
-    if it.command == "with_metadata" {
-        return with_metadata(it, one, part);
-    }
-    let one = ManuallyDrop::into_inner(one);
-    let changed = match it.command {
+    match it.command {
+        "with_metadata" => with_metadata(it, one, part),
         "with_coord_type" => {
             let coord_type = coord_type(&mut it.said, part);
             it.before();
-            one.with_coord_type(coord_type)
+            say_changed(
+                it,
+                ManuallyDrop::into_inner(one).with_coord_type(coord_type),
+            );
         }
         "with_dimension" => {
             let dimension = dimension(&mut it.said, part);
             it.before();
-            one.with_dimension(dimension)
+            say_changed(it, ManuallyDrop::into_inner(one).with_dimension(dimension));
         }
         "normalized" => {
             it.before();
-            match one.normalized(it.alloc) {
-                Ok(one) => one,
-                Err(AllocError) => return it.said.fail(),
+            match ManuallyDrop::into_inner(one).normalized(it.alloc) {
+                Ok(one) => say_changed(it, one),
+                Err(AllocError) => it.said.fail(),
             }
         }
         _ => {
             it.before();
-            one
+            say_changed(it, ManuallyDrop::into_inner(one));
         }
-    };
-    say_changed(it, changed);
+    }
 }
 
 /// Says a type with other metadata.

@@ -76,7 +76,7 @@ pub fn metadata(said: &mut Said, field: &Field) {
     say_read(said, &read);
     let text = field.extension_type_metadata();
     let shared = ManuallyDrop::new(Metadata::deserialize_shared(alloc, text));
-    let mut other = Said::new(alloc);
+    let mut other = ManuallyDrop::new(Said::new(alloc));
     match &*shared {
         Ok(shared) => say_metadata(&mut other, shared),
         Err(error) => other.refusal(error),

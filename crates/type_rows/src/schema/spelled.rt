@@ -5,7 +5,7 @@ use geoarrow_schema::{GeoArrowType, Kind, Metadata};
 use rows::notation::{column, data_type, field, made};
 use rows::said::Said;
 use rows::texts::{first_word, halves, is_line};
-use std::mem::ManuallyDrop;
+use std::mem::{ManuallyDrop, forget};
 use std::sync::Arc;
 
 /// A field that may be null, spelled `NAME METADATA | TYPE`, where the name `-` stands for none, no metadata text need be
@@ -70,11 +70,12 @@ fn kind_of(kind: &str, coord_type: &str, dimension: &str) -> Option<Kind> {
 /// The metadata of a text, or the default for a dash. There is no answer where there is none.
 pub fn metadata_of(said: &mut Said, text: &str) -> Option<Arc<Metadata>> {
     let text = if text == "-" { None } else { Some(text) };
-    if let Ok(metadata) = Metadata::deserialize(said.alloc, text)
-        && let Ok(metadata) = Arc::new(said.alloc, metadata)
-    {
-        return Some(metadata);
+    match Metadata::deserialize_shared(said.alloc, text) {
+        Ok(metadata) => Some(metadata),
+        Err(error) => {
+            forget(error);
+            said.fail();
+            None
+        }
     }
-    said.fail();
-    None
 }

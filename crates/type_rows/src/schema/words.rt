@@ -2,6 +2,7 @@
 use arrow_values::{ArrowError, GeoArrowError};
 use geoarrow_schema::{CoordType, Dimension, GeoArrowType, Kind, Metadata, NativeKind, Width};
 use rows::said::Said;
+use std::mem::ManuallyDrop;
 
 /// Says a type: its kind, coordinate type, dimension and metadata. It says all that there is of it.
 pub fn say_type(said: &mut Said, found: &GeoArrowType) {
@@ -16,14 +17,15 @@ pub fn say_type(said: &mut Said, found: &GeoArrowType) {
 
 /// Says a metadata: its text; or a dash where it has none, and the CRS type that is there nevertheless.
 pub fn say_metadata(said: &mut Said, metadata: &Metadata) {
-    match (metadata.serialize(said.alloc), metadata.crs().crs_type()) {
+    let text = ManuallyDrop::new(metadata.serialize(said.alloc));
+    match (&*text, metadata.crs().crs_type()) {
         (Ok(Some(text)), _) => said.push(text.as_str()),
         (Ok(None), None) => said.push("-"),
         (Ok(None), Some(lone)) => {
             said.push("- ");
             said.push(lone.as_text());
         }
-        (Err(error), _) => said.refusal(&error),
+        (Err(error), _) => said.refusal(error),
     }
 }
 
