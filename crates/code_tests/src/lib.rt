@@ -1,5 +1,5 @@
 //! Tests in code: the callers of `uses` and its extension type, and what no row of `rows` can show: what a value hands out, and readers
-//! and writers that are slow or fail.
+//! and writers that are slow or fail. As in the crates of rows, many values that are looked at are not dropped, so that there is less to prove.
 #![tactic(auto)]
 
 #[cfg(test)]
