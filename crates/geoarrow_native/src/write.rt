@@ -31,10 +31,11 @@ pub fn column_field(
         → ReadsAs f kind (normal metadata.now)) }
     ensures refused { IfErr result IsMemory }
 {
+    let extension_name = kind.name();
     let text = metadata.serialize(alloc)?;
     layout_reads_back(kind);
     let field = Field::new(alloc, name, kind_data_type(alloc, kind)?, nullable)?;
-    Ok(with_texts(alloc, field, kind.name(), text)?)
+    Ok(with_texts(alloc, field, extension_name, text)?)
 }
 
 /// The field, which has no texts yet, with that extension name and that metadata text, or none. Errs only when out of memory.
