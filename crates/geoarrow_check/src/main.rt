@@ -9,6 +9,7 @@ use crate::source::{Failure, report_columns};
 use check_options::{Asked, asked_by};
 use column_files::{MAX_LINE_BYTES, ReadFault};
 use report_words::{long_line_text, problem_text};
+use std::alloc::{AllocError, Global};
 use std::io::Write;
 use std::process::ExitCode;
 use std::{env, io};
@@ -37,31 +38,45 @@ const VERSION: &str = "geoarrow_check 1.0.0 (rattle-kit-13f)\n";
 /// Reports a file on standard output; or says on standard error why it cannot be read. Returns the status.
 fn check(rt: &HostRuntime, file: &str, asked: &Asked) -> io::Result<u8> {
     let mut report = Report::new(rt.alloc(), file, asked)?;
-    let fault = match report_columns(rt, file, &mut report) {
+    print_report(rt, file, &mut report)
+}
+
+/// Prints the report of a file, as `check` does.
+fn print_report(rt: &HostRuntime, file: &str, report: &mut Report<'_>) -> io::Result<u8> {
+    let fault = match report_columns(rt, file, report) {
         Ok(()) => return report.finish(rt),
         Err(Failure::Output(error)) => return Err(error),
         Err(Failure::Input(fault)) => fault,
     };
-    let problem = match fault {
-        ReadFault::Input(error) => format!(in rt.alloc(); "{error}")?,
-        ReadFault::LongLine(before) => long_line_text(rt.alloc(), before, MAX_LINE_BYTES)?,
-        ReadFault::File(fault) => problem_text(rt.alloc(), &fault)?,
-    };
+    let problem = problem_of(rt.alloc(), fault)?;
     report.write(rt)?;
     eprintln!(rt; "{file}: {problem}")?;
     Ok(2)
 }
 
+/// Why a file cannot be read.
+fn problem_of(alloc: Global, fault: ReadFault) -> Result<String, AllocError> {
+    match fault {
+        ReadFault::Input(error) => format!(in alloc; "{error}"),
+        ReadFault::LongLine(before) => long_line_text(alloc, before, MAX_LINE_BYTES),
+        ReadFault::File(fault) => problem_text(alloc, &fault),
+    }
+}
+
 /// Does what the words ask. Returns the status.
 fn run(rt: &HostRuntime) -> io::Result<u8> {
     let words: Vec<String> = env::args(rt)?.skip(1).collect(rt.alloc())?;
-    let asked = match asked_by(rt.alloc(), words.as_slice())? {
-        Ok(asked) => asked,
+    match asked_by(rt.alloc(), words.as_slice())? {
+        Ok(asked) => answer(rt, &asked),
         Err(reason) => {
             eprint!(rt; "geoarrow_check: {reason}\n{USAGE}")?;
-            return Ok(2);
+            Ok(2)
         }
-    };
+    }
+}
+
+/// Answers what is asked. Returns the status.
+fn answer(rt: &HostRuntime, asked: &Asked) -> io::Result<u8> {
     if asked.flags.help {
         rt.stdout().write_all(USAGE.as_bytes())?;
         return Ok(0);
@@ -72,7 +87,7 @@ fn run(rt: &HostRuntime) -> io::Result<u8> {
     }
     let mut status = 0;
     for file in &asked.files {
-        status = check(rt, file.as_str(), &asked)?.max(status);
+        status = check(rt, file.as_str(), asked)?.max(status);
     }
     Ok(status)
 }

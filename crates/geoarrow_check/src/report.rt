@@ -3,7 +3,7 @@
 use arrow_columns::Column;
 use arrow_ipc::{Endianness, Schema, write_schema};
 use check_options::{Asked, Output};
-use column_check::check_column;
+use column_check::{Finding, check_column};
 use column_files::column_line;
 use column_tables::{Row, table_text};
 use file_reports::column_line_of;
@@ -12,8 +12,8 @@ use json::Scratch;
 use report_words::{Found, checked_lines, checked_text, has_failed, row_of};
 use std::alloc::{AllocError, Global};
 use std::collections::BTreeMap;
-use std::io;
 use std::io::Write;
+use std::{io, mem};
 
 /// How many bytes are kept at most before they are written.
 const KEPT_BYTES: usize = 65_536;
@@ -64,30 +64,63 @@ impl<'a> Report<'a> {
 
     /// Adds a column, and writes what is to be printed of it, but for a table and a stream.
     pub(crate) fn add(&mut self, rt: &HostRuntime, column: Column) -> io::Result<()> {
-        let alloc = rt.alloc();
-        let finding = check_column(alloc, &column, self.asked.flags.infer)?;
-        self.status = self.status.max(u8::from(finding.is_invalid()));
-        self.has_geometry = self.has_geometry | finding.is_geometry();
-        for (want, found) in self.asked.wants.iter().zip(self.found.iter_mut()) {
-            let (name, want) = (want.column.as_str(), want.want.as_str());
-            found.look_at(alloc, name, want, &column, &finding)?;
-        }
-        match self.asked.flags.output() {
-            Output::Nothing => {}
-            Output::Table => self.rows.push(row_of(alloc, &column, &finding)?)?,
-            Output::Json => {
-                let (file, scratch) = (self.named_file(), &mut self.scratch);
-                let line = column_line_of(alloc, scratch, file, self.count, &column, &finding)?;
-                self.add_line(line)?;
-            }
-            Output::Lines => self.add_line(column_line(alloc, column)?)?,
-            Output::Ipc => self.columns.push(column)?,
-        }
+        self.look_at(rt.alloc(), &column)?;
+        self.keep(rt.alloc(), column)?;
         self.count = self.count.saturating_add(1);
         if self.text.len() >= KEPT_BYTES {
             self.write(rt)?;
         }
         Ok(())
+    }
+
+    /// Looks at what a column is.
+    fn look_at(&mut self, alloc: Global, column: &Column) -> Result<(), AllocError> {
+        let finding = check_column(alloc, column, self.asked.flags.infer)?;
+        self.add_finding(alloc, column, &finding)
+    }
+
+    /// Adds what a column is, and the row or the line of JSON that says so.
+    fn add_finding(
+        &mut self,
+        alloc: Global,
+        column: &Column,
+        finding: &Finding,
+    ) -> Result<(), AllocError> {
+        self.status = self.status.max(u8::from(finding.is_invalid()));
+        self.has_geometry = self.has_geometry | finding.is_geometry();
+        self.expect(alloc, column, finding)?;
+        match self.asked.flags.output() {
+            Output::Table => Ok(self.rows.push(row_of(alloc, column, finding)?)?),
+            Output::Json => {
+                let (file, scratch) = (self.named_file(), &mut self.scratch);
+                let line = column_line_of(alloc, scratch, file, self.count, column, finding)?;
+                self.add_line(line)
+            }
+            Output::Nothing | Output::Lines | Output::Ipc => Ok(()),
+        }
+    }
+
+    /// Looks at a column for each expectation.
+    fn expect(
+        &mut self,
+        alloc: Global,
+        column: &Column,
+        finding: &Finding,
+    ) -> Result<(), AllocError> {
+        for (want, found) in self.asked.wants.iter().zip(self.found.iter_mut()) {
+            let (name, want) = (want.column.as_str(), want.want.as_str());
+            found.look_at(alloc, name, want, column, finding)?;
+        }
+        Ok(())
+    }
+
+    /// Adds a column itself, where columns are printed.
+    fn keep(&mut self, alloc: Global, column: Column) -> Result<(), AllocError> {
+        match self.asked.flags.output() {
+            Output::Lines => self.add_line(column_line(alloc, column)?),
+            Output::Ipc => Ok(self.columns.push(column)?),
+            Output::Nothing | Output::Table | Output::Json => Ok(()),
+        }
     }
 
     /// The name that the lines of JSON give the file.
@@ -129,21 +162,28 @@ impl<'a> Report<'a> {
     }
 
     /// Writes the rest, where all columns were added. Returns the status.
-    pub(crate) fn finish(mut self, rt: &HostRuntime) -> io::Result<u8> {
-        let (asked, file) = (self.asked, self.file);
-        if matches!(asked.flags.output(), Output::Table) {
-            let table = table_text(rt.alloc(), self.rows.as_slice())?;
-            if asked.files.len() > 1 {
-                println!(rt; "{file}:")?;
-            }
-            rt.stdout().write_all(table.as_bytes())?;
-        }
+    pub(crate) fn finish(&mut self, rt: &HostRuntime) -> io::Result<u8> {
+        self.write_table(rt)?;
         self.write(rt)?;
-        let mut status = self.say_unmet(rt)?;
-        if matches!(asked.flags.output(), Output::Ipc) {
-            status = write_stream(rt, file, self.columns)?.max(status);
+        let status = self.say_unmet(rt)?;
+        if !matches!(self.asked.flags.output(), Output::Ipc) {
+            return Ok(status);
         }
-        Ok(status)
+        let columns = mem::replace(&mut self.columns, Vec::new(rt.alloc()));
+        Ok(write_stream(rt, self.file, columns)?.max(status))
+    }
+
+    /// Writes the table, below the file's name where there are several files.
+    fn write_table(&self, rt: &HostRuntime) -> io::Result<()> {
+        let (asked, file) = (self.asked, self.file);
+        if !matches!(asked.flags.output(), Output::Table) {
+            return Ok(());
+        }
+        let table = table_text(rt.alloc(), self.rows.as_slice())?;
+        if asked.files.len() > 1 {
+            println!(rt; "{file}:")?;
+        }
+        rt.stdout().write_all(table.as_bytes())
     }
 
     /// Says on standard error what is asked of the file and not met. Returns the status.
