@@ -42,11 +42,12 @@ pub(crate) fn first_shown(alloc: Global, text: &str) -> Result<String, AllocErro
 }
 
 /// The characters of a text.
-#[tactic(auto, using(std::proofs::lemmas::Str::chars_from_encodes))]
 fn characters_of(alloc: Global, text: &str) -> Result<Vec<char>, AllocError>
     ensures { IfOk result (λ cs. cs.items ≡ chars text.now) }
 {
-    text.chars().collect(alloc)
+    let mut characters = Vec::with_capacity(alloc, text.len())?;
+    characters.extend(text.chars())?;
+    Ok(characters)
 }
 
 /// The text of characters, with the mark in place of each control character.
