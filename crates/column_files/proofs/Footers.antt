@@ -188,3 +188,11 @@ of_end start end r is front len (inl fits) = of_whole front end fits r (subst (�
 of_end start end r is front len (inr none) =
     let empty : front ≡ [] = nil_from_length front (len ∙ none) in
     subst (λ f. IsFooterRead 0 (f ++ end) r) (sym empty) (subst (λ n. IsFooterRead n end r) none is)
+
+-- places that stop at the greatest `usize` stop alike where they were stopped before
+pub further_stops : (n : ℕ) (error : IpcError) → further (min n (2 ^ 64 - 1)) error ≡ further n error
+further_stops n (Broken fault) =
+    let place : min (min n (2 ^ 64 - 1) + fault.at) (2 ^ 64 - 1) ≡ min (n + fault.at) (2 ^ 64 - 1) = omega arith in
+    ap (λ at. Broken (record { rule = fault.rule; at = at })) place
+further_stops n (Budget at) = ap Budget (omega arith)
+further_stops n OutOfMemory = refl
