@@ -1,10 +1,11 @@
 //! The bytes of a source that hold its schema.
-ghost use Rattle.std.specs.Prelude.{◌≡◌, ◌+◌, ◌≤◌, List, ℕ, ◌++◌, length, OnOk, IfSome, IfOk, IfErr};
+ghost use Rattle.std.specs.Prelude.{◌≡◌, ◌+◌, ◌-◌, ◌≤◌, List, ℕ, nat_le, ◌++◌, length, drop, OnOk, IfSome, IfOk, IfErr};
 ghost use Rattle.std.specs.Io.KnownBytes.{IsAtEnd};
 ghost use Rattle.column_files.specs.Forms.{IsForm};
 ghost use Rattle.column_files.specs.Sources.{GivesUpTo};
 ghost use Rattle.column_files.specs.ReadErrors.{IsReadError};
-ghost use Rattle.column_files.specs.Reading.{size_in, GivesSchema, GivesEnd, IsHead, ReadAs};
+ghost use Rattle.column_files.specs.Files.{size_in, HasFooter};
+ghost use Rattle.column_files.specs.Reading.{GivesSchema, GivesEnd, IsEnd, IsHead, ReadAs};
 
 use crate::fault::ReadFault;
 use crate::form::Form;
@@ -16,9 +17,9 @@ use std::io::{Read, Seek, SeekFrom};
 const HEAD_BYTES: u64 = 8;
 
 /// How many bytes stand behind the footer of an Arrow file, and of a Parquet file: its size in four bytes, and the magic.
-const ARROW_TAIL: u64 = 10;
+const ARROW_TAIL: usize = 10;
 
-const PARQUET_TAIL: u64 = 8;
+const PARQUET_TAIL: usize = 8;
 
 /// The first eight bytes of a source, from which `form_of` tells the format; all of them, where there are fewer. Errs where the source fails,
 /// and when out of memory.
@@ -67,32 +68,85 @@ pub fn read_schema_bytes<R: Read>(
     Ok(bytes)
 }
 
-/// As `read_schema_bytes`, but of an Arrow or Parquet file only the end is read: the footer, with its size and the magic behind it, at the place
-/// that its size tells, or all where the size is greater than the file. Where the source does not seek, as a pipe, all is read.
+/// The end of a file, or all of it.
+#[derive(Debug, Drop)]
+pub struct FileEnd {
+    /// How many bytes of the file stand before it.
+    pub start: u64,
+    /// The bytes of the end.
+    pub bytes: Vec<u8>,
+}
+
+/// Returns what `read_schema_bytes` does, but of an Arrow or Parquet file the end alone: the footer, with its size and the magic behind it, at the place
+/// that its size tells, or all where the size is greater than the file. Where the source does not seek, as a pipe, all is read. [`crate::columns_of_end`]
+/// reads the columns. Errs where the source fails, and when out of memory.
 ///
-/// The contract says of the end only that it is the end, since the contracts of `Seek` do not say which bytes a reader gives once it has sought.
+/// The contract says of the end that it is the end, and of an Arrow file that it has the footer which its last ten bytes tell; not which bytes come before,
+/// since the contracts of `Seek` do not say which bytes a reader gives once it has sought.
 pub fn read_schema_end<S: Read + Seek>(
     alloc: Global,
     form: Form,
     head: Vec<u8>,
     source: &mut S,
-) -> Result<Vec<u8>, ReadFault>
-    ensures ok { IfOk result (λ bytes. GivesEnd form head.items (S.remaining source.old) (S.remaining source.new) bytes.items) }
+) -> Result<FileEnd, ReadFault>
+    ensures ok { IfOk result (λ end. GivesEnd form head.items (S.remaining source.old) (S.remaining source.new) end.bytes.items) }
+    ensures footer { IfOk result (λ end. IsEnd form end.start end.bytes.items) }
     ensures err { IfErr result IsReadError }
 {
     let tail = match form {
         Form::ArrowFile => ARROW_TAIL,
         Form::Parquet => PARQUET_TAIL,
-        Form::ArrowStream | Form::Lines => return read_schema_bytes(form, head, source),
+        Form::ArrowStream | Form::Lines => return read_all(form, head, source),
     };
     let Ok(length) = source.seek(SeekFrom::End(0)) else {
-        return read_schema_bytes(form, head, source);
+        return read_all(form, head, source);
     };
     drop(head);
-    let last = last_of(alloc, source, length, tail)?;
-    let footer = u64::from(size_of_four(last.as_slice()));
+    read_footer(alloc, source, length, tail)
+}
+
+/// The end of a file of that length that has its footer, whose size the last bytes tell, as many as `tail`; or all. All is read too where the file has
+/// changed since its last bytes were read.
+fn read_footer<S: Read + Seek>(
+    alloc: Global,
+    source: &mut S,
+    length: u64,
+    tail: usize,
+) -> Result<FileEnd, ReadFault>
+    ensures end { OnOk result (IsAtEnd (S.remaining source.new)) }
+    ensures footer { IfOk result (λ end. HasFooter tail end.start end.bytes.items) }
+    ensures err { IfErr result IsReadError }
+{
+    let last = last_of(alloc, source, length, tail as u64)?;
+    let size = u64::from(size_of_four(last.bytes.as_slice()));
     drop(last);
-    last_of(alloc, source, length, footer.saturating_add(tail))
+    let end = last_of(alloc, source, length, size.saturating_add(tail as u64))?;
+    if end.start == 0 || has_footer(end.bytes.as_slice(), tail) {
+        return Ok(end);
+    }
+    drop(end);
+    last_of(alloc, source, length, u64::MAX)
+}
+
+/// Whether bytes have, before their last ones, as many as `tail`, so many more as these tell.
+fn has_footer(bytes: &[u8], tail: usize) -> bool
+    ensures { result ≡ nat_le (tail + size_in (drop (length bytes.now - tail) bytes.now)) (length bytes.now) }
+{
+    match bytes.len().checked_sub(tail) {
+        Some(at) => size_of_four(&bytes[at..]) as usize <= at,
+        None => false,
+    }
+}
+
+/// What `read_schema_bytes` gives, before which nothing stands.
+fn read_all<R: Read>(form: Form, head: Vec<u8>, source: &mut R) -> Result<FileEnd, ReadFault>
+    ensures ok { IfOk result (λ end. (more : List ℕ) × (end.bytes.items ≡ head.items ++ more)
+        × GivesSchema form head.items (R.remaining source.old) (R.remaining source.new) more) }
+    ensures start { IfOk result (λ end. end.start ≡ 0) }
+    ensures err { IfErr result IsReadError }
+{
+    let bytes = read_schema_bytes(form, head, source)?;
+    Ok(FileEnd { start: 0, bytes })
 }
 
 /// So many bytes at the end of a file of that length, or all.
@@ -101,14 +155,16 @@ fn last_of<S: Read + Seek>(
     source: &mut S,
     length: u64,
     count: u64,
-) -> Result<Vec<u8>, ReadFault>
+) -> Result<FileEnd, ReadFault>
     ensures end { OnOk result (IsAtEnd (S.remaining source.new)) }
+    ensures start { IfOk result (λ end. end.start ≡ length - count) }
     ensures err { IfErr result IsReadError }
 {
-    source.seek(SeekFrom::Start(length.saturating_sub(count)))?;
-    let mut last = Vec::new(alloc);
-    read_up_to(source, &mut last, u64::MAX)?;
-    Ok(last)
+    let start = length.saturating_sub(count);
+    source.seek(SeekFrom::Start(start))?;
+    let mut bytes = Vec::new(alloc);
+    read_up_to(source, &mut bytes, u64::MAX)?;
+    Ok(FileEnd { start, bytes })
 }
 
 /// The number in the first four bytes, the lowest first.
