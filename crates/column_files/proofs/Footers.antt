@@ -159,9 +159,11 @@ of_refusal front end (Ok footer) is error inner meets refused =
     (inner, meets, refused ∙ ap (λ n. further n inner) begins)
 of_refusal front end (Err fault) is error inner meets refused =
     let same : inner ≡ Broken fault = cc in
-    let place : min (length front + 0 + fault.at) (2 ^ 64 - 1) ≡ min (0 + 0 + (length front + fault.at)) (2 ^ 64 - 1) = ap (λ n. min n (2 ^ 64 - 1)) (omega arith) in
-    (Broken (record { rule = fault.rule; at = length front + fault.at }), refl,
-      refused ∙ ap (further (length front + 0)) same ∙ ap (λ at. Broken (record { rule = fault.rule; at = at })) place)
+    let place : min (length front + 0 + fault.at) (2 ^ 64 - 1) ≡ min (0 + 0 + (length front + fault.at)) (2 ^ 64 - 1) = ap (λ n. min n (2 ^ 64 - 1)) (omega arith) in (
+      Broken (record { rule = fault.rule; at = length front + fault.at }),
+      refl,
+      refused ∙ ap (further (length front + 0)) same ∙ ap (λ at. Broken (record { rule = fault.rule; at = at })) place,
+    )
 
 of_whole : (front end : List ℕ) → 10 + size_in (drop (length end - 10) end) ≤ length end → (r : Result (Vec Column Global) FileFault)
     → IsFooterRead (length front) end r → IsFooterRead 0 (front ++ end) r
@@ -169,8 +171,10 @@ of_whole front end fits r is = by_result r is
   where
     n : ℕ
     n = length end - 10
+
     found : footer_in (front ++ end) ≡ moved (length front) (footer_in end)
     found = same_found front end n (omega (arith, fits)) (omega (arith, fits))
+
     by_result : (r : Result (Vec Column Global) FileFault) → IsFooterRead (length front) end r → IsFooterRead 0 (front ++ end) r
     by_result (Ok columns) (s, meets, is) =
         (s, subst (λ f. Meets f (schema_of_footer 61) (Ok s)) (sym found) (of_columns (length front) (footer_in end) (schema_of_footer 61) s meets), is)
