@@ -7,10 +7,10 @@ from .columns import Column
 _REFUSALS = {
     5: ("NoField", "line {} is no field"),
     6: ("Parquet", "the columns of the Parquet file are not read"),
-    7: ("Budget", "byte {} of the {bytes}: more is to be read than eight times its bytes"),
+    7: ("Budget", "byte {}{behind}: more is to be read than eight times its bytes"),
     8: ("Column", "column {} has a type that no message can hold"),
     9: ("TooLarge", "the schema takes 2^31 bytes or more"),
-    10: ("ReportTooLarge", "the report would be too large for the file"),
+    10: ("ReportTooLarge", "the report would have more than 1048576 bytes and 32 for each byte read"),
     11: ("EmptyFile", "is empty"),
 }
 _FIRST_RULE = 16
@@ -23,7 +23,7 @@ RULES = (
     ("Children", "a type with a wrong number of children"), ("TypeIds", "a union with wrong type ids"),
     ("Depth", "columns that are nested too deep"),
 )
-_REFUSALS.update({_FIRST_RULE + at: (code, f"byte {{}} of the {{bytes}}: {text}") for at, (code, text) in enumerate(RULES)})
+_REFUSALS.update({_FIRST_RULE + at: (code, f"byte {{}}{{behind}}: {text}") for at, (code, text) in enumerate(RULES)})
 _NO_FIELD, _BUDGET = 5, 7
 
 
@@ -45,7 +45,7 @@ class RefusedSource(ValueError):
         self.offset = offset
         self.of_file = of_file
         self.code, words = _REFUSALS.get(status, (f"Status{status}", f"status {status} at {{}}"))
-        super().__init__(words.format(offset + 1 if status == _NO_FIELD else offset, bytes="file" if of_file else "message"))
+        super().__init__(words.format(offset + 1 if status == _NO_FIELD else offset, behind="" if of_file else " of the message"))
 
     def __reduce__(self) -> Tuple[Any, ...]:
         return RefusedSource, (self.status, self.offset, self.of_file)

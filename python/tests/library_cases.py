@@ -71,7 +71,7 @@ class Cases(unittest.TestCase):
         self.assertEqual(self.refused(b"s5p3"), ("NoField", 3, "line 4 is no field"))
         self.assertEqual(self.refused(b"s6"), ("Parquet", 0, "the columns of the Parquet file are not read"))
         self.assertEqual(self.refused(b"s7p9"), ("Budget", 9, "byte 9 of the message: more is to be read than eight times its bytes"))
-        self.assertEqual(self.refused(b"s10"), ("ReportTooLarge", 0, "the report would be too large for the file"))
+        self.assertEqual(self.refused(b"s10"), ("ReportTooLarge", 0, "the report would have more than 1048576 bytes and 32 for each byte read"))
         self.assertEqual(self.refused(b"s11"), ("EmptyFile", 0, "is empty"))
         self.assertEqual(self.refused(b"s18p40"), ("Offset", 40, "byte 40 of the message: an offset that leads nowhere"))
         self.assertEqual(self.refused(b"s200p3"), ("Status200", 3, "status 200 at 3"))
@@ -86,7 +86,7 @@ class Cases(unittest.TestCase):
         end = b"s18p12" + (6).to_bytes(4, "little") + b"ARROW1"
         for left_out in (0, 5, 1000):
             whole = b"ARROW1\0\0" + bytes(left_out) + end
-            wanted = ("Offset", 12 + left_out, f"byte {12 + left_out} of the file: an offset that leads nowhere")
+            wanted = ("Offset", 12 + left_out, f"byte {12 + left_out}: an offset that leads nowhere")
             with tempfile.TemporaryDirectory() as folder:
                 path = pathlib.Path(folder, "file")
                 path.write_bytes(whole)
