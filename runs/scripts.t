@@ -214,6 +214,7 @@ What is built again: behind a change in a crate below, in each of its folders, w
   >     eval "$edit"
   >     bin/geoarrow_fields read 2>&1 | sed -n "s/^geoarrow_fields: built/$(echo "$edit" | cut -d ' ' -f 1) /p; s/^runs/ &/p" | tr -d '\n'
   >     echo
+  >     bin/geoarrow_fields read > /dev/null 2>&1
   > done << 'END'
   > echo LOW > crates/low/src/main.rt; touch -d 2020-01-01 crates/low/src/main.rt
   > rm crates/low/src/more.rt
