@@ -39,8 +39,9 @@ pub fn metadata_text(
     Ok(unsafe { String::from_utf8_unchecked(out.into_inner()) })
 }
 
-/// Returns the text of a PROJJSON, a JSON object as `is_projjson` has it, without blanks: its tokens are those of the text, so each number
-/// stays as it is written. Returns `None` where the text is no PROJJSON. Errs only when out of memory.
+/// Returns the text of a PROJJSON, a JSON object as `is_projjson` has it, without blanks: its tokens
+/// are those of the text, so each number stays as it is written. Returns `None` where the text is no
+/// PROJJSON. Errs only when out of memory.
 ///
 /// ```rust
 /// let text = compact_projjson(alloc, r#"{"epoch": 2010.50}"#)?;

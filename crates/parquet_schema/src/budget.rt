@@ -2,8 +2,9 @@
 ghost use Rattle.std.specs.Prelude.{◌≡◌, option_map, string_bytes};
 ghost use Rattle.parquet_schema.specs.Budget.{budget, size_of};
 
-/// Returns how many bytes may be made of so many that are read: 1,048,576 bytes, and 32 for each (`docs/FORMAT.md`, 4.6). So many the extension
-/// metadata have together, at most, that geometry types give the columns of a footer.
+/// Returns how many bytes may be made of so many that are read: 1,048,576, and 32 for each
+/// (`docs/FORMAT.md`, 4.6). The extension metadata that geometry types give the columns of a
+/// footer have together at most so many, by the bytes of the footer.
 ///
 /// ```rust
 /// assert_eq!(rt; report_budget(1000), 1_080_576);

@@ -93,7 +93,8 @@ fn stored_columns(
     footer: &Footer<'_>,
     values: &KeyValues<'_, '_>,
 ) -> Result<Vec<Column>, SchemaError>
-    ensures { AreStored (record { schema = map element footer.now.schema.items; key_value_metadata = values.now }) result }
+    ensures { let schema = map element footer.now.schema.items in
+        AreStored (record { schema = schema; key_value_metadata = values.now }) result }
 {
     let columns = columns_of_elements(alloc, footer)?;
     match values.value_of(ARROW_SCHEMA_KEY) {
@@ -102,16 +103,19 @@ fn stored_columns(
     }
 }
 
-/// Returns the columns of the footer of a Parquet file that has so many bytes (`docs/FORMAT.md`, 4.5): where its key-value metadata have a value of the
-/// key `ARROW:schema`, those of the schema that it holds, an encapsulated IPC message in base64, if they have the
-/// names of the columns of the elements, in their order; otherwise those of the elements, as `columns_of` of
-/// `parquet_columns` makes them. A column without an extension name whose element is of the type GEOMETRY or GEOGRAPHY has the extension
-/// `geoarrow.wkb`, with the CRS and the edges of that type (`docs/FORMAT.md`, 4.6).
+/// Returns the columns of the footer of a Parquet file (`docs/FORMAT.md`, 4.5), which has so many
+/// bytes: where its key-value metadata have a value of the key `ARROW:schema`, those of the schema
+/// that it holds, an encapsulated IPC message in base64, if they have the names of the columns of
+/// the elements, in their order; otherwise those of the elements, as `columns_of` of
+/// `parquet_columns` makes them. A column without an extension name whose element is of the type
+/// GEOMETRY or GEOGRAPHY has the extension `geoarrow.wkb`, with the CRS and the edges of that type
+/// (`docs/FORMAT.md`, 4.6).
 ///
-/// Errs with `Elements` where the elements break a rule, with the rule and the element; with `Encoding` where the value is not
-/// base64, with the offset; with `Ipc` as `read_schema` of `arrow_ipc`, with the rule and the byte; with `Names` where names
-/// differ; with `Budget` where the extension metadata that geometry types give the columns have together more bytes than `report_budget(bytes)`; and when
-/// out of memory.
+/// Errs with `Elements` where the elements break a rule, with the rule and the element; with
+/// `Encoding` where the value is not base64, with the offset; with `Ipc` as `read_schema` of
+/// `arrow_ipc`, with the rule and the byte; with `Names` where names differ; with `Budget` where
+/// the extension metadata that geometry types give the columns have together more bytes than
+/// `report_budget(bytes)`; and when out of memory.
 pub fn columns_of_footer(
     alloc: Global,
     footer: &Footer<'_>,

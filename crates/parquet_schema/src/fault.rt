@@ -24,7 +24,8 @@ pub enum SchemaError {
     Ipc(IpcError),
     /// The schema that is stored has other columns than the elements, by their names.
     Names,
-    /// The extension metadata that geometry types give the columns have more bytes than `report_budget` of the footer's bytes.
+    /// The extension metadata that geometry types give the columns have more bytes than
+    /// `report_budget` of the footer's bytes.
     Budget,
     /// Out of memory.
     OutOfMemory,

@@ -51,11 +51,11 @@ fn columns_of_bytes(alloc: Global, bytes: &[u8]) -> Result<Vec<Column>, SchemaEr
     }
 }
 
-/// Returns the columns of a Parquet file, from its end: the bytes of the file, or as many of its last ones as the footer, its length and the
-/// magic take. Nothing else is looked at.
+/// Returns the columns of a Parquet file, from its end: the bytes of the file, or as many of its last
+/// ones as the footer, its length and the magic take. Nothing else is looked at.
 ///
-/// Errs as `footer_in`; with `Footer` where the footer breaks a rule, with the rule and the offset in the footer; as
-/// `columns_of_footer` does by the bytes of the footer; and when out of memory.
+/// Errs as `footer_in`; with `Footer` where the footer breaks a rule, with the rule and the offset
+/// in the footer; as `columns_of_footer` does by the bytes of the footer; and when out of memory.
 pub fn columns_of_file(alloc: Global, end: &[u8]) -> Result<Vec<Column>, SchemaError>
     ensures { IsFileRead (footer_in end.now) result }
 {

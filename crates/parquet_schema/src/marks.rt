@@ -63,7 +63,8 @@ fn count_of(found: &SchemaElement<'_>) -> u128
     }
 }
 
-/// The extension metadata that a column is given: those that its element denotes, if it has no extension name of its own.
+/// The extension metadata that a column is given: those that its element denotes, if it has no
+/// extension name of its own.
 fn given<'a>(
     alloc: Global,
     values: &mut KeyValues<'_, 'a>,
@@ -100,7 +101,8 @@ fn child_at<'c, 'a>(children: &'c [SchemaElement<'a>], at: usize) -> Option<&'c 
     children.get(at)
 }
 
-/// A column with the extension that its element denotes, if it has no extension name of its own; and what its extension metadata leave of an amount.
+/// A column with the extension that its element denotes, if it has no extension name of its own;
+/// and what its extension metadata leave of an amount.
 fn marked<'a>(
     alloc: Global,
     values: &mut KeyValues<'_, 'a>,
@@ -120,7 +122,8 @@ fn marked<'a>(
     Ok((new, amount - size))
 }
 
-/// Columns with the extensions that the elements denote, each for the column at its place, whose extension metadata have at most so many bytes.
+/// Columns with the extensions that the elements denote, each for the column at its place, whose
+/// extension metadata have at most so many bytes.
 fn marked_within<'a>(
     alloc: Global,
     values: &mut KeyValues<'_, 'a>,
@@ -142,7 +145,8 @@ fn marked_within<'a>(
     Ok(made)
 }
 
-/// Columns with the extensions that the children of the root denote, whose extension metadata have at most so many bytes.
+/// Columns with the extensions that the children of the root denote, whose extension metadata have
+/// at most so many bytes.
 pub(crate) fn marked_columns<'a>(
     alloc: Global,
     values: &mut KeyValues<'_, 'a>,

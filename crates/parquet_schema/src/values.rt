@@ -15,8 +15,8 @@ use std::alloc::{AllocError, Global};
 use std::collections::BTreeMap;
 use std::marker::Model;
 
-/// The values of the keys of a footer. A value is found in time that grows with the logarithm of the number of pairs, and is read as PROJJSON once,
-/// however often it is asked for.
+/// The values of the keys of a footer. A value is found in time that grows with the logarithm of
+/// the number of pairs, and is read as PROJJSON once, however often it is asked for.
 #[derive(Drop)]
 pub(crate) struct KeyValues<'f, 'a> {
     pairs: &'f [KeyValue<'a>],
@@ -66,7 +66,8 @@ impl<'f, 'a> KeyValues<'f, 'a> {
         value_in(&self.last, key)
     }
 
-    /// Returns the text of the metadata with the CRS `projjson:KEY`, which is that text, and with those edges. Errs only when out of memory.
+    /// Returns the text of the metadata with the CRS `projjson:KEY`, which is that text, and with
+    /// those edges. Errs only when out of memory.
     pub(crate) fn keyed_text(
         &mut self,
         alloc: Global,
