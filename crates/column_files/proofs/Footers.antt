@@ -87,7 +87,7 @@ footer_by : (bytes footer : List ℕ) (n : ℕ) → length bytes ≡ n + 10 → 
 footer_by bytes footer n len found =
     let size = size_in (drop n bytes) in
     elim (told (drop n bytes)) [
-      | inr no ↦ absurd (not_ok _ footer (sym (no_magic bytes n len (no n)) ∙ found))
+      | inr wrong ↦ absurd (not_ok _ footer (sym (no_magic bytes n len (wrong n)) ∙ found))
       | inl tells ↦
           elim (cases_lt n size) [
             | inl great ↦ absurd (not_ok _ footer (sym (too_great bytes n len size (tells n) great) ∙ found))
@@ -126,7 +126,7 @@ module _ (front end : List ℕ) (n : ℕ) (len : length end ≡ n + 10) where
       let all = front ++ end in
       let at = length front + n in
       elim (told (drop n end)) [
-        | inr no ↦ no_magic all at all_len (same_tail at ∙ no at) ∙ ap (moved (length front)) (sym (no_magic end n len (no n)))
+        | inr wrong ↦ no_magic all at all_len (same_tail at ∙ wrong at) ∙ ap (moved (length front)) (sym (no_magic end n len (wrong n)))
         | inl tells ↦
             let place : at - size ≡ length front + (n - size) = omega (arith, fits) in
             let cut_same : take size (drop (at - size) (take at all)) ≡ take size (drop (n - size) (take n end)) =
@@ -196,3 +196,13 @@ further_stops n (Broken fault) =
     ap (λ at. Broken (record { rule = fault.rule; at = at })) place
 further_stops n (Budget at) = ap Budget (omega arith)
 further_stops n OutOfMemory = refl
+
+-- where a footer begins that is found
+pub cut_begin : (bytes : List ℕ) (n size : ℕ) → n ≡ length bytes - 10 → 10 ≤ length bytes → size ≤ n → footer_in bytes ≡ Ok (take size (drop (n - size) (take n bytes)))
+    → n - size ≡ footer_begin bytes (footer_in bytes)
+cut_begin bytes n size at long fits found =
+    let front : length (take n bytes) ≡ n = length-take-le n bytes (omega (arith, at, long)) in
+    let cut_len : length (take size (drop (n - size) (take n bytes))) ≡ size =
+    length-take-le size (drop (n - size) (take n bytes)) (omega (arith, front, length-drop (n - size) (take n bytes), fits)) in
+    let begins : footer_begin bytes (footer_in bytes) ≡ length bytes - 10 - length (take size (drop (n - size) (take n bytes))) = ap (footer_begin bytes) found in
+    omega (arith, begins, cut_len, at)
