@@ -148,8 +148,7 @@ pub passes_line : (n m k : ℕ) (old rest now : Option (List ℕ)) (held : List 
     → HasLine held rest (Some len) → Denote (take len held ∷ []) cs → now ≡ prepend_known (drop (len + 1) held) rest → PassesLines n k old now cs
 passes_line n m k old rest now held len cs (lines, count, short, denote, goes) next line here left =
     let one : length (take len held) ≤ max_line_bytes = omega (arith, line.0, length-take len held) in
-    let all = lines ++ take len held ∷ [] in
-    (
+    let all = lines ++ take len held ∷ [] in (
       all,
       omega (arith, next, count, length-append lines (take len held ∷ [])),
       All-push (λ line. length line ≤ max_line_bytes) lines (take len held) short one,

@@ -9,6 +9,8 @@ returns-in-Ok c = (c.in-Ok.schema, subst (Meets (footer_in c.args.bytes.now) (sc
 
 pub returns-in-Err : goal.returns-in-Err
 returns-in-Err c =
-    let error = c.in-Err.error in
-    (error, subst (Meets (footer_in c.args.bytes.now) (schema_of_footer 61)) c.in-Err.is c.requires,
-      c.further.ensures ∙ ap (λ n. further n error) c.saturating_add.ensures ∙ further_stops (c.args.start + c.footer_begin.result) error ∙ ap (λ n. further (c.args.start + n) error) c.footer_begin.ensures)
+    let error = c.in-Err.error in (
+      error,
+      subst (Meets (footer_in c.args.bytes.now) (schema_of_footer 61)) c.in-Err.is c.requires,
+      c.further.ensures ∙ ap (λ n. further n error) c.saturating_add.ensures ∙ further_stops (c.args.start + c.footer_begin.result) error ∙ ap (λ n. further (c.args.start + n) error) c.footer_begin.ensures,
+    )

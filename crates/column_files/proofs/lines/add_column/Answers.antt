@@ -1,4 +1,4 @@
-use Rattle.std.proofs.Common.{rules, ◌≡◌, Ok, Err, [], ◌∷◌, ◌++◌, refl, sym, ◌∙◌, subst, append-nil}
+use Rattle.std.proofs.Common.{rules, ◌≡◌, Ok, [], ◌∷◌, ◌++◌, refl, sym, subst, append-nil}
 use Rattle.arrow_columns.specs.Column.{column_tree}
 use Rattle.column_files.specs.LineFaults.{IsLineRead}
 use Rattle.column_files.proofs.Steps.{blank_line, column_line}

@@ -24,8 +24,7 @@ loop-rest-preserved c =
     let (more, grown, here) = added in
     let denotes : Denote (lines ++ line ∷ []) (map column_tree now) =
     subst (λ cs. Denote (lines ++ line ∷ []) cs) (sym (ap (map column_tree) grown ∙ map-append column_tree columns more))
-    (denote_more lines (line ∷ []) (map column_tree columns) (map column_tree more) denote here) in
-    (
+    (denote_more lines (line ∷ []) (map column_tree columns) (map column_tree more) denote here) in (
       omega (arith, c.first_line.ensures.shorter),
       lines ++ line ∷ [],
       omega (arith, length-append lines (line ∷ []), count),

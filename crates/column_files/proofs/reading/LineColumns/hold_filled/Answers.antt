@@ -23,9 +23,8 @@ loop-preserved g c =
     let blank : is_blank (take len held) ≡ true = subst (λ l. is_blank l ≡ true) line_is (sym c.is_blank.ensures ∙ c.if-not-is_blank.false) in
     let left = ap (λ l. prepend_known l (g.R.Read.remaining c.pass_line.new.self.source)) c.pass_line.ensures.ahead ∙ ap (λ s. prepend_known (drop (len + 1) held) (g.R.Read.remaining s)) c.pass_line.ensures.source in
     let passes = passes_kept (passed c.args.self.now) (passed old) (passed at) (text_left g.R.Read.remaining c.args.self.now) (text_left g.R.Read.remaining old) (text_left g.R.Read.remaining at) [] c.loop.invariant.1
-    c.hold_line.ensures.counted c.hold_line.ensures.text in
-    (
+    c.hold_line.ensures.counted c.hold_line.ensures.text in (
       c.pass_line.ensures.column ∙ c.hold_line.ensures.column ∙ c.loop.invariant.0,
       passes_line (passed c.args.self.now) (passed at) (passed c.pass_line.new.self) (text_left g.R.Read.remaining c.args.self.now) rest (text_left g.R.Read.remaining c.pass_line.new.self) held len []
-      passes c.pass_line.ensures.counted line (blank_line (take len held) blank) left,
+          passes c.pass_line.ensures.counted line (blank_line (take len held) blank) left,
     )
