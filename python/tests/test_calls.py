@@ -65,7 +65,7 @@ class Checks(unittest.TestCase):
     def test_large_sources(self):
         given = f"{TEXT}\n{POINT}\n".encode() * 20_000
         few = check([TEXT, POINT])
-        stream = write_schema([given])
+        stream = write_schema([given[:-1]])
         self.assertGreater(min(len(given), len(stream)), 2 << 20)
         with tempfile.TemporaryDirectory() as folder:
             path = pathlib.Path(folder, "large")

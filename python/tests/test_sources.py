@@ -143,7 +143,7 @@ class Files(InAFolder):
                     except BrokenPipeError:
                         pass  # (of a stream the first message is read)
 
-                writer = threading.Thread(target=write)
+                writer = threading.Thread(target=write, daemon=True)
                 writer.start()
                 if is_open:
                     with open(self.path, "rb") as file:
