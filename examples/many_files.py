@@ -30,7 +30,7 @@ import os
 import pathlib
 import sys
 import time
-from typing import Any, Dict, Iterator, List, Optional, Sequence
+from typing import Any, Dict, Iterable, Iterator, List, Optional, Sequence, Set, Tuple
 
 try:
     from geoarrow_fields.files import Report, failed, paths_of, report, reports
@@ -69,29 +69,45 @@ def dask_reports(paths: Sequence[str], infer: bool = False, client: Any = None, 
         return
     parts = _parts(paths, max(1, sum(client.nthreads().values())))
     given = dict(zip(client.map(eval, [TASK] * len(parts), [{"paths": part, "infer": infer} for part in parts], pure=False), parts))
-    for future, error in _ended(client, given, patience):
-        yield from future.result() if error is None else [failed(path, error) for path in given[future]]
+    for future, found in _ended(client, given, patience):
+        yield from [failed(path, found) for path in given[future]] if isinstance(found, Exception) else found
 
 
-def _ended(client: Any, futures: Any, patience: float) -> Iterator[Any]:
-    """Each future as it ends, with what it failed by; those that nobody works on are given up."""
-    from distributed import TimeoutError, wait
-
-    waiting, seen = set(futures), time.monotonic()
-    while waiting:
+def _ended(client: Any, futures: Iterable[Any], patience: float) -> Iterator[Tuple[Any, Any]]:
+    """Each future as it ends, with its reports or what it failed by; those that nobody works on are given up."""
+    waiting, seen, why = set(futures), time.monotonic(), ""
+    while waiting and not why:
         try:
-            done = wait(waiting, timeout=1, return_when="FIRST_COMPLETED").done
-        except TimeoutError:
-            done = set()
+            done, is_worked_on = _done(client, waiting)
+        except Exception as error:  # whatever it is, the scheduler does not answer
+            done, is_worked_on, why = set(), False, f"the cluster is lost: {type(error).__name__}"
         for future in done:
-            yield future, future.exception()
+            yield future, _outcome(future, patience)
         waiting -= done
-        if done or client.status == "running" and client.nthreads():
+        if is_worked_on:
             seen = time.monotonic()
         elif time.monotonic() - seen > patience:
-            for future in waiting:
-                yield future, TimeoutError("no worker is left")
-            return
+            why = why or "no worker is left"
+    for future in waiting:
+        yield future, RuntimeError(why)
+
+
+def _done(client: Any, waiting: Set[Any]) -> Tuple[Set[Any], bool]:
+    """Which futures have ended within a second, and whether there is a worker."""
+    from distributed import TimeoutError, wait
+
+    try:
+        return wait(waiting, timeout=1, return_when="FIRST_COMPLETED").done, True
+    except TimeoutError:
+        return set(), bool(client.nthreads())
+
+
+def _outcome(future: Any, patience: float) -> Any:
+    """The reports of a future that has ended, or what it failed by, as where its worker is lost before they are fetched."""
+    try:
+        return future.result(timeout=patience)
+    except Exception as error:
+        return error
 
 
 def _parts(paths: Sequence[str], workers: int) -> List[List[str]]:

@@ -190,6 +190,18 @@ Words that need a program, without `rt`
   geoarrow_check: there is no rt on the path, which the kit of Rattle has
   [2]
 
+What is built runs without `rt`
+
+  $ . ./stand_in.sh
+  > bin/geoarrow_fields read 2> /dev/null
+  > bin/try read > /dev/null 2>&1
+  > export PATH=/usr/bin:/bin
+  > bin/geoarrow_fields infer
+  > bin/try infer 2> /dev/null | cut -d ' ' -f 1,2
+  runs <read> of fields_program proofs specs low more kit 1
+  runs <infer> of fields_program proofs specs low more kit 1
+  runs <infer>
+
 Two first runs at once, through a link, in a repository whose `rt` proves nothing: both run, and what is built is built once
 
   $ . ./stand_in.sh
@@ -240,7 +252,7 @@ What is built again: behind a change in a crate below, in each of its folders, w
    runs <read> of fields_program proofs newSPECS LOW kit 2
    runs <read> of fields_program proofs newSPECS LOW kit 2
 
-The same for bin/try, for which proofs and handles count for nothing
+The same for bin/try, for which proofs count for nothing
 
   $ . ./stand_in.sh
   > bin/try read 2> /dev/null > /dev/null

@@ -1,4 +1,5 @@
 """Tests of examples/many_files.py and geoarrow_fields.files: that each way gives the same reports, and that neither a broken file nor a lost worker ends a run."""
+import concurrent.futures
 import importlib.util
 import io
 import json
@@ -153,10 +154,8 @@ class WithoutDask(unittest.TestCase):
         return client
 
     def test_what_a_task_raises_is_an_error_of_its_files(self):
-        def future(result, error=None):
-            return mock.Mock(result=lambda: result, exception=lambda timeout=None: error)
-
-        client = self.client(future([{"file": "x"}]), future(None, ModuleNotFoundError("No module named 'geoarrow_fields'")), future([{"file": "z"}]))
+        lacks = ModuleNotFoundError("No module named 'geoarrow_fields'")
+        client = self.client(*(mock.Mock(**{"result.side_effect": [end]}) for end in ([{"file": "x"}], lacks, [{"file": "z"}])))
         found = self.ran(client, lambda futures, **_: mock.Mock(done=set(futures)))
         self.assertEqual({one["file"]: one.get("error") for one in found}, {"x": None, "y": "No module named 'geoarrow_fields'", "z": None})
         call, texts, given = client.map.call_args[0]
@@ -164,12 +163,18 @@ class WithoutDask(unittest.TestCase):
         with mock.patch.object(files, "reports", lambda paths, infer: (paths, infer)):
             self.assertEqual([call(text, dict(one)) for text, one in zip(texts, given)], [([one], True) for one in "xyz"])
 
-    def test_where_no_worker_is_left_the_files_are_given_up(self):
+    def given_up(self, error, wanted):
         def nothing(futures, **_):
-            raise sys.modules["distributed"].TimeoutError
+            raise error or sys.modules["distributed"].TimeoutError
 
         found = self.ran(self.client(*(mock.Mock() for _ in "xyz"), workers=0), nothing)
-        self.assertEqual(sorted((one["file"], one["error"]) for one in found), [(one, "no worker is left") for one in "xyz"])
+        self.assertEqual(sorted((one["file"], one["error"]) for one in found), [(one, wanted) for one in "xyz"])
+
+    def test_where_no_worker_is_left_the_files_are_given_up(self):
+        self.given_up(None, "no worker is left")
+
+    def test_where_the_scheduler_is_lost_the_files_are_given_up(self):
+        self.given_up(concurrent.futures.CancelledError(), "the cluster is lost: CancelledError")
 
 
 @unittest.skipUnless(HAS_DASK, "python3-dask and python3-distributed are not there")
@@ -182,6 +187,9 @@ class Cluster(unittest.TestCase):
         self.folder = pathlib.Path(there.name)
         self.started = []
         self.addCleanup(self.stop)
+        self.addCleanup(signal.signal, signal.SIGALRM, signal.signal(signal.SIGALRM, self.late))
+        self.addCleanup(signal.alarm, 0)
+        signal.alarm(180)
         self.address = self.folder / "scheduler.json"
         self.start("distributed.cli.dask_scheduler", "--port", "0", "--no-dashboard", "--scheduler-file", self.address)
         for number in range(60):
@@ -195,6 +203,9 @@ class Cluster(unittest.TestCase):
         log = open(self.folder / "log", "ab")
         self.addCleanup(log.close)
         self.started.append(subprocess.Popen([sys.executable, "-m", module, *map(str, words)], cwd=self.folder, env=given, stdout=log, stderr=log))
+
+    def late(self, *_):
+        raise AssertionError("no end in time")
 
     def stop(self):
         for one in self.started:
@@ -251,7 +262,9 @@ class Cluster(unittest.TestCase):
 
     def test_what_a_killed_worker_had_is_done_by_the_other(self):
         path, found, reports, processes = self.begun()
-        os.kill(processes[0], signal.SIGKILL)
+        waits = next(one for one in self.started if one.pid == processes[0])
+        waits.kill()
+        waits.wait()  # (until then it could be what reads what is written)
         threading.Thread(target=lambda: pathlib.Path(path).write_text(f"{TEXT}\n"), daemon=True).start()
         found += reports
         self.assertEqual(sorted(one["file"] for one in found), sorted([*self.paths, path]))
@@ -264,6 +277,13 @@ class Cluster(unittest.TestCase):
         rest = list(reports)
         self.assertEqual(sorted(one["file"] for one in [*found, *rest]), sorted([*self.paths, path]))
         self.assertEqual([one["error"] for one in rest], ["no worker is left"] * 5)
+
+    def test_where_the_scheduler_is_killed_the_run_ends(self):
+        path, found, reports, _ = self.begun()
+        self.started[0].kill()
+        rest = list(reports)
+        self.assertEqual(sorted(one["file"] for one in [*found, *rest]), sorted([*self.paths, path]))
+        self.assertEqual({one["error"] for one in rest}, {"the cluster is lost: CancelledError"})
 
 
 if __name__ == "__main__":
