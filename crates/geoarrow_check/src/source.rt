@@ -6,6 +6,7 @@ use column_files::{
     read_schema_end,
 };
 use file_reports::checked_columns;
+use std::alloc::AllocError;
 use std::io::Read;
 use std::{fs, io};
 
@@ -19,11 +20,23 @@ pub(crate) enum Failure {
 }
 
 /// Whether a file is reported to its end.
-type Reported = Result<(), Failure>;
+pub(crate) type Reported = Result<(), Failure>;
 
 impl From<ReadFault> for Failure {
     fn from(fault: ReadFault) -> Failure {
         Failure::Input(fault)
+    }
+}
+
+impl From<FileFault> for Failure {
+    fn from(fault: FileFault) -> Failure {
+        Failure::Input(ReadFault::File(fault))
+    }
+}
+
+impl From<AllocError> for Failure {
+    fn from(_refused: AllocError) -> Failure {
+        Failure::Input(ReadFault::File(FileFault::OutOfMemory))
     }
 }
 
@@ -75,13 +88,12 @@ fn report_lines<R: Read + Drop>(
 
 /// Reports the columns of a schema, and of a Parquet file what is said of its GeoParquet metadata.
 fn report_schema(rt: &HostRuntime, form: Form, end: &[u8], report: &mut Report<'_>) -> Reported {
-    let columns = columns_of(rt.alloc(), form, end).map_err(ReadFault::File)?;
+    report.begin_schema(end.len());
+    let columns = columns_of(rt.alloc(), form, end)?;
     if !matches!(form, Form::Parquet) {
-        return Ok(report.add_all(rt, columns)?);
+        return report.add_all(rt, columns);
     }
-    let checked = checked_columns(rt.alloc(), end, columns)
-        .map_err(FileFault::Parquet)
-        .map_err(ReadFault::File)?;
+    let checked = checked_columns(rt.alloc(), end, columns).map_err(FileFault::Parquet)?;
     report.add_all(rt, checked.columns)?;
     Ok(report.add_checks(rt.alloc(), &checked.findings)?)
 }
