@@ -1,5 +1,7 @@
 -- What is said of a column, and what its field is read as.
-use Rattle.std.proofs.Common.{◌≡◌, Bool, false, Option, None, Some, option_map, refl, sym, ap, ◌∙◌}
+use Rattle.std.proofs.Common.{◌≡◌, [], ◌∷◌, Bool, false, Option, None, Some, option_map, refl, sym, ap, ◌∙◌}
+use Rattle.serde_json.specs.Data.{Data}
+use Rattle.serde_json.specs.Read.{read}
 use Rattle.arrow_values.specs.Tree.{Text, Tree, FieldTree}
 use Rattle.arrow_values.specs.Texts.{extension_name, extension_metadata}
 use Rattle.arrow_columns.specs.Column.{column_of, known}
@@ -13,12 +15,12 @@ use Rattle.geoarrow_meta.specs.declared.metadata.Metadata.{Metadata}
 use Rattle.geoarrow_meta.specs.Read.{crs_type_data, edges_data, some_has_float, DenotesMetadata}
 use Rattle.geoarrow_native.specs.Column.{ReadsAs}
 use Rattle.geoarrow_schema.specs.Types.{kind_of, meta_of}
-use Rattle.geoarrow_schema.specs.Reads.{HasGeoArrowName}
-use Rattle.geoarrow_schema.specs.Infers.{InferredAs, InfersAs}
+use Rattle.geoarrow_schema.specs.Reads.{HasGeoArrowName, ReadsAsNone}
+use Rattle.geoarrow_schema.specs.Infers.{InferredAs, InfersAs, InfersNone}
 use Rattle.column_check.specs.Metadata.{Values, values_of, TextDenotes, HasMetadataFault}
 use Rattle.column_check.specs.Types.{HasTypeFault}
 use Rattle.column_check.specs.Finding.{HasName, IsOfKind, IsTakenFor, IsInvalidFor}
-use Rattle.column_check.specs.Agrees.{values_in, AgreesWithType, IsReadWhereWhole, RefusesWithReading, AgreesWithInference, IsInferredWhereWhole}
+use Rattle.column_check.specs.Agrees.{values_in, HasEmptyText, AgreesWithType, IsReadWhereWhole, RefusesWithReading, AgreesWithInference, IsInferredWhereWhole}
 use Rattle.column_check.specs.declared.data_type.TypeFault.{TypeFault}
 use Rattle.column_check.specs.declared.metadata.MetadataFault.{MetadataFault}
 use Rattle.column_check.specs.declared.finding.Reasons.{Reasons}
@@ -33,10 +35,21 @@ use Rattle.column_check.proofs.Unicity.{name_there}
 abbrev metadata_with : Values → Metadata
 metadata_with v = record { crs = record { value = v.crs; crs_type = v.crs_type }; edges = v.edges }
 
--- a text that denotes values with whole numbers in the CRS denotes each metadata of these values
-stands : (t : Option Text) (v : Values) (m : Metadata) → TextDenotes t v → some_has_float v.crs ≡ false → values_in m ≡ v → DenotesMetadata t m
-stands None v m is whole same = ap metadata_with (same ∙ is)
-stands (Some s) v m (d, reads, is) whole same = (
+-- the empty text is no JSON
+no_empty_json : (d : Data) → read [] ≡ Some d → ⊥
+no_empty_json d h = absurd cc
+
+-- and so it denotes no metadata
+no_empty_metadata : (t : Option Text) (m : Metadata) → t ≡ Some [] → DenotesMetadata t m → ⊥
+no_empty_metadata None m is h = absurd cc
+no_empty_metadata (Some []) m is (d, reads, h) = no_empty_json d reads
+no_empty_metadata (Some (b ∷ s)) m is h = absurd cc
+
+-- a text that is not empty, and denotes values with whole numbers in the CRS, denotes each metadata of these values
+stands : (t : Option Text) (v : Values) (m : Metadata) → TextDenotes t v → some_has_float v.crs ≡ false → ¬ (t ≡ Some []) → values_in m ≡ v → DenotesMetadata t m
+stands None v m is whole some same = ap metadata_with (same ∙ is)
+stands (Some []) v m is whole some same = absurd (some refl)
+stands (Some (b ∷ s)) v m (d, reads, is) whole some same = (
   d,
   reads,
   record {
@@ -56,7 +69,8 @@ is_whole (Some s) m (d, reads, is) = ap some_has_float is.crs ∙ is.whole
 -- a text that denotes a metadata denotes its values
 denotes : (t : Option Text) (m : Metadata) → DenotesMetadata t m → TextDenotes t (values_in m)
 denotes None m h = ap values_in h
-denotes (Some s) m (d, reads, is) = (d, reads, record { is_object = is.is_object; crs = is.crs; crs_type = is.crs_type; edges = is.edges })
+denotes (Some []) m h = absurd (no_empty_metadata (Some []) m refl h)
+denotes (Some (b ∷ s)) m (d, reads, is) = (d, reads, record { is_object = is.is_object; crs = is.crs; crs_type = is.crs_type; edges = is.edges })
 
 module _ (f : FieldTree) where
   other_refuted : (s : Text) → extension_name f ≡ Some s → ((n : ExtensionName) → s ≡ name_text n → ⊥) → ¬ HasGeoArrowName f
@@ -84,9 +98,13 @@ module _ (no_fault : (n : ExtensionName) (t : Tree) (p : Path) (fault : LayoutFa
   unfolding ReadsAs
   read_text k m reads = reads.1
 
-  reads_whole : (k : Kind) (v : Values) (m : Metadata) → IsOfKind (column_of f) k v → some_has_float v.crs ≡ false → values_in m ≡ v → ReadsAs f k m
+  reads_whole : (k : Kind) (v : Values) (m : Metadata) → IsOfKind (column_of f) k v → some_has_float v.crs ≡ false → ¬ HasEmptyText f → values_in m ≡ v → ReadsAs f k m
   unfolding ReadsAs
-  reads_whole k v m (n, named, accepted, text) whole same = ((named ∙ ap Some accepted.0, accepted.1), stands (extension_metadata f) v m text whole same)
+  reads_whole k v m (n, named, accepted, text) whole some same = ((named ∙ ap Some accepted.0, accepted.1), stands (extension_metadata f) v m text whole some same)
+
+  -- a field with an empty metadata text is read as nothing
+  pub reads_no_empty_text : HasEmptyText f → ReadsAsNone f
+  reads_no_empty_text is k m reads = no_empty_metadata (extension_metadata f) m is (read_text k m reads)
 
   -- an invalid column under one of GeoArrow's names
   reasons_refute : (r : Reasons) (k : Kind) (m : Metadata) → IsInvalidFor (column_of f) r → ReadsAs f k m → ⊥
@@ -102,14 +120,14 @@ module _ (no_fault : (n : ExtensionName) (t : Tree) (p : Path) (fault : LayoutFa
         let text = read_text (kind_of t) m reads in
         let values = one_values (extension_metadata f) (values_of g.metadata) (values_in m) is.3 (denotes (extension_metadata f) m text) in
         let whole = ap (λ v. some_has_float v.crs) values ∙ is_whole (extension_metadata f) m text in
-        ((one g.kind (kind_of t) m m (reads_whole g.kind (values_of g.metadata) m is whole (sym values)) reads).0, values)
+        ((one g.kind (kind_of t) m m (reads_whole g.kind (values_of g.metadata) m is whole (λ empty. no_empty_metadata (extension_metadata f) m empty text) (sym values)) reads).0, values)
     agrees one (Invalid r) is t reads = absurd (reasons_refute r (kind_of t) (meta_of t) is reads)
     agrees one Extension (s, (named, others), free) t reads = absurd (other_refuted f s named others (read_named (kind_of t) (meta_of t) reads))
     agrees one (Inferred g) is t reads = absurd (unnamed_refuted f is.1.0 (read_named (kind_of t) (meta_of t) reads))
     agrees one Plain is t reads = absurd (unnamed_refuted f is.0 (read_named (kind_of t) (meta_of t) reads))
 
     pub whole_read : (r : Finding) → IsReadWhereWhole infer r f
-    whole_read (Geometry g) = λ is whole m same. reads_whole g.kind (values_of g.metadata) m is whole same
+    whole_read (Geometry g) = λ is whole some m same. reads_whole g.kind (values_of g.metadata) m is whole some same
     whole_read r = tt
 
     pub refuses : (r : Finding) → RefusesWithReading infer r f
@@ -125,9 +143,14 @@ module _ (no_fault : (n : ExtensionName) (t : Tree) (p : Path) (fault : LayoutFa
 -- ---- what is inferred
 
 module _ (f : FieldTree) where
-  infers_whole : (k : Kind) (v : Values) (m : Metadata) → IsTakenFor (column_of f) k v → some_has_float v.crs ≡ false → values_in m ≡ v → InfersAs f k m
+  infers_whole : (k : Kind) (v : Values) (m : Metadata) → IsTakenFor (column_of f) k v → some_has_float v.crs ≡ false → ¬ HasEmptyText f → values_in m ≡ v → InfersAs f k m
   unfolding InfersAs
-  infers_whole k v m (none, inferred, text) whole same = (unnamed_refuted f none, stands (extension_metadata f) v m text whole same, inferred)
+  infers_whole k v m (none, inferred, text) whole some same = (unnamed_refuted f none, stands (extension_metadata f) v m text whole some same, inferred)
+
+  -- nothing is inferred for a field with an empty metadata text
+  pub infers_no_empty_text : HasEmptyText f → InfersNone f
+  unfolding InfersAs
+  infers_no_empty_text is k m (unnamed, text, inferred) = no_empty_metadata (extension_metadata f) m is text
 
   takes : (k : Kind) (m : Metadata) → extension_name f ≡ None → InfersAs f k m → IsTakenFor (column_of f) k (values_in m)
   unfolding InfersAs
@@ -144,5 +167,5 @@ module _ (f : FieldTree) where
   agrees_with_inference one Plain is none t infers = absurd (is.1 refl (kind_of t) (values_in (meta_of t)) (takes (kind_of t) (meta_of t) none infers))
 
   pub whole_inferred : (infer : Bool) (r : Finding) → IsInferredWhereWhole infer r f
-  whole_inferred infer (Inferred g) = λ is whole m same. infers_whole g.kind (values_of g.metadata) m is.1 whole same
+  whole_inferred infer (Inferred g) = λ is whole some m same. infers_whole g.kind (values_of g.metadata) m is.1 whole some same
   whole_inferred infer r = tt

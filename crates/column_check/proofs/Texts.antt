@@ -1,5 +1,5 @@
 -- A metadata text denotes one thing: values, or a fault.
-use Rattle.std.proofs.Common.{◌≡◌, codes, Option, None, Some, option_map, refl, sym, ap, ◌∙◌, subst}
+use Rattle.std.proofs.Common.{◌≡◌, [], ◌∷◌, codes, Option, None, Some, option_map, refl, sym, ap, ◌∙◌, subst}
 use Rattle.std.specs.Prelude.{IsSome}
 use Rattle.serde_json.specs.Data.{Data, null, object, no_members, member}
 use Rattle.serde_json.specs.Find.{as_object}
@@ -56,18 +56,20 @@ one_data d v w h k =
 -- a text denotes one set of values
 pub one_values : (t : Option Text) (v w : Values) → TextDenotes t v → TextDenotes t w → v ≡ w
 one_values None v w h k = h ∙ sym k
-one_values (Some s) v w (d, reads, is) (e, others, here) = one_data e v w (subst (λ x. DataDenotes x v) (one_read _ d e reads others) is) here
+one_values (Some []) v w h k = h ∙ sym k
+one_values (Some (b ∷ s)) v w (d, reads, is) (e, others, here) = one_data e v w (subst (λ x. DataDenotes x v) (one_read _ d e reads others) is) here
 
 -- ---- faults
 
 -- a text with a fault denotes no values
 pub text_apart : (t : Option Text) (fault : MetadataFault) (v : Values) → HasMetadataFault t fault → TextDenotes t v → ⊥
 text_apart None fault v h here = absurd h
-text_apart (Some s) NotJson v h (d, reads, is) = none_read _ d h reads
-text_apart (Some s) NotObject v (e, others, not_object) (d, reads, is) = not_object (subst (λ x. IsSome (as_object x)) (one_read _ d e reads others) is.is_object)
-text_apart (Some s) UnknownCrsType v h (d, reads, is) = h.3.0 (v.crs_type, is.crs_type ∙ ap (at_key (codes "crs_type")) (one_read _ d h.0 reads h.1))
-text_apart (Some s) UnknownEdges v h (d, reads, is) = h.3.1 (v.edges, is.edges ∙ ap (at_key (codes "edges")) (one_read _ d h.0 reads h.1))
-text_apart (Some s) UnknownCrsTypeAndEdges v h (d, reads, is) = h.3.0 (v.crs_type, is.crs_type ∙ ap (at_key (codes "crs_type")) (one_read _ d h.0 reads h.1))
+text_apart (Some []) fault v h here = absurd h
+text_apart (Some (b ∷ s)) NotJson v h (d, reads, is) = none_read _ d h reads
+text_apart (Some (b ∷ s)) NotObject v (e, others, not_object) (d, reads, is) = not_object (subst (λ x. IsSome (as_object x)) (one_read _ d e reads others) is.is_object)
+text_apart (Some (b ∷ s)) UnknownCrsType v h (d, reads, is) = h.3.0 (v.crs_type, is.crs_type ∙ ap (at_key (codes "crs_type")) (one_read _ d h.0 reads h.1))
+text_apart (Some (b ∷ s)) UnknownEdges v h (d, reads, is) = h.3.1 (v.edges, is.edges ∙ ap (at_key (codes "edges")) (one_read _ d h.0 reads h.1))
+text_apart (Some (b ∷ s)) UnknownCrsTypeAndEdges v h (d, reads, is) = h.3.0 (v.crs_type, is.crs_type ∙ ap (at_key (codes "crs_type")) (one_read _ d h.0 reads h.1))
 
 -- a text has one fault
 one_text_fault : (s : Text) (f g : MetadataFault) → HasTextFault s f → HasTextFault s g → f ≡ g
@@ -89,4 +91,5 @@ one_text_fault s UnknownCrsTypeAndEdges UnknownEdges h k = absurd (h.3.0 (subst 
 
 pub one_metadata_fault : (t : Option Text) (f g : MetadataFault) → HasMetadataFault t f → HasMetadataFault t g → f ≡ g
 one_metadata_fault None f g h k = absurd h
-one_metadata_fault (Some s) f g h k = one_text_fault s f g h k
+one_metadata_fault (Some []) f g h k = absurd h
+one_metadata_fault (Some (b ∷ s)) f g h k = one_text_fault (b ∷ s) f g h k

@@ -1,5 +1,5 @@
 -- Which values a metadata text denotes, whatever numbers its CRS holds, and why a text denotes none (GeoArrow, "Extension metadata").
-use Rattle.std.specs.Prelude.{◌≡◌, codes, Option, None, Some, IsSome, option_map, Result, Ok, Err}
+use Rattle.std.specs.Prelude.{◌≡◌, List, [], codes, Option, None, Some, IsSome, option_map, Result, Ok, Err}
 use Rattle.serde_json.specs.Data.{Data}
 use Rattle.serde_json.specs.Find.{as_object}
 use Rattle.serde_json.specs.Read.{read}
@@ -31,10 +31,15 @@ pub record DataDenotes (d : Data) (v : Values) : Type 0 where
   pub crs_type : option_map crs_type_data v.crs_type ≡ at_key (codes "crs_type") d
   pub edges : option_map edges_data v.edges ≡ at_key (codes "edges") d
 
--- the metadata text denotes these values; a missing text denotes none of the three
+-- the text is JSON that denotes these values
+abbrev pub JsonDenotes : Text → Values → Type 0
+JsonDenotes s v = (d : Data) × (read s ≡ Some d) × DataDenotes d v
+
+-- the metadata text denotes these values; a missing text and an empty one denote none of the three
 abbrev pub TextDenotes : Option Text → Values → Type 0
 TextDenotes None v = v ≡ no_values
-TextDenotes (Some s) v = (d : Data) × (read s ≡ Some d) × DataDenotes d v
+TextDenotes (Some []) v = v ≡ no_values
+TextDenotes (Some s) v = JsonDenotes s v
 
 -- the object has a CRS type of the format at its key, or none; and so for edges
 abbrev pub NamesCrsType : Data → Type 0
@@ -55,10 +60,16 @@ HasTextFault s UnknownCrsType = IsObjectWith s (λ d. ¬ NamesCrsType d × Names
 HasTextFault s UnknownEdges = IsObjectWith s (λ d. NamesCrsType d × ¬ NamesEdges d)
 HasTextFault s UnknownCrsTypeAndEdges = IsObjectWith s (λ d. ¬ NamesCrsType d × ¬ NamesEdges d)
 
--- why the metadata text denotes no values; a missing one is without fault
+-- why the metadata text denotes no values; a missing one and an empty one are without fault
 abbrev pub HasMetadataFault : Option Text → MetadataFault → Type 0
 HasMetadataFault None f = ⊥
+HasMetadataFault (Some []) f = ⊥
 HasMetadataFault (Some s) f = HasTextFault s f
+
+-- what a text is read as that is not empty: the values that it denotes as JSON, or why it denotes none
+abbrev pub IsJsonRead : Text → Result ColumnMetadata MetadataFault → Type 0
+IsJsonRead s (Ok m) = JsonDenotes s (values_of m)
+IsJsonRead s (Err f) = HasTextFault s f
 
 -- what a metadata text is read as: the values that it denotes, or why it denotes none
 abbrev pub IsMetadataRead : Option Text → Result ColumnMetadata MetadataFault → Type 0

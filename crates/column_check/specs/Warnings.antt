@@ -7,7 +7,7 @@ use Rattle.std.specs.Str.{bytes_eq}
 use Rattle.serde_json.specs.Data.{Data, string, object}
 use Rattle.arrow_values.specs.Tree.{Text, Metadata, Tree, fixed_size_list, struct}
 use Rattle.arrow_values.specs.Texts.{text_at, name_key}
-use Rattle.arrow_columns.specs.Column.{TypeTree, known, other, ColumnTree}
+use Rattle.arrow_columns.specs.Column.{TypeTree, known, other, ColumnTree, metadata_on}
 use Rattle.geoarrow_layout.specs.declared.kinds.Dimension.{Dimension}
 use Rattle.geoarrow_layout.specs.declared.kinds.Dimension.TheVariants.{XY, XYZ, XYM, XYZM}
 use Rattle.geoarrow_layout.specs.declared.encodings.NativeKind.TheVariants.{Point, LineString, Polygon, MultiPoint, MultiLineString, MultiPolygon, GeometryCollection}
@@ -26,7 +26,7 @@ use Rattle.column_check.specs.Parts.{Names, coordinates_in, fields_in, ways_to}
 use Rattle.column_check.specs.declared.finding.Finding.{Finding as ColumnFinding}
 use Rattle.column_check.specs.declared.finding.Geometry.{Geometry as GeometryColumn}
 use Rattle.column_check.specs.declared.warning.WarningCode.{WarningCode}
-use Rattle.column_check.specs.declared.warning.WarningCode.TheVariants.{CrsNotWhole, CrsWithoutType, CrsNumber, CoordinatesNotDouble, AxisNames, NestedGeometry}
+use Rattle.column_check.specs.declared.warning.WarningCode.TheVariants.{MetadataEmpty, CrsNotWhole, CrsWithoutType, CrsNumber, CoordinatesNotDouble, AxisNames, NestedGeometry}
 use Rattle.column_check.specs.declared.warning.Warning.{Warning}
 
 -- a warning: what is doubtful, and the names of the child fields from the column down to where it is
@@ -35,6 +35,18 @@ Said = WarningCode × Names
 
 abbrev pub said : Warning → Said
 said w = (w.code, map string_bytes w.path.items)
+
+-- of the column itself, if the test holds
+abbrev pub of_column : WarningCode → Bool → List Said
+of_column code holds = if holds then (code, []) ∷ [] else []
+
+-- ---- of the metadata text
+
+-- there is a text, and it is empty
+abbrev pub is_empty_text : Option Text → Bool
+is_empty_text None = false
+is_empty_text (Some []) = true
+is_empty_text (Some s) = false
 
 -- ---- of a CRS
 
@@ -45,16 +57,18 @@ is_odd_crs (Some (object ms)) = false
 is_odd_crs (Some (string s)) = false
 is_odd_crs (Some d) = true
 
--- there is a CRS, and not its type
+-- the CRS is an object
+abbrev pub is_object_crs : Option Data → Bool
+is_object_crs (Some (object ms)) = true
+is_object_crs d = false
+
+-- there is a CRS that is no object, and not its type; an object can only be PROJJSON
 abbrev pub lacks_type : Values → Bool
-lacks_type v = is_some v.crs && not (is_some v.crs_type)
+lacks_type v = is_some v.crs && not (is_object_crs v.crs) && not (is_some v.crs_type)
 
--- of the column itself, if the test holds
-abbrev pub of_column : WarningCode → Bool → List Said
-of_column code holds = if holds then (code, []) ∷ [] else []
-
-abbrev pub crs_warnings : Values → List Said
-crs_warnings v = of_column CrsNotWhole (some_has_float v.crs) ++ of_column CrsWithoutType (lacks_type v) ++ of_column CrsNumber (is_odd_crs v.crs)
+-- that numbers are not whole is a note: it is said where notes are asked for
+abbrev pub crs_warnings : Bool → Values → List Said
+crs_warnings notes v = of_column CrsNotWhole (notes && some_has_float v.crs) ++ of_column CrsWithoutType (lacks_type v) ++ of_column CrsNumber (is_odd_crs v.crs)
 
 -- ---- of coordinates
 
@@ -114,10 +128,12 @@ nested_warnings (known t) = at_each NestedGeometry [] (ways_to has_extension_nam
 nested_warnings (other s) = []
 
 -- of geometries
-abbrev pub geometry_warnings : ColumnTree → Option GeometryColumn → List Said
-geometry_warnings c None = []
-geometry_warnings c (Some g) = crs_warnings (values_of g.metadata) ++ coordinate_warnings g.kind c.data_type
+abbrev pub geometry_warnings : Bool → ColumnTree → Option GeometryColumn → List Said
+geometry_warnings notes c None = []
+geometry_warnings notes c (Some g) =
+    of_column MetadataEmpty (is_empty_text (metadata_on c)) ++ crs_warnings notes (values_of g.metadata) ++ coordinate_warnings g.kind c.data_type
 
--- the warnings of a column of which that is said: those of its CRS, of its coordinates, and of the fields below it
-abbrev pub AreWarnings : ColumnTree → ColumnFinding → List Warning → Type 0
-AreWarnings c f ws = map said ws ≡ geometry_warnings c (geometry_in f) ++ nested_warnings c.data_type
+-- the warnings of a column of which that is said, with notes or without: those of its metadata text, of its CRS, of its coordinates, and of
+-- the fields below it
+abbrev pub AreWarnings : Bool → ColumnTree → ColumnFinding → List Warning → Type 0
+AreWarnings notes c f ws = map said ws ≡ geometry_warnings notes c (geometry_in f) ++ nested_warnings c.data_type

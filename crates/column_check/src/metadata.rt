@@ -1,11 +1,11 @@
 //! The values of a metadata text, whatever numbers its CRS holds.
-ghost use Rattle.std.specs.Prelude.{◌≡◌, Some, IfOk};
+ghost use Rattle.std.specs.Prelude.{◌≡◌, ◌≢◌, [], Some, IfOk};
 ghost use Rattle.serde_json.specs.Data.{Data};
 ghost use Rattle.serde_json.specs.Read.{read};
 ghost use Rattle.arrow_values.specs.Tree.{Text};
 ghost use Rattle.arrow_values.specs.Texts.{text_of};
 ghost use Rattle.geoarrow_meta.specs.KeyValues.{Finds};
-ghost use Rattle.column_check.specs.Metadata.{IsMetadataRead};
+ghost use Rattle.column_check.specs.Metadata.{no_values, values_of, IsJsonRead, IsMetadataRead};
 
 use geoarrow_meta::{CrsType, Edges, KeyValues, read_values};
 use serde_json::Value;
@@ -38,21 +38,43 @@ pub enum MetadataFault {
     UnknownCrsTypeAndEdges,
 }
 
-/// The values that a metadata text denotes, or its absence, which denotes none; or why it denotes no values. Errs only when out of
-/// memory.
+/// The values that a metadata text denotes; a missing text and an empty one denote none of the three; or why it denotes no values
+/// (`docs/FORMAT.md`, 2.6). Errs only when out of memory.
+///
+/// ```rust
+/// assert!(rt; matches!(read_metadata(alloc, Some(""))?, Ok(_)));
+/// assert!(rt; matches!(read_metadata(alloc, Some(" "))?, Err(MetadataFault::NotJson)));
+/// ```
 pub fn read_metadata(
     alloc: Global,
     text: Option<&str>,
 ) -> Result<Result<ColumnMetadata, MetadataFault>, AllocError>
     ensures { IfOk result (IsMetadataRead (text_of text.entry)) }
 {
-    let Some(text) = text else {
-        return Ok(Ok(ColumnMetadata {
-            crs: None,
-            crs_type: None,
-            edges: None,
-        }));
-    };
+    match text {
+        Some(text) if !text.is_empty() => read_json(alloc, text),
+        _ => Ok(Ok(without_values())),
+    }
+}
+
+/// The metadata without values.
+fn without_values() -> ColumnMetadata
+    ensures { values_of result ≡ no_values }
+{
+    ColumnMetadata {
+        crs: None,
+        crs_type: None,
+        edges: None,
+    }
+}
+
+/// The values that a text denotes as JSON, or why it denotes none.
+fn read_json(
+    alloc: Global,
+    text: &str,
+) -> Result<Result<ColumnMetadata, MetadataFault>, AllocError>
+    ensures { IfOk result (IsJsonRead text.now) }
+{
     match read_values(alloc, text) {
         Ok(Some(values)) => Ok(of_values(values)),
         Ok(None) => Ok(Err(MetadataFault::NotObject)),
@@ -63,7 +85,7 @@ pub fn read_metadata(
 
 /// What the values of the three keys say.
 fn of_values(values: KeyValues<Value>) -> Result<ColumnMetadata, MetadataFault>
-    ensures { (s : Text) (d : Data) → read s ≡ Some d → Finds (Some values) d → IsMetadataRead (Some s) result }
+    ensures { (s : Text) (d : Data) → read s ≡ Some d → Finds (Some values) d → IsJsonRead s result }
 {
     match (values.crs_type, values.edges) {
         (Some(crs_type), Some(edges)) => Ok(ColumnMetadata {

@@ -1,10 +1,11 @@
 //! What is doubtful of a column that is not invalid for it.
 ghost use Rattle.std.specs.Prelude.{◌≡◌, ◌++◌, map, option_map, IfOk, OnOk};
 ghost use Rattle.serde_json.specs.View.{view};
+ghost use Rattle.arrow_values.specs.Texts.{text_of};
 ghost use Rattle.geoarrow_meta.specs.Read.{some_has_float};
 ghost use Rattle.arrow_columns.specs.Column.{column_tree, type_tree};
 ghost use Rattle.column_check.specs.Metadata.{values_of};
-ghost use Rattle.column_check.specs.Warnings.{said, is_odd_crs, lacks_type, crs_warnings, geometry_warnings, nested_warnings, AreWarnings};
+ghost use Rattle.column_check.specs.Warnings.{said, is_empty_text, is_object_crs, is_odd_crs, lacks_type, crs_warnings, geometry_warnings, nested_warnings, AreWarnings};
 
 use crate::finding::{Finding, Geometry};
 use crate::metadata::ColumnMetadata;
@@ -18,10 +19,13 @@ use std::alloc::{AllocError, Global};
 /// What a warning says.
 #[derive(Debug, Clone, Copy, PartialEq, Eq)]
 pub enum WarningCode {
-    /// A number in the CRS is not whole: for that alone `from_extension_field` and `from_arrow_field` of `geoarrow_schema` refuse the
-    /// column.
+    /// The extension metadata are an empty text, which is read as none here; `from_extension_field` and `from_arrow_field` of
+    /// `geoarrow_schema` refuse the column.
+    MetadataEmpty,
+    /// A number in the CRS is not whole, as GeoArrow allows: for that alone `from_extension_field` and `from_arrow_field` of
+    /// `geoarrow_schema` refuse the column. It is a note, which is said only where notes are asked for.
     CrsNotWhole,
-    /// There is a CRS, and no CRS type.
+    /// There is a CRS, and no CRS type. An object needs none, as it can only be PROJJSON.
     CrsWithoutType,
     /// The CRS is neither an object nor a text.
     CrsNumber,
@@ -42,13 +46,13 @@ pub struct Warning {
     pub path: Vec<String>,
 }
 
-/// What is doubtful of a column of which that is said, and leaves the finding as it is: in the order of `WarningCode`, and under one
-/// code from left to right, a field before those below it. Of a CRS and of coordinates it speaks where the finding is of geometries;
-/// of fields below the column always. Errs only when out of memory.
+/// What is doubtful of a column of which that is said, and leaves the finding as it is (`docs/FORMAT.md`, 2.6): in the order of `WarningCode`,
+/// and under one code from left to right, a field before those below it. Of the metadata text, of a CRS and of coordinates it speaks
+/// where the finding is of geometries; of fields below the column always. `notes` asks for the notes too. Errs only when out of memory.
 ///
 /// ```rust
 /// let finding = check_column(alloc, &column, false)?;
-/// for warning in warnings(alloc, &column, &finding)?.iter() {
+/// for warning in warnings(alloc, &column, &finding, false)?.iter() {
 ///     println!(rt; "{:?}", warning.code)?;
 /// }
 /// ```
@@ -56,12 +60,13 @@ pub fn warnings(
     alloc: Global,
     column: &Column,
     finding: &Finding,
+    notes: bool,
 ) -> Result<Vec<Warning>, AllocError>
-    ensures { IfOk result (λ them. AreWarnings (column_tree column.now) finding.now them.items) }
+    ensures { IfOk result (λ them. AreWarnings notes (column_tree column.now) finding.now them.items) }
 {
     let mut warnings = Vec::new(alloc);
     if let Some(geometry) = finding.geometry() {
-        push_geometry(alloc, &mut warnings, column, geometry)?;
+        push_geometry(alloc, &mut warnings, column, geometry, notes)?;
     }
     if let ColumnType::Data(data_type) = &column.data_type {
         push_sought(alloc, &mut warnings, Sought::Extensions, data_type)?;
@@ -75,10 +80,13 @@ fn push_geometry(
     warnings: &mut Vec<Warning>,
     column: &Column,
     geometry: &Geometry,
+    notes: bool,
 ) -> Result<(), AllocError>
-    ensures { OnOk result (map said warnings.new.items ≡ map said warnings.old.items ++ geometry_warnings (column_tree column.now) (Some geometry.now)) }
+    ensures { OnOk result (map said warnings.new.items ≡ map said warnings.old.items ++ geometry_warnings notes (column_tree column.now) (Some geometry.now)) }
 {
-    push_crs(alloc, warnings, &geometry.metadata)?;
+    let is_empty = is_empty_text(column.extension_type_metadata());
+    push_if(alloc, warnings, WarningCode::MetadataEmpty, &Way::Column, is_empty)?;
+    push_crs(alloc, warnings, &geometry.metadata, notes)?;
     let ColumnType::Data(data_type) = &column.data_type else {
         return Ok(());
     };
@@ -88,24 +96,42 @@ fn push_geometry(
     push_sought(alloc, warnings, axes, data_type)
 }
 
+/// Whether there is a text, and it is empty.
+fn is_empty_text(text: Option<&str>) -> bool
+    ensures { result ≡ is_empty_text (text_of text.entry) }
+{
+    match text {
+        Some(text) => text.is_empty(),
+        None => false,
+    }
+}
+
 /// Adds what is doubtful of a CRS.
 fn push_crs(
     alloc: Global,
     warnings: &mut Vec<Warning>,
     metadata: &ColumnMetadata,
+    notes: bool,
 ) -> Result<(), AllocError>
-    ensures { OnOk result (map said warnings.new.items ≡ map said warnings.old.items ++ crs_warnings (values_of metadata.now)) }
+    ensures { OnOk result (map said warnings.new.items ≡ map said warnings.old.items ++ crs_warnings notes (values_of metadata.now)) }
 {
     let Some(crs) = &metadata.crs else {
         return Ok(());
     };
     let way = &Way::Column;
-    let is_whole = holds_whole_numbers(crs);
-    let is_typed = metadata.crs_type.is_some();
+    let is_noted = notes && !holds_whole_numbers(crs);
+    let lacks_type = !is_object_crs(crs) && metadata.crs_type.is_none();
     let is_odd = is_odd_crs(crs);
-    push_if(alloc, warnings, WarningCode::CrsNotWhole, way, !is_whole)?;
-    push_if(alloc, warnings, WarningCode::CrsWithoutType, way, !is_typed)?;
+    push_if(alloc, warnings, WarningCode::CrsNotWhole, way, is_noted)?;
+    push_if(alloc, warnings, WarningCode::CrsWithoutType, way, lacks_type)?;
     push_if(alloc, warnings, WarningCode::CrsNumber, way, is_odd)
+}
+
+/// Whether a CRS is an object.
+fn is_object_crs(crs: &Value) -> bool
+    ensures { result ≡ is_object_crs (Some (view crs.now)) }
+{
+    matches!(crs, Value::Object(_))
 }
 
 /// Whether a CRS is neither an object nor a text.

@@ -2,13 +2,14 @@
 use Rattle.std.specs.Prelude.{List, [], ◌∷◌, ◌++◌, codes, map, Option, None, Some, string_bytes}
 use Rattle.arrow_values.specs.Tree.{Text}
 use Rattle.column_check.specs.declared.warning.WarningCode.{WarningCode}
-use Rattle.column_check.specs.declared.warning.WarningCode.TheVariants.{CrsNotWhole, CrsWithoutType, CrsNumber, CoordinatesNotDouble, AxisNames, NestedGeometry}
+use Rattle.column_check.specs.declared.warning.WarningCode.TheVariants.{MetadataEmpty, CrsNotWhole, CrsWithoutType, CrsNumber, CoordinatesNotDouble, AxisNames, NestedGeometry}
 use Rattle.column_check.specs.declared.warning.Warning.{Warning}
 use Rattle.column_reports.specs.Parts.{array_text}
 use Rattle.column_reports.specs.Reasons.{reason_text, place_words}
 
 -- the code of a warning, and its message
 abbrev code_and_message : WarningCode → Text × Text
+code_and_message MetadataEmpty = (codes "MetadataEmpty", codes "metadata is an empty text")
 code_and_message CrsNotWhole = (codes "CrsNotWhole", codes "CRS has a number that is not whole")
 code_and_message CrsWithoutType = (codes "CrsWithoutType", codes "CRS without crs_type")
 code_and_message CrsNumber = (codes "CrsNumber", codes "CRS is neither an object nor a text")

@@ -14,6 +14,7 @@ pub(crate) fn code_and_message(code: WarningCode) -> (&'static str, &'static str
     ensures { (result.0.now ≡ code_text code) × (result.1.now ≡ warning_message code) }
 {
     match code {
+        WarningCode::MetadataEmpty => ("MetadataEmpty", "metadata is an empty text"),
         WarningCode::CrsNotWhole => ("CrsNotWhole", "CRS has a number that is not whole"),
         WarningCode::CrsWithoutType => ("CrsWithoutType", "CRS without crs_type"),
         WarningCode::CrsNumber => ("CrsNumber", "CRS is neither an object nor a text"),

@@ -3,7 +3,7 @@ use Rattle.arrow_values.specs.Tree.{Tree}
 use Rattle.arrow_values.specs.View.{tree}
 use Rattle.geoarrow_layout.specs.declared.encodings.Kind.{Kind}
 use Rattle.geoarrow_schema.specs.Infers.{InferredAs, YieldsInferred}
-use Rattle.column_check.proofs.Agreement.{agrees_with_inference, whole_inferred}
+use Rattle.column_check.proofs.Agreement.{agrees_with_inference, whole_inferred, infers_no_empty_text}
 use Rattle.column_check.proofs.laws.agrees_with_inference.Goals as goal
 
 one_of : (r : Option Kind) (j k : Kind) → r ≡ Some j → r ≡ Some k → j ≡ k
@@ -20,3 +20,6 @@ returns-clause-types c = agrees_with_inference c.args.field.now (one_answer (tre
 
 pub returns-clause-whole : goal.returns-clause-whole
 returns-clause-whole c = λ infer. whole_inferred c.args.field.now infer c.args._finding.now
+
+pub returns-clause-empty : goal.returns-clause-empty
+returns-clause-empty c = infers_no_empty_text c.args.field.now
