@@ -1,5 +1,5 @@
 -- Why a line denotes no column.
-use Rattle.std.specs.Prelude.{◌≡◌, ℕ, List, Some, None, Result, Ok, Err, IsSome, codes}
+use Rattle.std.specs.Prelude.{◌≡◌, ℕ, false, List, [], ◌∷◌, ◌++◌, map, Option, Some, None, Result, Ok, Err, IsSome, codes}
 use Rattle.std.specs.Str.{IsUtf8}
 use Rattle.std.specs.Str.Lossy.{utf8_valid_len}
 use Rattle.serde_json.specs.Data.{Data, object, Members}
@@ -9,7 +9,7 @@ use Rattle.arrow_values.specs.Tree.{Text, FieldTree}
 use Rattle.arrow_columns.specs.Column.{column_tree}
 use Rattle.arrow_columns.specs.declared.column.Column.{Column}
 use Rattle.field_lines.specs.FieldOfValue.{under, field_of_value, type_in, metadata_of_value}
-use Rattle.column_files.specs.Lines.{other_of_value, with_null, value_of_line, column_of_value, column_of_line, FirstLine}
+use Rattle.column_files.specs.Lines.{other_of_value, with_null, value_of_line, column_of_value, column_of_line, is_blank, FirstLine, Denote}
 use Rattle.column_files.specs.declared.line.LineFault.{LineFault}
 use Rattle.column_files.specs.declared.line.LineFault.TheVariants.{NotUtf8, NotJson, NotObject, Name, Nullable, Metadata, TypeUnknown}
 
@@ -69,6 +69,12 @@ abbrev pub IsLineRead : Text → Result Column LineFault → Type 0
 IsLineRead line (Ok column) = column_of_line line ≡ Some (column_tree column)
 IsLineRead line (Err fault) = (column_of_line line ≡ None) × IsLineFault line fault
 
--- the first line of the text denotes no column, and why
+-- the first line of the text is not blank and denotes no column, and why
 abbrev pub DenotesNone : List ℕ → LineFault → Type 0
-DenotesNone text fault = (line : List ℕ) × (rest : List ℕ) × FirstLine text line rest × (column_of_line line ≡ None) × IsLineFault line fault
+DenotesNone text fault =
+    (line : List ℕ) × (rest : List ℕ) × FirstLine text line rest × (is_blank line ≡ false) × (column_of_line line ≡ None) × IsLineFault line fault
+
+-- what a line adds to the columns before it: its own, or none where it is blank; or why it denotes none; for private clauses
+abbrev pub IsLineAdded : List ℕ → List Column → List Column → Option LineFault → Type 0
+IsLineAdded line old new None = (cs : List Column) × (new ≡ old ++ cs) × Denote (line ∷ []) (map column_tree cs)
+IsLineAdded line old new (Some fault) = (new ≡ old) × (is_blank line ≡ false) × IsLineRead line (Err fault)

@@ -1,5 +1,6 @@
 -- The columns that lines denote, each of them a field, or a column of another type.
-use Rattle.std.specs.Prelude.{◌≡◌, ◌≢◌, ◌+◌, ℕ, List, [], ◌∷◌, take, drop, if◌then◌else◌, Option, Some, None, option_and_then, option_map, MatchOption, codes}
+use Rattle.std.specs.Prelude.{◌≡◌, ◌≢◌, ◌+◌, ℕ, Bool, not, ◌||◌, ◌==◌, List, [], ◌∷◌, map, take, drop, if◌then◌else◌, Option, Some, None, option_and_then, option_map, MatchOption, codes}
+use Rattle.std.specs.List.{filter, list_all}
 use Rattle.std.specs.Str.{is_utf8}
 use Rattle.memchr.specs.Find.{is_byte, IsFirstByte}
 use Rattle.serde_json.specs.Data.{Data, string, object, Members, no_members, member, put}
@@ -51,11 +52,18 @@ FirstLine text line rest =
     (text ≢ []) × ((place : Option ℕ) × IsFirstByte (is_byte line_feed) text place
     × MatchOption place ((line ≡ text) × (rest ≡ [])) (λ at. (line ≡ take at text) × (rest ≡ drop (at + 1) text)))
 
--- the first line of the text denotes the column, and the rest is behind it
-abbrev pub DenotesNext : List ℕ → ColumnTree → List ℕ → Type 0
-DenotesNext text c rest = (line : List ℕ) × FirstLine text line rest × (column_of_line line ≡ Some c)
+-- the first lines of a text, in order, and the rest behind them
+abbrev pub LinesTo : List ℕ → List (List ℕ) → List ℕ → Type 0
+LinesTo text [] rest = text ≡ rest
+LinesTo text (line ∷ lines) rest = (next : List ℕ) × FirstLine text line next × LinesTo next lines rest
 
--- the first lines of the text denote these columns, in order, and the rest is behind them
-abbrev pub DenoteTo : List ℕ → List ColumnTree → List ℕ → Type 0
-DenoteTo text [] rest = text ≡ rest
-DenoteTo text (c ∷ cs) rest = (next : List ℕ) × DenotesNext text c next × DenoteTo next cs rest
+-- a blank line has no bytes but spaces, tabs and carriage returns
+abbrev pub is_blank_byte : ℕ → Bool
+is_blank_byte byte = (byte == 32) || ((byte == 9) || (byte == 13))
+
+abbrev pub is_blank : List ℕ → Bool
+is_blank line = list_all is_blank_byte line
+
+-- the lines that are not blank denote these columns, in order
+abbrev pub Denote : List (List ℕ) → List ColumnTree → Type 0
+Denote lines cs = map column_of_line (filter (λ line. not (is_blank line)) lines) ≡ map Some cs

@@ -1,6 +1,6 @@
 -- What is read of a source: its lines one after another, and the bytes that hold its schema.
-use Rattle.std.specs.Prelude.{◌≡◌, ◌≢◌, ℕ, ◌+◌, ◌-◌, ◌^◌, ◌<◌, ◌≤◌, ◌⊎◌, ◌↔◌, min, List, [], ◌∷◌, ◌++◌, length, take, drop, Option, Some, None, IfSome, Result, Ok, Err, ⊤}
-use Rattle.std.specs.Int.{w32, from_le_bytes}
+use Rattle.std.specs.Prelude.{◌≡◌, ◌≢◌, ℕ, ◌+◌, ◌-◌, ◌^◌, ◌<◌, ◌≤◌, ◌⊎◌, ◌↔◌, min, Bool, true, false, ◌||◌, List, [], ◌∷◌, ◌++◌, length, take, drop, Option, Some, None, IfSome, Result, Ok, Err, ⊤}
+use Rattle.std.specs.List.{All}
 use Rattle.std.specs.Io.KnownBytes.{Keeps, IsAtEnd, prepend_known}
 use Rattle.std.specs.IoError.{error_kind}
 use Rattle.std.specs.declared.io.ErrorKind.TheVariants.{Interrupted}
@@ -9,14 +9,14 @@ use Rattle.std.specs.declared.vec.Vec.{Vec}
 use Rattle.std.specs.declared.alloc.Global.{Global}
 use Rattle.arrow_columns.specs.Column.{ColumnTree, column_tree}
 use Rattle.arrow_columns.specs.declared.column.Column.{Column}
-use Rattle.column_files.specs.Lines.{line_feed, DenotesNext}
+use Rattle.column_files.specs.Lines.{line_feed, LinesTo, Denote, is_blank}
 use Rattle.column_files.specs.LineFaults.{DenotesNone}
-use Rattle.column_files.specs.Files.{IsFileRead}
+use Rattle.column_files.specs.Files.{IsFileRead, size_in, HasFooter}
 use Rattle.column_files.specs.Sources.{GivesUpTo, GivesAll}
 use Rattle.column_files.specs.declared.form.Form.{Form}
 use Rattle.column_files.specs.declared.form.Form.TheVariants.{ArrowFile, ArrowStream, Parquet}
 use Rattle.column_files.specs.declared.columns.FileFault.{FileFault}
-use Rattle.column_files.specs.declared.columns.FileFault.TheVariants.{NoField, OutOfMemory}
+use Rattle.column_files.specs.declared.columns.FileFault.TheVariants.{NoField, Empty, OutOfMemory}
 use Rattle.column_files.specs.declared.fault.ReadFault.{ReadFault}
 use Rattle.column_files.specs.declared.fault.ReadFault.TheVariants.{Input, LongLine, File}
 use Rattle.column_files.specs.declared.reading.LineColumns.{LineColumns}
@@ -39,9 +39,12 @@ IsLong text = (max_line_bytes < length text) × Nowhere (Passes (is_byte line_fe
 abbrev pub ahead : {R : Type 0} → LineColumns R → List ℕ
 ahead r = drop r.start (take r.end r.buffer.items)
 
--- how many lines are answered, which stops at `usize::MAX`
-abbrev pub answered : {R : Type 0} → LineColumns R → ℕ
-answered r = r.count
+-- how many lines are passed, blank ones too, which stops at `usize::MAX`; and whether one of them denotes a column
+abbrev pub passed : {R : Type 0} → LineColumns R → ℕ
+passed r = r.count
+
+abbrev pub has_column : {R : Type 0} → LineColumns R → Bool
+has_column r = r.has_column
 
 -- the text whose lines are left, where the bytes of the source are known
 abbrev pub text_left : {R : Type 0} → (R → Option (List ℕ)) → LineColumns R → Option (List ℕ)
@@ -53,25 +56,33 @@ Goes Step None rest = ⊤
 Goes Step (Some text) None = ⊥
 Goes Step (Some text) (Some rest) = Step text rest
 
--- the first line of the text, which is not too long, denotes the column, and the rest is behind it
-abbrev pub AnswersNext : ColumnTree → List ℕ → List ℕ → Type 0
-AnswersNext c text rest = ¬ IsLong text × DenotesNext text c rest
+-- the columns that a call answers: one, or none
+abbrev pub answered : Result (Option Column) ReadFault → List ColumnTree
+answered (Ok (Some column)) = column_tree column ∷ []
+answered r = []
 
--- what a call answers after n lines, which leaves the known text old as new, and of that `held` at hand: the column of the next line; that no text is left;
--- or why the next line has no column, which then is still left
-abbrev pub IsNext : ℕ → Option (List ℕ) → Option (List ℕ) → List ℕ → Result (Option Column) ReadFault → Type 0
-IsNext n old new held (Ok (Some column)) = Goes (AnswersNext (column_tree column)) old new
-IsNext n old new held (Ok None) = Keeps old new × IsAtEnd new
-IsNext n old new held (Err (LongLine k)) = Keeps old new × (k ≡ n) × IfSome old IsLong
-IsNext n old new held (Err (File (NoField k fault))) = Keeps old new × (k ≡ n) × IfSome old (λ text. ¬ IsLong text × DenotesNone text fault)
-IsNext n old new held (Err (File OutOfMemory)) = Keeps old new
-IsNext n old new held (Err (File fault)) = ⊥
-IsNext n old new held (Err (Input error)) = Keeps old new × HasNoFeed held × (error_kind error ≢ Interrupted)
+-- what a call passes that leaves the known text old as new, after n lines and then after m: lines, none of them too long, that denote the columns answered
+abbrev pub PassesLines : ℕ → ℕ → Option (List ℕ) → Option (List ℕ) → List ColumnTree → Type 0
+PassesLines n m old new cs =
+    (lines : List (List ℕ)) × (m ≡ min (n + length lines) (2 ^ 64 - 1)) × All (λ line. length line ≤ max_line_bytes) lines × Denote lines cs
+    × Goes (λ text rest. LinesTo text lines rest) old new
 
--- how many lines are answered after a call
-abbrev pub IsCounted : ℕ → ℕ → Result (Option Column) ReadFault → Type 0
-IsCounted old new (Ok (Some column)) = new ≡ min (old + 1) (2 ^ 64 - 1)
-IsCounted old new r = new ≡ old
+-- what a call answers behind m lines, with the known text left, and of that `held` at hand: the last line's column; that no text is left, where a line had a
+-- column, else that there is none; or why the next line, which is not blank, has no column
+abbrev pub IsNext : ℕ → Bool → Option (List ℕ) → List ℕ → Result (Option Column) ReadFault → Type 0
+IsNext m some left held (Ok (Some column)) = ⊤
+IsNext m some left held (Ok None) = (some ≡ true) × IsAtEnd left
+IsNext m some left held (Err (LongLine k)) = (k ≡ m) × IfSome left IsLong
+IsNext m some left held (Err (File (NoField k fault))) = (k ≡ m) × IfSome left (λ text. ¬ IsLong text × DenotesNone text fault)
+IsNext m some left held (Err (File Empty)) = (some ≡ false) × IsAtEnd left
+IsNext m some left held (Err (File OutOfMemory)) = ⊤
+IsNext m some left held (Err (File fault)) = ⊥
+IsNext m some left held (Err (Input error)) = HasNoFeed held × (error_kind error ≢ Interrupted)
+
+-- whether a call answers a column
+abbrev pub is_column : Result (Option Column) ReadFault → Bool
+is_column (Ok (Some column)) = true
+is_column r = false
 
 -- ---- parts of these, for private clauses
 
@@ -90,11 +101,6 @@ IsUnfinished n held (File fault) = ⊥
 
 -- ---- schemas
 
--- the number in the first four bytes, the lowest first; 0 where there are fewer
-abbrev pub size_in : List ℕ → ℕ
-size_in (a ∷ b ∷ c ∷ d ∷ rest) = from_le_bytes w32 (a ∷ b ∷ c ∷ d ∷ [])
-size_in _ = 0
-
 -- the source gives, behind the first bytes, those that belong to its schema: of a stream the first message, whose size stands behind its marker; else all
 abbrev pub GivesSchema : Form → List ℕ → Option (List ℕ) → Option (List ℕ) → List ℕ → Type 0
 GivesSchema ArrowStream head old new more = GivesUpTo (size_in (drop 4 head)) old new more
@@ -105,6 +111,12 @@ abbrev pub GivesEnd : Form → List ℕ → Option (List ℕ) → Option (List �
 GivesEnd ArrowFile head old new bytes = IsAtEnd new
 GivesEnd Parquet head old new bytes = IsAtEnd new
 GivesEnd form head old new bytes = (more : List ℕ) × (bytes ≡ head ++ more) × GivesSchema form head old new more
+
+-- how much stands before those bytes: of an Arrow file so much that they have its footer, of a Parquet file anything, else nothing
+abbrev pub StandsBefore : Form → ℕ → List ℕ → Type 0
+StandsBefore ArrowFile start end = HasFooter start end
+StandsBefore Parquet start end = ⊤
+StandsBefore form start end = start ≡ 0
 
 -- what `read_head` gives of a source, which has the rest left
 abbrev pub IsHead : List ℕ → List ℕ → Type 0

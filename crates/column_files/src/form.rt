@@ -8,7 +8,7 @@ pub enum Form {
     ArrowFile,
     /// An Arrow stream: it begins with the continuation marker, four bytes 255.
     ArrowStream,
-    /// A Parquet file: it begins with `PAR1`.
+    /// A Parquet file: it begins with `PAR1`, or with `PARE` where its footer is encrypted.
     Parquet,
     /// Anything else: lines of fields (docs/FORMAT.md, 2.1).
     Lines,
@@ -18,6 +18,7 @@ pub enum Form {
 ///
 /// ```rust
 /// assert_eq!(rt; form_of(b"PAR1"), Form::Parquet);
+/// assert_eq!(rt; form_of(b"PARE"), Form::Parquet);
 /// assert_eq!(rt; form_of(b"{}"), Form::Lines);
 /// ```
 pub fn form_of(bytes: &[u8]) -> Form
@@ -27,7 +28,7 @@ pub fn form_of(bytes: &[u8]) -> Form
         Form::ArrowFile
     } else if bytes.starts_with(&[255, 255, 255, 255]) {
         Form::ArrowStream
-    } else if bytes.starts_with(b"PAR1") {
+    } else if bytes.starts_with(b"PAR1") || bytes.starts_with(b"PARE") {
         Form::Parquet
     } else {
         Form::Lines

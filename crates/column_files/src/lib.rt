@@ -11,9 +11,10 @@ mod reading;
 mod schema_bytes;
 mod source;
 
-pub use columns::{FileFault, columns_in, columns_of};
+pub use columns::{FileFault, columns_in, columns_of, columns_of_end};
 pub use fault::ReadFault;
 pub use form::{Form, form_of};
 pub use line::{LineFault, column_line, parse_column_line};
+pub use lines::columns_of_lines;
 pub use reading::{LineColumns, MAX_LINE_BYTES};
-pub use schema_bytes::{read_head, read_schema_bytes, read_schema_end};
+pub use schema_bytes::{FileEnd, read_head, read_schema_bytes, read_schema_end};

@@ -1,31 +1,70 @@
 //! The columns of lines.
-ghost use Rattle.std.specs.Prelude.{◌≡◌, ◌≢◌, [], ◌<◌, length};
-ghost use Rattle.column_files.specs.Lines.{FirstLine};
+ghost use Rattle.std.specs.Prelude.{◌≡◌, ◌≢◌, [], ◌<◌, length, IfOk};
+ghost use Rattle.column_files.specs.Lines.{FirstLine, is_blank};
+ghost use Rattle.column_files.specs.LineFaults.{IsLineAdded};
 ghost use Rattle.column_files.specs.Files.{AreLinesRead};
 
 use crate::columns::FileFault;
-use crate::line::parse_column_line;
+use crate::line::{LineFault, parse_column_line};
 use arrow_columns::Column;
 use json::Scratch;
 use memchr::memchr;
-use std::alloc::Global;
+use std::alloc::{AllocError, Global};
 
-/// The columns that the lines of a text denote.
-pub(crate) fn columns_of_lines(alloc: Global, text: &[u8]) -> Result<Vec<Column>, FileFault>
+/// Returns the columns that the lines of a text denote (docs/FORMAT.md, 2.7); no columns where there are no lines, or blank ones alone. Errs with
+/// `NoField` at the first line that is not blank and denotes no column, with how many lines stand before it, and why; and when out of memory.
+///
+/// ```rust
+/// let columns = columns_of_lines(alloc, b" \n");
+/// assert!(rt; matches!(columns, Ok(columns) if columns.is_empty()));
+/// let refused = columns_of_lines(alloc, b"\n[]\n");
+/// assert!(rt; matches!(refused, Err(FileFault::NoField(1, LineFault::NotObject))));
+/// ```
+pub fn columns_of_lines(alloc: Global, text: &[u8]) -> Result<Vec<Column>, FileFault>
     ensures { AreLinesRead text.now result }
 {
     let mut columns = Vec::new(alloc);
     let mut scratch = Scratch::new(alloc);
     let mut rest = text;
+    let mut count = 0;
     while !rest.is_empty() {
         let (line, behind) = first_line(rest);
-        match parse_column_line(alloc, line, &mut scratch)? {
-            Ok(column) => columns.push(column)?,
-            Err(fault) => return Err(FileFault::NoField(columns.len(), fault)),
+        if let Some(fault) = add_column(alloc, line, &mut scratch, &mut columns)? {
+            return Err(FileFault::NoField(count, fault));
         }
         rest = behind;
+        count += 1;
     }
     Ok(columns)
+}
+
+/// Adds the column that a line denotes to those before it, or says why it denotes none. A blank line adds nothing.
+fn add_column(
+    alloc: Global,
+    line: &[u8],
+    scratch: &mut Scratch,
+    columns: &mut Vec<Column>,
+) -> Result<Option<LineFault>, AllocError>
+    ensures { IfOk result (IsLineAdded line.now columns.old.items columns.new.items) }
+{
+    if is_blank(line) {
+        return Ok(None);
+    }
+    match parse_column_line(alloc, line, scratch)? {
+        Ok(column) => {
+            columns.push(column)?;
+            Ok(None)
+        }
+        Err(fault) => Ok(Some(fault)),
+    }
+}
+
+/// Whether a line has no bytes but spaces, tabs and carriage returns.
+pub(crate) fn is_blank(line: &[u8]) -> bool
+    ensures { result ≡ is_blank line.now }
+{
+    line.iter()
+        .all(|&byte| byte == b' ' || byte == b'\t' || byte == b'\r')
 }
 
 /// The first line of a text, without its line feed, and what comes behind that.

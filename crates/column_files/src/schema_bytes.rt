@@ -1,10 +1,11 @@
 //! The bytes of a source that hold its schema.
-ghost use Rattle.std.specs.Prelude.{◌≡◌, ◌+◌, ◌≤◌, List, ℕ, ◌++◌, length, OnOk, IfSome, IfOk, IfErr};
+ghost use Rattle.std.specs.Prelude.{◌≡◌, ◌+◌, ◌-◌, ◌≤◌, List, ℕ, nat_le, ◌++◌, length, drop, OnOk, IfSome, IfOk, IfErr};
 ghost use Rattle.std.specs.Io.KnownBytes.{IsAtEnd};
 ghost use Rattle.column_files.specs.Forms.{IsForm};
 ghost use Rattle.column_files.specs.Sources.{GivesUpTo};
 ghost use Rattle.column_files.specs.ReadErrors.{IsReadError};
-ghost use Rattle.column_files.specs.Reading.{size_in, GivesSchema, GivesEnd, IsHead, ReadAs};
+ghost use Rattle.column_files.specs.Files.{size_in};
+ghost use Rattle.column_files.specs.Reading.{GivesSchema, GivesEnd, StandsBefore, IsHead, ReadAs};
 
 use crate::fault::ReadFault;
 use crate::form::Form;
@@ -67,32 +68,70 @@ pub fn read_schema_bytes<R: Read>(
     Ok(bytes)
 }
 
-/// As `read_schema_bytes`, but of an Arrow or Parquet file only the end is read: the footer, with its size and the magic behind it, at the place
-/// that its size tells, or all where the size is greater than the file. Where the source does not seek, as a pipe, all is read.
+/// The end of a file, or all of it.
+#[derive(Debug, Drop)]
+pub struct FileEnd {
+    /// How many bytes of the file stand before it.
+    pub start: u64,
+    /// The bytes of the end.
+    pub bytes: Vec<u8>,
+}
+
+/// Returns what `read_schema_bytes` does, but of an Arrow or Parquet file the end alone: the footer, with its size and the magic behind it, at the place
+/// that its size tells, or all where the size is greater than the file. Where the source does not seek, as a pipe, all is read. [`crate::columns_of_end`]
+/// reads the columns. Errs where the source fails, and when out of memory.
 ///
-/// The contract says of the end only that it is the end, since the contracts of `Seek` do not say which bytes a reader gives once it has sought.
+/// The contract says of the end that it is the end, and of an Arrow file that it has the footer which its last ten bytes tell; not which bytes come before,
+/// since the contracts of `Seek` do not say which bytes a reader gives once it has sought.
 pub fn read_schema_end<S: Read + Seek>(
     alloc: Global,
     form: Form,
     head: Vec<u8>,
     source: &mut S,
-) -> Result<Vec<u8>, ReadFault>
-    ensures ok { IfOk result (λ bytes. GivesEnd form head.items (S.remaining source.old) (S.remaining source.new) bytes.items) }
+) -> Result<FileEnd, ReadFault>
+    ensures ok { IfOk result (λ end. GivesEnd form head.items (S.remaining source.old) (S.remaining source.new) end.bytes.items) }
+    ensures before { IfOk result (λ end. StandsBefore form end.start end.bytes.items) }
     ensures err { IfErr result IsReadError }
 {
     let tail = match form {
         Form::ArrowFile => ARROW_TAIL,
         Form::Parquet => PARQUET_TAIL,
-        Form::ArrowStream | Form::Lines => return read_schema_bytes(form, head, source),
+        Form::ArrowStream | Form::Lines => return read_all(form, head, source),
     };
     let Ok(length) = source.seek(SeekFrom::End(0)) else {
-        return read_schema_bytes(form, head, source);
+        return read_all(form, head, source);
     };
     drop(head);
     let last = last_of(alloc, source, length, tail)?;
-    let footer = u64::from(size_of_four(last.as_slice()));
+    let footer = u64::from(size_of_four(last.bytes.as_slice()));
     drop(last);
-    last_of(alloc, source, length, footer.saturating_add(tail))
+    let end = last_of(alloc, source, length, footer.saturating_add(tail))?;
+    if end.start == 0 || has_footer(end.bytes.as_slice(), tail as usize) {
+        return Ok(end);
+    }
+    drop(end);
+    last_of(alloc, source, length, u64::MAX)
+}
+
+/// Whether bytes have, before so many at their end, as many as these tell in their first four.
+fn has_footer(bytes: &[u8], tail: usize) -> bool
+    ensures { result ≡ nat_le (tail + size_in (drop (length bytes.now - tail) bytes.now)) (length bytes.now) }
+{
+    match bytes.len().checked_sub(tail) {
+        Some(at) => size_of_four(&bytes[at..]) as usize <= at,
+        None => false,
+    }
+}
+
+/// What `read_schema_bytes` gives, before which nothing stands.
+fn read_all<R: Read>(form: Form, head: Vec<u8>, source: &mut R) -> Result<FileEnd, ReadFault>
+    ensures ok { IfOk result (λ end. (more : List ℕ) × (end.bytes.items ≡ head.items ++ more)
+        × GivesSchema form head.items (R.remaining source.old) (R.remaining source.new) more) }
+    ensures start { IfOk result (λ end. end.start ≡ 0) }
+    ensures err { IfErr result IsReadError }
+{
+    let bytes = read_schema_bytes(form, head, source)?;
+    Ok(FileEnd { start: 0, bytes })
 }
 
 /// So many bytes at the end of a file of that length, or all.
@@ -101,18 +140,20 @@ fn last_of<S: Read + Seek>(
     source: &mut S,
     length: u64,
     count: u64,
-) -> Result<Vec<u8>, ReadFault>
+) -> Result<FileEnd, ReadFault>
     ensures end { OnOk result (IsAtEnd (S.remaining source.new)) }
+    ensures start { IfOk result (λ end. end.start ≡ length - count) }
     ensures err { IfErr result IsReadError }
 {
-    source.seek(SeekFrom::Start(length.saturating_sub(count)))?;
-    let mut last = Vec::new(alloc);
-    read_up_to(source, &mut last, u64::MAX)?;
-    Ok(last)
+    let start = length.saturating_sub(count);
+    source.seek(SeekFrom::Start(start))?;
+    let mut bytes = Vec::new(alloc);
+    read_up_to(source, &mut bytes, u64::MAX)?;
+    Ok(FileEnd { start, bytes })
 }
 
 /// The number in the first four bytes, the lowest first.
-fn size_of_four(bytes: &[u8]) -> u32
+pub(crate) fn size_of_four(bytes: &[u8]) -> u32
     ensures { result ≡ size_in bytes.now }
 {
     match bytes {
