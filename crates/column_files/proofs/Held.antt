@@ -1,15 +1,16 @@
 -- Bytes that are held, and the line that they begin with, over plain variables.
-use Rattle.std.proofs.Common.{◌≡◌, inl, inr, ℕ, ◌+◌, ◌-◌, ◌<◌, ◌≤◌, true, List, [], ◌++◌, length, take, drop, drop_of_length-le, get_or, Option, Some, None, IfSome, Ok, Err, sym, ap, ◌∙◌, subst, arith}
+use Rattle.std.proofs.Common.{◌≡◌, inl, inr, ℕ, ◌+◌, ◌-◌, ◌^◌, ◌<◌, ◌≤◌, min, true, false, List, [], ◌∷◌, ◌++◌, length, take, drop, drop_of_length-le, get_or, Option, Some, None, IfSome, Ok, Err, refl, sym, ap, ◌∙◌, subst, arith}
 use Rattle.std.proofs.lemmas.Bool.{cases_lt}
-use Rattle.std.proofs.lemmas.List.{append-nil, append_assoc, get_or_append_left, get_or-drop, length-append, length-drop, length-take-le, take-append-le, take_all, drop-append-le}
-use Rattle.std.specs.Io.KnownBytes.{Keeps, Consumes, prepend_known}
+use Rattle.std.proofs.lemmas.List.{append-nil, append_assoc, get_or_append_left, get_or-drop, length-append, length-drop, length-take, length-take-le, take-append-le, take_all, drop-append-le}
+use Rattle.std.proofs.lemmas.List.Elements.{All-nil, All-push}
+use Rattle.std.specs.Io.KnownBytes.{Keeps, Consumes, IsAtEnd, prepend_known}
 use Rattle.memchr.specs.Find.{is_byte, Passes, Nowhere, IsFirstByte}
-use Rattle.arrow_columns.specs.Column.{column_tree}
-use Rattle.arrow_columns.specs.declared.column.Column.{Column}
-use Rattle.column_files.specs.Lines.{line_feed, FirstLine}
+use Rattle.arrow_columns.specs.Column.{ColumnTree}
+use Rattle.column_files.specs.Lines.{line_feed, FirstLine, LinesTo, Denote, is_blank}
 use Rattle.column_files.specs.LineFaults.{IsLineRead, DenotesNone}
 use Rattle.column_files.specs.declared.line.LineFault.{LineFault}
-use Rattle.column_files.specs.Reading.{max_line_bytes, HasNoFeed, IsLong, HasLine, Goes, AnswersNext}
+use Rattle.column_files.specs.Reading.{max_line_bytes, max_lines, HasNoFeed, IsLong, HasLine, Goes, PassesLines}
+use Rattle.column_files.proofs.Steps.{lines_more, denote_more}
 use lib.Seq.{take-add, take-take}
 
 -- ---- bytes that are read behind others
@@ -114,20 +115,63 @@ first_line held more len (short, inl found) = (line_at held more len found, shor
 first_line held more len (short, inr (len_is, some, none, end)) =
     (line_last held more len len_is some none end, λ long. omega (arith, long.0, short, len_is, length-append held more, ap length end))
 
+-- ---- lines that are passed over
+
+-- none
+goes_nowhere : (old : Option (List ℕ)) → Goes (λ text rest. LinesTo text [] rest) old old
+goes_nowhere None = tt
+goes_nowhere (Some text) = refl
+
+pub passes_none : (n : ℕ) (old : Option (List ℕ)) → n ≤ max_lines → PassesLines n n old old []
+passes_none n old most = ([], omega (arith, most), All-nil (λ line. length line ≤ max_line_bytes), refl, goes_nowhere old)
+
+-- the text that is left stays as it is
+goes_on : (lines : List (List ℕ)) (old mid new : Option (List ℕ)) → Goes (λ text rest. LinesTo text lines rest) old mid → Keeps mid new → Goes (λ text rest. LinesTo text lines rest) old new
+goes_on lines None mid new goes kept = tt
+goes_on lines (Some text) None new goes kept = absurd goes
+goes_on lines (Some text) (Some rest) None goes kept = absurd kept
+goes_on lines (Some text) (Some rest) (Some later) goes kept = subst (LinesTo text lines) (sym kept) goes
+
+pub passes_kept : (n m k : ℕ) (old mid new : Option (List ℕ)) (cs : List ColumnTree) → PassesLines n m old mid cs → k ≡ m → Keeps mid new → PassesLines n k old new cs
+passes_kept n m k old mid new cs (lines, count, short, denote, goes) same kept = (lines, same ∙ count, short, denote, goes_on lines old mid new goes kept)
+
+-- the line at hand is passed over too
+goes_past : (lines : List (List ℕ)) (old mid rest : Option (List ℕ)) (held : List ℕ) (len : ℕ) → Goes (λ text rest. LinesTo text lines rest) old mid → Keeps mid (prepend_known held rest)
+    → HasLine held rest (Some len) → Goes (λ text rest. LinesTo text (lines ++ take len held ∷ []) rest) old (prepend_known (drop (len + 1) held) rest)
+goes_past lines None mid rest held len goes kept line = tt
+goes_past lines (Some text) None rest held len goes kept line = absurd goes
+goes_past lines (Some text) (Some left) None held len goes kept line = absurd kept
+goes_past lines (Some text) (Some left) (Some more) held len goes kept line =
+    let behind = drop (len + 1) held ++ more in
+    let first : FirstLine left (take len held) behind = subst (λ t. FirstLine t (take len held) behind) kept ((first_line held more len line).0) in
+    lines_more lines (take len held ∷ []) text left behind goes (behind, first, refl)
+
+pub passes_line : (n m k : ℕ) (old mid rest : Option (List ℕ)) (held : List ℕ) (len : ℕ) (cs : List ColumnTree) → PassesLines n m old mid [] → k ≡ min (m + 1) max_lines
+    → Keeps mid (prepend_known held rest) → HasLine held rest (Some len) → Denote (take len held ∷ []) cs → PassesLines n k old (prepend_known (drop (len + 1) held) rest) cs
+passes_line n m k old mid rest held len cs (lines, count, short, denote, goes) next kept line here =
+    let one : length (take len held) ≤ max_line_bytes = omega (arith, line.0, length-take len held) in
+    (
+      lines ++ take len held ∷ [],
+      omega (arith, next, count, length-append lines (take len held ∷ [])),
+      All-push (λ line. length line ≤ max_line_bytes) lines (take len held) short one,
+      denote_more lines (take len held ∷ []) [] cs denote here,
+      goes_past lines old mid rest held len goes kept line,
+    )
+
 -- ---- what is answered of it
 
-pub column_next : (old rest : Option (List ℕ)) (held : List ℕ) (len : ℕ) (column : Column) → Keeps old (prepend_known held rest) → HasLine held rest (Some len) → IsLineRead (take len held) (Ok column)
-    → Goes (AnswersNext (column_tree column)) old (prepend_known (drop (len + 1) held) rest)
-column_next None rest held len column kept line read = tt
-column_next (Some text) None held len column kept line read = absurd kept
-column_next (Some text) (Some more) held len column kept line read =
+pub fault_next : (rest : Option (List ℕ)) (held : List ℕ) (len : ℕ) (fault : LineFault) → HasLine held rest (Some len) → is_blank (take len held) ≡ false
+    → IsLineRead (take len held) (Err fault) → IfSome (prepend_known held rest) (λ text. ¬ IsLong text × DenotesNone text fault)
+fault_next None held len fault line filled read = tt
+fault_next (Some more) held len fault line filled read =
     let (first, short) = first_line held more len line in
-    subst (λ t. AnswersNext (column_tree column) t (drop (len + 1) held ++ more)) kept (short, (take len held, first, read))
+    (short, (take len held, drop (len + 1) held ++ more, first, filled, read.0, read.1))
 
-pub fault_next : (old rest : Option (List ℕ)) (held : List ℕ) (len : ℕ) (fault : LineFault) → Keeps old (prepend_known held rest) → HasLine held rest (Some len) → IsLineRead (take len held) (Err fault)
-    → IfSome old (λ text. ¬ IsLong text × DenotesNone text fault)
-fault_next None rest held len fault kept line read = tt
-fault_next (Some text) None held len fault kept line read = absurd kept
-fault_next (Some text) (Some more) held len fault kept line read =
-    let (first, short) = first_line held more len line in
-    subst (λ t. ¬ IsLong t × DenotesNone t fault) kept (short, (take len held, drop (len + 1) held ++ more, first, read.0, read.1))
+pub long_next : (rest : Option (List ℕ)) (held : List ℕ) → IsLong held → IfSome (prepend_known held rest) IsLong
+long_next None held long = tt
+long_next (Some more) held long =
+    (omega (arith, long.0, length-append held more), none_in_more held more (max_line_bytes + 1) (omega (arith, long.0)) long.1)
+
+pub end_next : (rest : Option (List ℕ)) (held : List ℕ) → HasLine held rest None → IsAtEnd (prepend_known held rest)
+end_next None held line = line.1
+end_next (Some more) held line = ap (λ l. l ++ more) line.0 ∙ line.1

@@ -80,11 +80,11 @@ abbrev pub size_in : List ℕ → ℕ
 size_in (a ∷ b ∷ c ∷ d ∷ rest) = from_le_bytes w32 (a ∷ b ∷ c ∷ d ∷ [])
 size_in _ = 0
 
--- the end of an Arrow file, before which so many bytes stand, has the footer that its last ten bytes tell; or it is the whole file
-abbrev pub HasFooter : ℕ → List ℕ → Type 0
-HasFooter start end = (10 + size_in (drop (length end - 10) end) ≤ length end) ⊎ (start ≡ 0)
+-- the end of a file, before which so many bytes stand, has the footer whose size its last bytes tell, as many as `tail`; or it is the whole file
+abbrev pub HasFooter : ℕ → ℕ → List ℕ → Type 0
+HasFooter tail start end = (tail + size_in (drop (length end - tail) end) ≤ length end) ⊎ (start ≡ 0)
 
 -- what is read of the end of a file in that format, before which so many bytes stand: of an Arrow file what is read of the whole, whichever bytes those are
 abbrev pub IsEndRead : Form → ℕ → List ℕ → Result (Vec Column Global) FileFault → Type 0
-IsEndRead ArrowFile start end r = (front : List ℕ) → length front ≡ start → HasFooter start end → IsFileRead ArrowFile (front ++ end) r
+IsEndRead ArrowFile start end r = (front : List ℕ) → length front ≡ start → HasFooter 10 start end → IsFileRead ArrowFile (front ++ end) r
 IsEndRead form start end r = IsFileRead form end r

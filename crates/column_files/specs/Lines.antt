@@ -64,6 +64,9 @@ is_blank_byte byte = (byte == 32) || ((byte == 9) || (byte == 13))
 abbrev pub is_blank : List ℕ → Bool
 is_blank line = list_all is_blank_byte line
 
+abbrev pub is_filled : List ℕ → Bool
+is_filled line = not (is_blank line)
+
 -- the lines that are not blank denote these columns, in order
 abbrev pub Denote : List (List ℕ) → List ColumnTree → Type 0
-Denote lines cs = map column_of_line (filter (λ line. not (is_blank line)) lines) ≡ map Some cs
+Denote lines cs = map column_of_line (filter is_filled lines) ≡ map Some cs

@@ -39,7 +39,10 @@ IsLong text = (max_line_bytes < length text) × Nowhere (Passes (is_byte line_fe
 abbrev pub ahead : {R : Type 0} → LineColumns R → List ℕ
 ahead r = drop r.start (take r.end r.buffer.items)
 
--- how many lines are passed, blank ones too, which stops at `usize::MAX`; and whether one of them denotes a column
+-- how many lines are passed, blank ones too, which stops at the greatest `usize`; and whether one of them denotes a column
+abbrev pub max_lines : ℕ
+max_lines = 2 ^ 64 - 1
+
 abbrev pub passed : {R : Type 0} → LineColumns R → ℕ
 passed r = r.count
 
@@ -64,7 +67,7 @@ answered r = []
 -- what a call passes that leaves the known text old as new, after n lines and then after m: lines, none of them too long, that denote the columns answered
 abbrev pub PassesLines : ℕ → ℕ → Option (List ℕ) → Option (List ℕ) → List ColumnTree → Type 0
 PassesLines n m old new cs =
-    (lines : List (List ℕ)) × (m ≡ min (n + length lines) (2 ^ 64 - 1)) × All (λ line. length line ≤ max_line_bytes) lines × Denote lines cs
+    (lines : List (List ℕ)) × (m ≡ min (n + length lines) max_lines) × All (λ line. length line ≤ max_line_bytes) lines × Denote lines cs
     × Goes (λ text rest. LinesTo text lines rest) old new
 
 -- what a call answers behind m lines, with the known text left, and of that `held` at hand: the last line's column; that no text is left, where a line had a
@@ -112,11 +115,11 @@ GivesEnd ArrowFile head old new bytes = IsAtEnd new
 GivesEnd Parquet head old new bytes = IsAtEnd new
 GivesEnd form head old new bytes = (more : List ℕ) × (bytes ≡ head ++ more) × GivesSchema form head old new more
 
--- how much stands before those bytes: of an Arrow file so much that they have its footer, of a Parquet file anything, else nothing
-abbrev pub StandsBefore : Form → ℕ → List ℕ → Type 0
-StandsBefore ArrowFile start end = HasFooter start end
-StandsBefore Parquet start end = ⊤
-StandsBefore form start end = start ≡ 0
+-- the end of a file, before which so many bytes stand, has the footer; of a stream or lines nothing stands before
+abbrev pub IsEnd : Form → ℕ → List ℕ → Type 0
+IsEnd ArrowFile start end = HasFooter 10 start end
+IsEnd Parquet start end = HasFooter 8 start end
+IsEnd form start end = start ≡ 0
 
 -- what `read_head` gives of a source, which has the rest left
 abbrev pub IsHead : List ℕ → List ℕ → Type 0

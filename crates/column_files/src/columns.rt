@@ -11,7 +11,6 @@ ghost use Rattle.parquet_schema.specs.declared.fault.SchemaError.{SchemaError};
 use crate::form::{Form, form_of};
 use crate::line::LineFault;
 use crate::lines::columns_of_lines;
-use crate::schema_bytes::size_of_four;
 use arrow_columns::Column;
 use arrow_ipc::{Fault, IpcError, Schema, read_file_footer, read_schema};
 use parquet_schema::{SchemaError, columns_of_file};
@@ -119,11 +118,10 @@ pub fn columns_of_end(
 fn columns_of_line_file(read: Result<Vec<Column>, FileFault>) -> Result<Vec<Column>, FileFault>
     ensures { (text : List ℕ) → AreLinesRead text read → AreLinesInFile text result }
 {
-    let columns = read?;
-    if columns.is_empty() {
-        return Err(FileFault::Empty);
+    match read {
+        Ok(columns) if columns.is_empty() => Err(FileFault::Empty),
+        read => read,
     }
-    Ok(columns)
 }
 
 /// The columns of a footer that is read of these bytes of an Arrow file, before which so many stand.
@@ -159,14 +157,20 @@ fn further(error: IpcError, by: usize) -> IpcError
 }
 
 /// Where the footer of an Arrow file begins, as its end tells; 0 where no footer is found.
+#[tactic(auto, unfolding(arrow_ipc::specs::Schema::footer_in, arrow_ipc::specs::Schema::cut))]
 fn footer_begin(bytes: &[u8]) -> usize
     ensures { result ≡ footer_begin bytes.now (footer_in bytes.now) }
 {
-    let Some(end) = bytes.len().checked_sub(10) else {
+    if bytes.len() < 10 {
         return 0;
+    }
+    let end = bytes.len() - 10;
+    let size = match &bytes[end..] {
+        [a, b, c, d, b'A', b'R', b'R', b'O', b'W', b'1'] => u32::from_le_bytes([*a, *b, *c, *d]),
+        _ => return 0,
     };
-    let size = size_of_four(&bytes[end..]) as usize;
-    if &bytes[end + 4..] == b"ARROW1".as_slice() && 0 < size && size <= end {
+    let size = size as usize;
+    if 0 < size && size <= end {
         end - size
     } else {
         0

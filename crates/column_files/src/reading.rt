@@ -1,11 +1,11 @@
 //! The columns of the lines of a source, one after another.
-ghost use Rattle.std.specs.Prelude.{◌≡◌, ◌+◌, ◌-◌, ◌^◌, ◌≤◌, ◌||◌, false, min, length, drop, take, [], IfOk, IfSome, OnErr, IfErr};
+ghost use Rattle.std.specs.Prelude.{◌≡◌, ◌+◌, ◌≤◌, ◌||◌, false, min, length, drop, take, [], IfOk, IfSome, OnErr, IfErr};
 ghost use Rattle.std.specs.Io.KnownBytes.{Keeps, prepend_known};
 ghost use Rattle.memchr.specs.Find.{is_byte, Passes, Nowhere, IsFirstByte};
 ghost use Rattle.column_files.specs.Lines.{line_feed, is_blank};
 ghost use Rattle.column_files.specs.Sources.{ReadsBehind};
 ghost use Rattle.column_files.specs.ReadErrors.{IsReadError, IsNoSignal};
-ghost use Rattle.column_files.specs.Reading.{ahead, passed, has_column, text_left, HasLine, IsUnfinished, PassesLines, answered, is_column, IsNext};
+ghost use Rattle.column_files.specs.Reading.{ahead, max_lines, passed, has_column, text_left, HasLine, IsUnfinished, PassesLines, answered, is_column, IsNext};
 
 use crate::columns::FileFault;
 use crate::fault::ReadFault;
@@ -117,8 +117,8 @@ impl<R: Read> LineColumns<R> {
     fn pass_line(&mut self, len: usize)
         ensures ahead { ahead self.new ≡ drop (len + 1) (ahead self.old) }
         ensures source { self.new.source ≡ self.old.source }
-        ensures counted { self.new.count ≡ min (self.old.count + 1) (2 ^ 64 - 1) }
-        ensures column { self.new.has_column ≡ self.old.has_column }
+        ensures counted { passed self.new ≡ min (passed self.old + 1) max_lines }
+        ensures column { has_column self.new ≡ has_column self.old }
     {
         self.start = self.start.saturating_add(len).saturating_add(1);
         self.count = self.count.saturating_add(1);
@@ -127,8 +127,8 @@ impl<R: Read> LineColumns<R> {
     /// Reads until the next line is held, and says how many bytes it has, its line feed not among them; or that there is none.
     fn hold_line(&mut self) -> Result<Option<usize>, ReadFault>
         ensures text { Keeps (text_left R.remaining self.old) (text_left R.remaining self.new) }
-        ensures counted { self.new.count ≡ self.old.count }
-        ensures column { self.new.has_column ≡ self.old.has_column }
+        ensures counted { passed self.new ≡ passed self.old }
+        ensures column { has_column self.new ≡ has_column self.old }
         ensures line { IfOk result (HasLine (ahead self.new) (R.remaining self.new.source)) }
         ensures err { IfErr result (IsUnfinished self.new.count (ahead self.new)) }
     {
@@ -157,8 +157,8 @@ impl<R: Read> LineColumns<R> {
         ensures err { OnErr result ((ahead self.new ≡ ahead self.old) × Keeps (R.remaining self.old.source) (R.remaining self.new.source)) }
         ensures kind { IfErr result IsReadError }
         ensures signal { IfErr result IsNoSignal }
-        ensures counted { self.new.count ≡ self.old.count }
-        ensures column { self.new.has_column ≡ self.old.has_column }
+        ensures counted { passed self.new ≡ passed self.old }
+        ensures column { has_column self.new ≡ has_column self.old }
     {
         self.end = move_front(&mut self.buffer, self.start, self.end);
         self.start = 0;

@@ -4,8 +4,8 @@ ghost use Rattle.std.specs.Io.KnownBytes.{IsAtEnd};
 ghost use Rattle.column_files.specs.Forms.{IsForm};
 ghost use Rattle.column_files.specs.Sources.{GivesUpTo};
 ghost use Rattle.column_files.specs.ReadErrors.{IsReadError};
-ghost use Rattle.column_files.specs.Files.{size_in};
-ghost use Rattle.column_files.specs.Reading.{GivesSchema, GivesEnd, StandsBefore, IsHead, ReadAs};
+ghost use Rattle.column_files.specs.Files.{size_in, HasFooter};
+ghost use Rattle.column_files.specs.Reading.{GivesSchema, GivesEnd, IsEnd, IsHead, ReadAs};
 
 use crate::fault::ReadFault;
 use crate::form::Form;
@@ -17,9 +17,9 @@ use std::io::{Read, Seek, SeekFrom};
 const HEAD_BYTES: u64 = 8;
 
 /// How many bytes stand behind the footer of an Arrow file, and of a Parquet file: its size in four bytes, and the magic.
-const ARROW_TAIL: u64 = 10;
+const ARROW_TAIL: usize = 10;
 
-const PARQUET_TAIL: u64 = 8;
+const PARQUET_TAIL: usize = 8;
 
 /// The first eight bytes of a source, from which `form_of` tells the format; all of them, where there are fewer. Errs where the source fails,
 /// and when out of memory.
@@ -90,7 +90,7 @@ pub fn read_schema_end<S: Read + Seek>(
     source: &mut S,
 ) -> Result<FileEnd, ReadFault>
     ensures ok { IfOk result (λ end. GivesEnd form head.items (S.remaining source.old) (S.remaining source.new) end.bytes.items) }
-    ensures before { IfOk result (λ end. StandsBefore form end.start end.bytes.items) }
+    ensures footer { IfOk result (λ end. IsEnd form end.start end.bytes.items) }
     ensures err { IfErr result IsReadError }
 {
     let tail = match form {
@@ -102,18 +102,33 @@ pub fn read_schema_end<S: Read + Seek>(
         return read_all(form, head, source);
     };
     drop(head);
-    let last = last_of(alloc, source, length, tail)?;
-    let footer = u64::from(size_of_four(last.bytes.as_slice()));
+    read_footer(alloc, source, length, tail)
+}
+
+/// The end of a file of that length that has its footer, whose size the last bytes tell, as many as `tail`; or all. All is read too where the file has
+/// changed since its last bytes were read.
+fn read_footer<S: Read + Seek>(
+    alloc: Global,
+    source: &mut S,
+    length: u64,
+    tail: usize,
+) -> Result<FileEnd, ReadFault>
+    ensures end { OnOk result (IsAtEnd (S.remaining source.new)) }
+    ensures footer { IfOk result (λ end. HasFooter tail end.start end.bytes.items) }
+    ensures err { IfErr result IsReadError }
+{
+    let last = last_of(alloc, source, length, tail as u64)?;
+    let size = u64::from(size_of_four(last.bytes.as_slice()));
     drop(last);
-    let end = last_of(alloc, source, length, footer.saturating_add(tail))?;
-    if end.start == 0 || has_footer(end.bytes.as_slice(), tail as usize) {
+    let end = last_of(alloc, source, length, size.saturating_add(tail as u64))?;
+    if end.start == 0 || has_footer(end.bytes.as_slice(), tail) {
         return Ok(end);
     }
     drop(end);
     last_of(alloc, source, length, u64::MAX)
 }
 
-/// Whether bytes have, before so many at their end, as many as these tell in their first four.
+/// Whether bytes have, before their last ones, as many as `tail`, so many more as these tell.
 fn has_footer(bytes: &[u8], tail: usize) -> bool
     ensures { result ≡ nat_le (tail + size_in (drop (length bytes.now - tail) bytes.now)) (length bytes.now) }
 {
@@ -153,7 +168,7 @@ fn last_of<S: Read + Seek>(
 }
 
 /// The number in the first four bytes, the lowest first.
-pub(crate) fn size_of_four(bytes: &[u8]) -> u32
+fn size_of_four(bytes: &[u8]) -> u32
     ensures { result ≡ size_in bytes.now }
 {
     match bytes {

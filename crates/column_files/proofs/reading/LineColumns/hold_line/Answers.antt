@@ -27,6 +27,6 @@ loop-len-preserved g c =
     let none : HasNoFeed rest = subst (IsFirstByte (is_byte line_feed) rest) c.in_default.is c.feed_in.ensures in
     let read = c.in_ok-read_more.ensures.ok in
     let on = reads_on (text_left g.R.Read.remaining c.args.self.now) (g.R.Read.remaining s.source) (g.R.Read.remaining new.source)
-    (ahead s) (ahead new) read.0 read.1 c.loop-len.invariant.1 read.2 (subst HasNoFeed rest_is none) in
+    (ahead s) (ahead new) read.0 read.1 c.loop-len.invariant.2 read.2 (subst HasNoFeed rest_is none) in
     let seen = subst (λ b. (length b ≤ length (ahead new)) × Nowhere (Passes (is_byte line_feed) (ahead new)) 0 (length b)) (sym rest_is) (on.1, on.2) in
-    (c.read_more.ensures.counted ∙ c.loop-len.invariant.0, on.0, seen.0, seen.1)
+    (c.read_more.ensures.counted ∙ c.loop-len.invariant.0, c.read_more.ensures.column ∙ c.loop-len.invariant.1, on.0, seen.0, seen.1)
