@@ -5,7 +5,7 @@ use Rattle.arrow_values.specs.Tree.{Text}
 use Rattle.check_options.specs.declared.asked.Want.{Want}
 use Rattle.check_options.specs.declared.flags.Flag.{Flag}
 use Rattle.check_options.specs.declared.flags.Flags.{Flags}
-use Rattle.check_options.specs.Flags.{word_of, with_flag}
+use Rattle.check_options.specs.Flags.{IsWordOf, with_flag}
 use Rattle.check_options.specs.Asked.{flag, expects, names, is_option, AskedView, want_view, with_item, waiting, EndsItem, IsUnknown, Stops}
 
 -- nothing waits before a word that is an item by itself
@@ -13,11 +13,11 @@ alone : (waits : Bool) (one word : Text) → waits ≡ false → word ≡ one �
 alone waits one word none is = ap (λ w. w ∷ []) (sym is) ∙ ap (λ b. waiting b ++ word ∷ []) (sym none)
 
 module _ (waits : Bool) (word : Text) (none : waits ≡ false) (old : AskedView) where
-  pub flag_ends : (f : Flag) (flags : Flags) → word ≡ word_of f → flags ≡ with_flag old.flags f → EndsItem waits word old (record { flags = flags; wants = old.wants; files = old.files })
+  pub flag_ends : (f : Flag) (flags : Flags) → IsWordOf f word → flags ≡ with_flag old.flags f → EndsItem waits word old (record { flags = flags; wants = old.wants; files = old.files })
   flag_ends f flags is are =
       let wants = append-nil old.wants in
       let files = append-nil old.files in
-      (flag f, alone waits (word_of f) word none is, tt, cc)
+      (flag f word, alone waits word word none refl, is, cc)
 
   pub file_ends : (files : List Text) → is_option word ≡ false → files ≡ old.files ++ word ∷ [] → EndsItem waits word old (record { flags = old.flags; wants = old.wants; files = files })
   file_ends files is are = let wants = append-nil old.wants in (names word, alone waits word word none refl, is, cc)

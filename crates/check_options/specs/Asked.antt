@@ -8,12 +8,12 @@ use Rattle.check_options.specs.declared.asked.Asked.{Asked}
 use Rattle.check_options.specs.declared.asked.Want.{Want}
 use Rattle.check_options.specs.declared.flags.Flag.{Flag}
 use Rattle.check_options.specs.declared.flags.Flags.{Flags}
-use Rattle.check_options.specs.Flags.{word_of, no_flags, with_flag}
+use Rattle.check_options.specs.Flags.{IsWordOf, no_flags, with_flag}
 use Rattle.check_options.specs.Nearest.{nearest}
 
--- what the words spell, one item after another: a flag, what a column is expected to hold, a file
+-- what the words spell, one item after another: a flag by one of its words, what a column is expected to hold, a file
 pub data Item : Type 0 where
-  flag : Flag → Item
+  flag : Flag → Text → Item
   expects : Text → Text → Item
   names : Text → Item
 
@@ -22,20 +22,21 @@ expect_word = codes "--expect"
 
 -- the words of an item
 abbrev pub words_of : Item → List Text
-words_of (flag f) = word_of f ∷ []
+words_of (flag f word) = word ∷ []
 words_of (expects column want) = expect_word ∷ (column ++ (61 ∷ want)) ∷ []
 words_of (names file) = file ∷ []
 
+-- a word that begins with a minus sign and is not that alone
 abbrev pub is_option : Text → Bool
-is_option word = starts_with nat_eq word (codes "--")
+is_option word = nat_lt 1 (length word) && starts_with nat_eq word (codes "-")
 
 -- an equals sign stands nowhere in a text
 abbrev pub HasNoEquals : Text → Type 0
 HasNoEquals text = (i : ℕ) → i < length text → slice_index text i ≡ 61 → ⊥
 
--- the first equals sign ends the column's name, and no file begins as a flag does
+-- the first equals sign ends the column's name, and no file begins as an option does
 abbrev pub IsItem : Item → Type 0
-IsItem (flag f) = Unit {0}
+IsItem (flag f word) = IsWordOf f word
 IsItem (expects column want) = HasNoEquals column
 IsItem (names file) = is_option file ≡ false
 
@@ -45,7 +46,7 @@ Spell items words = (words ≡ flat_map words_of items) × All IsItem items
 
 -- what an item adds
 abbrev pub flags_in : Flags → Item → Flags
-flags_in fs (flag f) = with_flag fs f
+flags_in fs (flag f word) = with_flag fs f
 flags_in fs item = fs
 
 abbrev pub wants_in : Item → List (Text × Text)
@@ -81,9 +82,9 @@ conflict a =
     if nat_eq (length a.files) 0 then Some (codes "no file is named") else
     if a.flags.ipc && nat_lt 1 (length a.files) then Some (codes "--ipc takes one file") else None
 
--- a word that begins as a flag does, and is none
+-- a word that begins as an option does, and is none
 abbrev pub IsUnknown : Text → Text → Type 0
-IsUnknown word reason = (is_option word ≡ true) × ((f : Flag) → word ≡ word_of f → ⊥) × (word ≡ expect_word → ⊥)
+IsUnknown word reason = (is_option word ≡ true) × ((f : Flag) → IsWordOf f word → ⊥) × (word ≡ expect_word → ⊥)
     × (reason ≡ word ++ (codes " is unknown; " ++ (nearest word ++ codes " is near it")))
 
 -- no item begins these words, for that reason

@@ -15,7 +15,7 @@ nearer word one other = if nat_lt (edits word other) (edits word one) then other
 
 -- the known words behind the first, `--json`
 abbrev pub others : List Text
-others = codes "--lines" ∷ codes "--ipc" ∷ codes "--infer" ∷ codes "--all-checks" ∷ codes "--quiet" ∷ codes "--require-geometry" ∷ codes "--expect" ∷ codes "--help" ∷ codes "--version" ∷ []
+others = codes "--lines" ∷ codes "--ipc" ∷ codes "--infer" ∷ codes "--notes" ∷ codes "--all-checks" ∷ codes "--quiet" ∷ codes "--require-geometry" ∷ codes "--expect" ∷ codes "--help" ∷ codes "--version" ∷ codes "-h" ∷ codes "-V" ∷ []
 
 abbrev pub nearest : Text → Text
 nearest word = fold (nearer word) (codes "--json") others

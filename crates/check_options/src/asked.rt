@@ -2,7 +2,7 @@
 ghost use Rattle.std.specs.Prelude.{◌≡◌, ◌++◌, ◌∷◌, true, IfOk, MatchOption, OnOk, codes, map, option_map, string_bytes};
 ghost use Rattle.arrow_values.specs.Texts.{text_of};
 ghost use Rattle.check_options.specs.Nearest.{nearest};
-ghost use Rattle.check_options.specs.Asked.{asked_view, want_view, conflict, HasNoEquals, IsWordRead, IsAnswer};
+ghost use Rattle.check_options.specs.Asked.{asked_view, want_view, is_option, conflict, HasNoEquals, IsWordRead, IsAnswer};
 
 use crate::flags::{Flags, flag_named, no_flags, with_flag};
 use crate::nearest::nearest;
@@ -28,9 +28,11 @@ pub struct Want {
     pub want: String,
 }
 
-/// What the words ask: flags, `--expect` with the `COLUMN=WANT` behind it, and files; or why they are refused: a word that begins with `--` is
-/// unknown, with the known word that is nearest to it; `--expect` without a `COLUMN=WANT` behind it; flags that exclude one another; no file, or several
-/// with `--ipc`. With `--help` or `--version` only the first two count. Errs only when out of memory.
+/// Returns what the words ask: flags, `--expect` with the `COLUMN=WANT` behind it, and files; or why
+/// they are refused: a word that begins with `-`, and is not `-` alone, is unknown, with the known
+/// word that is nearest to it; `--expect` without a `COLUMN=WANT` behind it; flags that exclude one
+/// another; no file, or several with `--ipc`. With `--help` or `--version` only the first two count.
+/// Errs only when out of memory.
 ///
 /// ```rust
 /// let words = vec![in alloc; String::from_str(alloc, "--jsno")?]?;
@@ -83,11 +85,18 @@ fn read_word(
         asked.flags = with_flag(asked.flags, flag);
         return Ok(Ok(false));
     }
-    if word.starts_with("--") {
+    if is_option(word) {
         return Ok(Err(unknown(alloc, word)?));
     }
     asked.files.push(String::from_str(alloc, word)?)?;
     Ok(Ok(false))
+}
+
+/// Whether a word begins as an option does.
+fn is_option(word: &str) -> bool
+    ensures { result ≡ is_option word.now }
+{
+    word.len() > 1 && word.starts_with("-")
 }
 
 /// Notes what a column is expected to hold; or why the word is refused.

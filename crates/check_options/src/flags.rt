@@ -1,7 +1,7 @@
 //! The words that stand alone.
 ghost use Rattle.std.specs.Prelude.{◌≡◌, ◌↔◌, None, Some};
 ghost use Rattle.check_options.specs.declared.flags.Flag.{Flag};
-ghost use Rattle.check_options.specs.Flags.{word_of, no_flags, with_flag, output_of};
+ghost use Rattle.check_options.specs.Flags.{IsWordOf, no_flags, with_flag, output_of};
 
 /// A word that stands alone.
 #[derive(Clone, Copy)]
@@ -10,6 +10,7 @@ pub(crate) enum Flag {
     Lines,
     Ipc,
     Infer,
+    Notes,
     AllChecks,
     Quiet,
     RequireGeometry,
@@ -28,15 +29,17 @@ pub struct Flags {
     pub ipc: bool,
     /// `--infer`: types are inferred for columns without an extension name.
     pub infer: bool,
+    /// `--notes`: what is only to be noted of a column is said too.
+    pub notes: bool,
     /// `--all-checks`: the checks that hold are printed too.
     pub all_checks: bool,
     /// `--quiet`: nothing is printed of columns.
     pub quiet: bool,
     /// `--require-geometry`: a file has a column of geometries.
     pub require_geometry: bool,
-    /// `--help`: the usage.
+    /// `--help` or `-h`: the usage.
     pub help: bool,
-    /// `--version`: the version.
+    /// `--version` or `-V`: the version.
     pub version: bool,
 }
 
@@ -78,19 +81,20 @@ impl Flags {
 
 /// The flag that a word names, or `None`.
 pub(crate) fn flag_named(word: &str) -> Option<Flag>
-    ensures named { (f : Flag) → result ≡ Some f → word.now ≡ word_of f }
-    ensures none { result ≡ None → (f : Flag) → word.now ≡ word_of f → ⊥ }
+    ensures named { (f : Flag) → result ≡ Some f → IsWordOf f word.now }
+    ensures none { result ≡ None → (f : Flag) → IsWordOf f word.now → ⊥ }
 {
     match word {
         "--json" => Some(Flag::Json),
         "--lines" => Some(Flag::Lines),
         "--ipc" => Some(Flag::Ipc),
         "--infer" => Some(Flag::Infer),
+        "--notes" => Some(Flag::Notes),
         "--all-checks" => Some(Flag::AllChecks),
         "--quiet" => Some(Flag::Quiet),
         "--require-geometry" => Some(Flag::RequireGeometry),
-        "--help" => Some(Flag::Help),
-        "--version" => Some(Flag::Version),
+        "--help" | "-h" => Some(Flag::Help),
+        "--version" | "-V" => Some(Flag::Version),
         _ => None,
     }
 }
@@ -104,6 +108,7 @@ pub(crate) fn no_flags() -> Flags
         lines: false,
         ipc: false,
         infer: false,
+        notes: false,
         all_checks: false,
         quiet: false,
         require_geometry: false,
@@ -121,6 +126,7 @@ pub(crate) fn with_flag(mut flags: Flags, flag: Flag) -> Flags
         Flag::Lines => flags.lines = true,
         Flag::Ipc => flags.ipc = true,
         Flag::Infer => flags.infer = true,
+        Flag::Notes => flags.notes = true,
         Flag::AllChecks => flags.all_checks = true,
         Flag::Quiet => flags.quiet = true,
         Flag::RequireGeometry => flags.require_geometry = true,

@@ -7,16 +7,19 @@ use std::alloc::{AllocError, Global};
 use strsim::levenshtein;
 
 /// The known words behind the first, `--json`.
-const OTHERS: [&str; 9] = [
+const OTHERS: [&str; 12] = [
     "--lines",
     "--ipc",
     "--infer",
+    "--notes",
     "--all-checks",
     "--quiet",
     "--require-geometry",
     "--expect",
     "--help",
     "--version",
+    "-h",
+    "-V",
 ];
 
 /// Of two words the one that is nearer, and the first where neither is.

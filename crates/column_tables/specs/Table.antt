@@ -1,6 +1,6 @@
 -- The table of the columns of a file, as text.
-use Rattle.std.specs.Prelude.{ℕ, ◌-◌, max, List, [], ◌∷◌, ◌++◌, length, replicate, codes, map, flat_map, string_bytes}
-use Rattle.std.specs.Str.{chars, trim_end}
+use Rattle.std.specs.Prelude.{ℕ, ◌-◌, max, List, [], ◌∷◌, ◌++◌, length, replicate, take, nat_lt, codes, map, flat_map, string_bytes, if◌then◌else◌}
+use Rattle.std.specs.Str.{chars, encode_utf8_all, trim_end}
 use Rattle.arrow_values.specs.Tree.{Text}
 use Rattle.column_tables.specs.declared.Row.{Row}
 use Rattle.column_tables.specs.declared.table.Rooms.{Rooms}
@@ -26,10 +26,15 @@ line_of row = record {
 abbrev pub head : Line
 head = record { name = codes "column"; holds = codes "holds"; crs = codes "CRS"; edges = codes "edges"; notes = [] }
 
--- how many characters a cell has, and the widest of some cells
+-- how many characters a text has
 abbrev pub width : Text → ℕ
-width cell = length (chars cell)
+width text = length (chars text)
 
+-- a text as a cell, which has at most 40 characters: of a longer one the first 38, and two points
+abbrev pub cut : Text → Text
+cut text = if nat_lt 40 (width text) then encode_utf8_all (take 38 (chars text)) ++ codes ".." else text
+
+-- the width of the widest of some cells
 abbrev pub widest : List Text → ℕ
 widest [] = 0
 widest (cell ∷ cells) = max (width cell) (widest cells)

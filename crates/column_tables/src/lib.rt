@@ -1,11 +1,13 @@
-//! The table of the columns of a file, for people: [`table_text`] writes its rows below one another.
+//! The table of the columns of a file, for people: [`cut`] makes the cells of its rows, and [`table_text`] writes the rows below one another.
 #![tactic(auto)]
 
+mod cell;
 mod table;
 
+pub use cell::cut;
 pub use table::table_text;
 
-/// What a table says of a column: the cells of its line, and the notes below it.
+/// What a table says of a column: the cells of its line, each a text that [`cut`] gives, and the notes below it.
 #[derive(Debug, Drop)]
 pub struct Row {
     /// The name of the column.

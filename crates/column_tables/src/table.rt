@@ -3,10 +3,14 @@ ghost use Rattle.std.specs.Prelude.{◌≡◌, ◌++◌, ◌∷◌, max, IfOk, O
 ghost use Rattle.column_tables.specs.Table.{line_of, head, width, rooms_of, padded, trimmed, note_text, cells_text, line_text, table_text};
 
 use crate::Row;
+use crate::cell::width;
 use std::alloc::{AllocError, Global};
 
 /// How many bytes a line has room for before it grows.
 const LINE_BYTES: usize = 120;
+
+/// As many blanks as a cell has characters at most.
+const BLANKS: &str = "                                        ";
 
 /// How many characters the widest cell of each column has, but for the last column.
 #[derive(Clone, Copy)]
@@ -16,9 +20,10 @@ pub(crate) struct Rooms {
     crs: usize,
 }
 
-/// The rows as lines below a head: `column`, `holds`, `CRS` and `edges`. Each column is as wide as its widest cell, in characters, with two blanks
-/// between columns; each note has a line of its own below that of its row, behind four blanks. White space at the end of a line is left out. Errs
-/// only when out of memory.
+/// Returns the rows as lines below a head: `column`, `holds`, `CRS` and `edges`. Each column is as
+/// wide as its widest cell, in characters, with two blanks between columns; each note has a line of
+/// its own below that of its row, behind four blanks. White space at the end of a line is left out
+/// (`docs/FORMAT.md`, 2.7). Errs only when out of memory.
 ///
 /// ```rust
 /// let name = String::from_str(alloc, "id")?;
@@ -80,14 +85,6 @@ fn widened(rooms: Rooms, row: &Row) -> Rooms
     }
 }
 
-/// How many characters a text has.
-#[tactic(auto, using(std::proofs::lemmas::Str::chars_from_encodes))]
-fn width(text: &str) -> usize
-    ensures { result ≡ width text.now }
-{
-    text.chars().count()
-}
-
 /// Adds the line of a row, and its notes.
 fn push_row(alloc: Global, text: &mut String, rooms: Rooms, row: &Row) -> Result<(), AllocError>
     ensures { OnOk result (string_bytes text.new ≡ string_bytes text.old ++ line_text rooms (line_of row.now)) }
@@ -118,14 +115,14 @@ fn push_padded(text: &mut String, room: usize, cell: &str) -> Result<(), AllocEr
     text.push_str("  ")
 }
 
-/// Adds so many blanks.
+/// Adds so many blanks: at once where they are not more than a cell has characters.
 fn push_blanks(text: &mut String, count: usize) -> Result<(), AllocError>
     ensures { OnOk result (string_bytes text.new ≡ string_bytes text.old ++ replicate count 32) }
 {
-    for _ in 0..count {
-        text.push_str(" ")?;
+    for _ in 0..count / BLANKS.len() {
+        text.push_str(BLANKS)?;
     }
-    Ok(())
+    text.push_str(&BLANKS[..count % BLANKS.len()])
 }
 
 /// Adds a line, without the white space at its end.

@@ -1,5 +1,5 @@
 -- What is said of a column, as a row of a table.
-use Rattle.std.specs.Prelude.{◌≡◌, List, [], ◌++◌, codes, map, None, Some}
+use Rattle.std.specs.Prelude.{◌≡◌, Bool, List, [], ◌++◌, codes, map, None, Some}
 use Rattle.std.specs.Option.{unwrap_or}
 use Rattle.arrow_values.specs.Tree.{Text}
 use Rattle.arrow_columns.specs.Column.{ColumnTree, name_on}
@@ -11,7 +11,7 @@ use Rattle.column_check.specs.Warnings.{AreWarnings}
 use Rattle.column_reports.specs.Reasons.{words_of}
 use Rattle.column_reports.specs.Report.{type_word, edges_of}
 use Rattle.column_reports.specs.Warnings.{warning_words}
-use Rattle.column_tables.specs.Table.{Line}
+use Rattle.column_tables.specs.Table.{Line, cut}
 use Rattle.report_words.specs.Crs.{crs_of_geometry}
 use Rattle.report_words.specs.Shown.{shown}
 
@@ -32,16 +32,16 @@ abbrev pub reasons_in : ColumnFinding → List Text
 reasons_in (Invalid r) = words_of r
 reasons_in f = []
 
--- the row: the column's name, what it holds, of geometries their CRS and edges, and as notes the reasons and the warnings
+-- the row: the column's name, what it holds, of geometries their CRS and edges, in cells that are cut; and as notes the reasons and the warnings
 abbrev pub row_of : ColumnTree → ColumnFinding → List Warning → Line
 row_of c f ws = record {
-  name = shown c.name;
-  holds = held c f;
+  name = cut (shown c.name);
+  holds = cut (held c f);
   crs = crs_of_geometry (geometry_in f);
   edges = unwrap_or (edges_of (geometry_in f)) [];
   notes = map shown (reasons_in f ++ map warning_words ws);
 }
 
--- the row with the warnings that the column has
-abbrev pub IsRowOf : ColumnTree → ColumnFinding → Line → Type 0
-IsRowOf c f row = (ws : List Warning) × AreWarnings c f ws × (row ≡ row_of c f ws)
+-- the row with the warnings that the column has, where notes are asked for or not
+abbrev pub IsRowOf : Bool → ColumnTree → ColumnFinding → Line → Type 0
+IsRowOf notes c f row = (ws : List Warning) × AreWarnings notes c f ws × (row ≡ row_of c f ws)

@@ -7,7 +7,8 @@ use Rattle.arrow_values.specs.Tree.{Text}
 use Rattle.column_check.specs.declared.finding.Geometry.{Geometry as GeometryColumn}
 use Rattle.geoparquet.specs.Values.{at, text_of_value}
 use Rattle.geoparquet.specs.Identifiers.{code_text}
-use Rattle.report_words.specs.Shown.{shown, first_shown}
+use Rattle.column_tables.specs.Table.{cut}
+use Rattle.report_words.specs.Shown.{shown, blanked}
 
 -- a member of the id of a PROJJSON
 abbrev pub in_id : Text → Data → Option Data
@@ -25,7 +26,7 @@ identifier_shown authority (Some code) = shown authority ++ (codes ":" ++ code_s
 
 -- the name of a CRS, if it has one
 abbrev pub name_shown : Option Text → Text
-name_shown (Some name) = first_shown name
+name_shown (Some name) = blanked name
 name_shown None = codes "a CRS"
 
 -- a CRS that is no text: by the authority in its id, if it has one, and else by its name
@@ -33,11 +34,15 @@ abbrev pub value_shown : Data → Option Text → Text
 value_shown crs (Some authority) = identifier_shown authority (in_id (codes "code") crs)
 value_shown crs None = name_shown (text_of_value (get (codes "name") crs))
 
--- a CRS: a text by its first characters, any other value as above, and nothing where there is none
+-- a CRS in full: a text itself, any other value as above, and nothing where there is none
+abbrev pub crs_shown : Option Data → Text
+crs_shown None = []
+crs_shown (Some (string text)) = blanked text
+crs_shown (Some crs) = value_shown crs (text_of_value (in_id (codes "authority") crs))
+
+-- a CRS as the cell of a table
 abbrev pub crs_name : Option Data → Text
-crs_name None = []
-crs_name (Some (string text)) = first_shown text
-crs_name (Some crs) = value_shown crs (text_of_value (in_id (codes "authority") crs))
+crs_name crs = cut (crs_shown crs)
 
 -- the CRS of geometries
 abbrev pub crs_of_geometry : Option GeometryColumn → Text

@@ -5,6 +5,8 @@ use Rattle.arrow_ipc.specs.declared.fault.IpcError.{IpcError}
 use Rattle.arrow_ipc.specs.declared.fault.IpcError.TheVariants as ipc
 use Rattle.column_files.specs.declared.columns.FileFault.{FileFault}
 use Rattle.column_files.specs.declared.columns.FileFault.TheVariants as files
+use Rattle.column_files.specs.declared.form.Form.{Form}
+use Rattle.column_files.specs.declared.form.Form.TheVariants.{ArrowFile, Parquet}
 use Rattle.column_files.specs.declared.line.LineFault.{LineFault}
 use Rattle.column_files.specs.declared.line.LineFault.TheVariants.{NotUtf8, NotJson, NotObject, Name, Nullable, Metadata, TypeUnknown}
 use Rattle.parquet_footer.specs.declared.fault.Rule.{Rule}
@@ -23,8 +25,13 @@ at_line n words = at_place (codes "line ") n (codes ": ") words
 abbrev pub at_line_byte : ℕ → ℕ → Text → Text
 at_line_byte n byte words = at_place (codes "line ") n (codes ", ") (at_place (codes "byte ") byte (codes ": ") words)
 
-abbrev pub at_message_byte : ℕ → Text → Text
-at_message_byte byte words = at_place (codes "byte ") byte (codes " of the message: ") words
+-- a byte of an Arrow file is counted in the file, one of a stream or of a stored schema in its message
+abbrev pub behind_byte : Form → Text
+behind_byte ArrowFile = codes ": "
+behind_byte form = codes " of the message: "
+
+abbrev pub at_byte : Form → ℕ → Text → Text
+at_byte form byte words = at_place (codes "byte ") byte (behind_byte form) words
 
 abbrev pub at_footer_byte : ℕ → Text → Text
 at_footer_byte byte words = at_place (codes "byte ") byte (codes " of the footer: ") words
@@ -64,11 +71,15 @@ footer_rule rules.Union = codes "a union has no field, or several"
 footer_rule rules.Utf8 = codes "a text is not UTF-8"
 footer_rule rules.Name = codes "a number denotes no name of the format"
 
--- why the schema of a message is not read; the words of a rule are those that its type displays
-abbrev pub IsMessageProblem : IpcError → Text → Type 0
-IsMessageProblem (ipc.Broken fault) text = (words : Text) × (text ≡ at_message_byte fault.at words)
-IsMessageProblem (ipc.Budget at) text = text ≡ at_message_byte at (codes "more is to be read than eight times its bytes")
-IsMessageProblem ipc.OutOfMemory text = text ≡ out_of_memory
+-- the limit that a file's report has
+abbrev pub too_large : Text
+too_large = codes "the report would have more than 1048576 bytes and 32 for each byte read"
+
+-- why the schema of a message or of a footer is not read; the words of a rule are those that its type displays
+abbrev pub IsMessageProblem : Form → IpcError → Text → Type 0
+IsMessageProblem form (ipc.Broken fault) text = (words : Text) × (text ≡ at_byte form fault.at words)
+IsMessageProblem form (ipc.Budget at) text = text ≡ at_byte form at (codes "more is to be read than eight times its bytes")
+IsMessageProblem form ipc.OutOfMemory text = text ≡ out_of_memory
 
 -- why the columns of a Parquet file are not read; the words of an element's rule are those that its type displays
 abbrev pub IsParquetProblem : SchemaError → Text → Type 0
@@ -79,13 +90,16 @@ IsParquetProblem (schemas.Footer footers.Memory) text = text ≡ out_of_memory
 IsParquetProblem schemas.Cut text = text ≡ codes "the footer is larger than the file"
 IsParquetProblem (schemas.Elements fault) text = (words : Text) × (text ≡ at_element fault.at words)
 IsParquetProblem (schemas.Encoding e) text = text ≡ codes "the schema at ARROW:schema is not base64"
-IsParquetProblem (schemas.Ipc error) text = (words : Text) × IsMessageProblem error words × (text ≡ codes "the schema at ARROW:schema: " ++ words)
+IsParquetProblem (schemas.Ipc error) text = (words : Text) × IsMessageProblem Parquet error words × (text ≡ codes "the schema at ARROW:schema: " ++ words)
 IsParquetProblem schemas.Names text = text ≡ codes "the schema at ARROW:schema has columns of other names"
+IsParquetProblem schemas.Budget text = text ≡ too_large
 IsParquetProblem schemas.OutOfMemory text = text ≡ out_of_memory
 
--- why the columns of a file are not read
-abbrev pub IsProblem : FileFault → Text → Type 0
-IsProblem (files.NoField before fault) text = text ≡ line_problem (before + 1) fault
-IsProblem (files.Ipc error) text = IsMessageProblem error text
-IsProblem (files.Parquet error) text = IsParquetProblem error text
-IsProblem files.OutOfMemory text = text ≡ out_of_memory
+-- why the columns of a file of that form are not read or reported
+abbrev pub IsProblem : Form → FileFault → Text → Type 0
+IsProblem form (files.NoField before fault) text = text ≡ line_problem (before + 1) fault
+IsProblem form files.Empty text = text ≡ codes "is empty"
+IsProblem form files.ReportTooLarge text = text ≡ too_large
+IsProblem form (files.Ipc error) text = IsMessageProblem form error text
+IsProblem form (files.Parquet error) text = IsParquetProblem error text
+IsProblem form files.OutOfMemory text = text ≡ out_of_memory

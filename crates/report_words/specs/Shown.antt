@@ -1,5 +1,5 @@
 -- Texts as they are shown to people: on one line, so that they change nothing of a terminal.
-use Rattle.std.specs.Prelude.{ℕ, map, take, if◌then◌else◌}
+use Rattle.std.specs.Prelude.{ℕ, map, if◌then◌else◌}
 use Rattle.std.specs.Str.{chars, encode_utf8_all}
 use Rattle.std.specs.Char.{is_control}
 use Rattle.arrow_values.specs.Tree.{Text}
@@ -12,6 +12,6 @@ shown_as mark c = if is_control c then mark else c
 abbrev pub shown : Text → Text
 shown text = encode_utf8_all (map (shown_as 63) (chars text))
 
--- the first 40 characters of a text, with a blank in place of each control character
-abbrev pub first_shown : Text → Text
-first_shown text = encode_utf8_all (map (shown_as 32) (take 40 (chars text)))
+-- a text with a blank in place of each control character
+abbrev pub blanked : Text → Text
+blanked text = encode_utf8_all (map (shown_as 32) (chars text))

@@ -5,7 +5,7 @@ ghost use Rattle.arrow_columns.specs.Column.{column_tree};
 ghost use Rattle.column_check.specs.States.{geometry_in};
 ghost use Rattle.column_reports.specs.Report.{edges_of};
 ghost use Rattle.column_reports.specs.Warnings.{warning_words};
-ghost use Rattle.column_tables.specs.Table.{line_of};
+ghost use Rattle.column_tables.specs.Table.{line_of, cut};
 ghost use Rattle.report_words.specs.Columns.{extension_word, held, reasons_in, IsRowOf};
 ghost use Rattle.report_words.specs.Crs.{crs_of_geometry};
 ghost use Rattle.report_words.specs.Shown.{shown};
@@ -15,23 +15,46 @@ use crate::text::shown;
 use arrow_columns::Column;
 use column_check::{Finding, Geometry, Warning, warnings};
 use column_reports::{reason_words, type_word, warning_words};
-use column_tables::Row;
+use column_tables::{Row, cut};
 use std::alloc::{AllocError, Global};
 
-/// The row of a column, of which that is said: its name; the kind, coordinate type and dimension of geometries, or the type of another column, and
-/// `invalid` or `extension` with the extension name; the CRS and the edges of geometries; and as notes the reasons and the warnings (`docs/FORMAT.md`,
-/// 2.5 and 2.6). Control characters are shown as `?`. Errs only when out of memory.
-pub fn row_of(alloc: Global, column: &Column, finding: &Finding) -> Result<Row, AllocError>
-    ensures { IfOk result (λ row. IsRowOf (column_tree column.now) finding.now (line_of row)) }
+/// Returns the row of a column, of which that is said: its name; the kind, coordinate type and
+/// dimension of geometries, or the type of another column, and `invalid` or `extension` with the
+/// extension name; the CRS and the edges of geometries; and below it the reasons and the warnings,
+/// with `notes` also those that are only to be noted (`docs/FORMAT.md`, 2.5 to 2.7). Cells are cut
+/// by [`cut`], and control characters are shown as `?`. Errs only when out of memory.
+pub fn row_of(
+    alloc: Global,
+    column: &Column,
+    finding: &Finding,
+    notes: bool,
+) -> Result<Row, AllocError>
+    ensures { IfOk result (λ row. IsRowOf notes (column_tree column.now) finding.now (line_of row)) }
 {
-    let warnings = warnings(alloc, column, finding)?;
+    let warnings = warnings(alloc, column, finding, notes)?;
     Ok(Row {
-        name: shown(alloc, column.name.as_str())?,
-        holds: held(alloc, column, finding)?,
+        name: name_cell(alloc, column)?,
+        holds: held_cell(alloc, column, finding)?,
         crs: crs_of(alloc, finding.geometry())?,
         edges: edges_of(alloc, finding.geometry())?,
         notes: notes_of(alloc, finding, warnings.as_slice())?,
     })
+}
+
+/// The name of a column, as a cell.
+fn name_cell(alloc: Global, column: &Column) -> Result<String, AllocError>
+    ensures { IfOk result (λ cell. string_bytes cell ≡ cut (shown (string_bytes column.now.name))) }
+{
+    let name = shown(alloc, column.name.as_str())?;
+    cut(alloc, name.as_str())
+}
+
+/// What a column holds, as a cell.
+fn held_cell(alloc: Global, column: &Column, finding: &Finding) -> Result<String, AllocError>
+    ensures { IfOk result (λ cell. string_bytes cell ≡ cut (held (column_tree column.now) finding.now)) }
+{
+    let held = held(alloc, column, finding)?;
+    cut(alloc, held.as_str())
 }
 
 /// What a column holds.

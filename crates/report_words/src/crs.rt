@@ -4,15 +4,17 @@ ghost use Rattle.serde_json.specs.View.{view};
 ghost use Rattle.arrow_values.specs.Texts.{text_of};
 ghost use Rattle.geoparquet.specs.Identifiers.{code_text};
 ghost use Rattle.geoparquet.specs.Values.{at, text_of_value};
-ghost use Rattle.report_words.specs.Crs.{in_id, code_shown, identifier_shown, name_shown, value_shown, crs_name};
+ghost use Rattle.report_words.specs.Crs.{in_id, code_shown, identifier_shown, name_shown, value_shown, crs_shown, crs_name};
 
-use crate::text::{first_shown, shown};
+use crate::text::{blanked, shown};
+use column_tables::cut;
 use geoparquet::text_in;
 use serde_json::Value;
 use std::alloc::{AllocError, Global};
 
-/// A CRS for people: a text by its first 40 characters; PROJJSON by the authority and the code of its id, as `EPSG:4326`, or else by the first
-/// characters of its name, or as `a CRS`; and nothing where there is none. Errs only when out of memory.
+/// Returns a CRS for people: a text itself; PROJJSON by the authority and the code of its id, as
+/// `EPSG:4326`, or else by its name, or as `a CRS`; and nothing where there is none. It is cut by
+/// [`cut`] (`docs/FORMAT.md`, 2.7). Errs only when out of memory.
 ///
 /// ```rust
 /// let crs = Value::from_str(alloc, r#"{"id":{"authority":"EPSG","code":4326},"name":"WGS 84"}"#)?;
@@ -21,11 +23,19 @@ use std::alloc::{AllocError, Global};
 pub fn crs_name(alloc: Global, crs: Option<&Value>) -> Result<String, AllocError>
     ensures { IfOk result (λ name. string_bytes name ≡ crs_name (option_map (λ v. view v.now) crs.entry)) }
 {
+    let shown = crs_shown(alloc, crs)?;
+    cut(alloc, shown.as_str())
+}
+
+/// A CRS in full.
+fn crs_shown(alloc: Global, crs: Option<&Value>) -> Result<String, AllocError>
+    ensures { IfOk result (λ text. string_bytes text ≡ crs_shown (option_map (λ v. view v.now) crs.entry)) }
+{
     let Some(crs) = crs else {
         return Ok(String::new(alloc));
     };
     if let Some(text) = crs.as_str() {
-        return first_shown(alloc, text);
+        return blanked(alloc, text);
     }
     value_shown(alloc, crs, text_in(in_id(crs, "authority")))
 }
@@ -62,7 +72,7 @@ fn name_shown(alloc: Global, name: Option<&str>) -> Result<String, AllocError>
     ensures { IfOk result (λ text. string_bytes text ≡ name_shown (text_of name.entry)) }
 {
     match name {
-        Some(name) => first_shown(alloc, name),
+        Some(name) => blanked(alloc, name),
         None => String::from_str(alloc, "a CRS"),
     }
 }

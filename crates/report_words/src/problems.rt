@@ -1,10 +1,11 @@
 //! Why a file is not read, in words.
 ghost use Rattle.std.specs.Prelude.{◌≡◌, ◌+◌, IfOk, string_bytes};
 ghost use Rattle.arrow_values.specs.Tree.{Text};
-ghost use Rattle.report_words.specs.Problems.{at_place, at_line, at_line_byte, long_line, line_problem, footer_rule, IsMessageProblem, IsParquetProblem, IsProblem};
+ghost use Rattle.column_files.specs.declared.form.Form.TheVariants.{Parquet};
+ghost use Rattle.report_words.specs.Problems.{at_place, at_line, at_line_byte, long_line, line_problem, footer_rule, behind_byte, IsMessageProblem, IsParquetProblem, IsProblem};
 
 use arrow_ipc::IpcError;
-use column_files::{FileFault, LineFault};
+use column_files::{FileFault, Form, LineFault};
 use parquet_footer::{FooterError, Rule};
 use parquet_schema::SchemaError;
 use std::alloc::{AllocError, Global};
@@ -12,19 +13,26 @@ use std::fmt::Display;
 
 const OUT_OF_MEMORY: &str = "out of memory";
 
-/// Why the columns of a file are not read: the place in the file, if the fault has one, and what is wrong there. Lines and their bytes are counted
-/// from 1, the bytes of a message or a footer and the elements of a schema from 0. Errs only when out of memory.
+const TOO_LARGE: &str = "the report would have more than 1048576 bytes and 32 for each byte read";
+
+/// Returns why the columns of a file of that form are not read or reported: the place, if the fault
+/// has one, and what is wrong there (`docs/FORMAT.md`, 2.7). Lines and their bytes are counted from
+/// 1; from 0 the bytes of an Arrow file, of a stream's message, or of a Parquet footer, and the
+/// elements of a schema. Errs only when out of memory.
 ///
 /// ```rust
 /// let fault = FileFault::NoField(1, LineFault::NotObject);
-/// assert_eq!(rt; problem_text(alloc, &fault)?.as_str(), "line 2: is JSON, but no object");
+/// let text = problem_text(alloc, Form::Lines, &fault)?;
+/// assert_eq!(rt; text.as_str(), "line 2: is JSON, but no object");
 /// ```
-pub fn problem_text(alloc: Global, fault: &FileFault) -> Result<String, AllocError>
-    ensures { IfOk result (λ text. IsProblem fault.now (string_bytes text)) }
+pub fn problem_text(alloc: Global, form: Form, fault: &FileFault) -> Result<String, AllocError>
+    ensures { IfOk result (λ text. IsProblem form fault.now (string_bytes text)) }
 {
     match fault {
         FileFault::NoField(before, fault) => line_problem(alloc, *before as u128 + 1, *fault),
-        FileFault::Ipc(error) => message_problem(alloc, error),
+        FileFault::Empty => String::from_str(alloc, "is empty"),
+        FileFault::ReportTooLarge => String::from_str(alloc, TOO_LARGE),
+        FileFault::Ipc(error) => message_problem(alloc, form, error),
         FileFault::Parquet(error) => parquet_problem(alloc, error),
         FileFault::OutOfMemory => String::from_str(alloc, OUT_OF_MEMORY),
     }
@@ -134,19 +142,28 @@ fn footer_rule(rule: Rule) -> &'static str
     }
 }
 
-/// Why the schema of a message is not read.
-fn message_problem(alloc: Global, error: &IpcError) -> Result<String, AllocError>
-    ensures { IfOk result (λ text. IsMessageProblem error.now (string_bytes text)) }
+/// What stands behind the number of a byte.
+fn behind_byte(form: Form) -> &'static str
+    ensures { result.now ≡ behind_byte form }
 {
+    match form {
+        Form::ArrowFile => ": ",
+        Form::ArrowStream | Form::Parquet | Form::Lines => " of the message: ",
+    }
+}
+
+/// Why the schema of a message or of a footer is not read.
+fn message_problem(alloc: Global, form: Form, error: &IpcError) -> Result<String, AllocError>
+    ensures { IfOk result (λ text. IsMessageProblem form error.now (string_bytes text)) }
+{
+    let behind = behind_byte(form);
     match error {
-        IpcError::Broken(fault) => {
-            at_fault(alloc, "byte ", fault.at, " of the message: ", &fault.rule)
-        }
+        IpcError::Broken(fault) => at_fault(alloc, "byte ", fault.at, behind, &fault.rule),
         IpcError::Budget(at) => at_place(
             alloc,
             "byte ",
             *at as u128,
-            " of the message: ",
+            behind,
             "more is to be read than eight times its bytes",
         ),
         IpcError::OutOfMemory => String::from_str(alloc, OUT_OF_MEMORY),
@@ -171,6 +188,7 @@ fn parquet_problem(alloc: Global, error: &SchemaError) -> Result<String, AllocEr
             alloc,
             "the schema at ARROW:schema has columns of other names",
         ),
+        SchemaError::Budget => String::from_str(alloc, TOO_LARGE),
         SchemaError::OutOfMemory => String::from_str(alloc, OUT_OF_MEMORY),
     }
 }
@@ -199,7 +217,7 @@ fn footer_problem(alloc: Global, error: &FooterError) -> Result<String, AllocErr
 fn stored_problem(alloc: Global, error: &IpcError) -> Result<String, AllocError>
     ensures { IfOk result (λ text. IsParquetProblem (SchemaError.Ipc error.now) (string_bytes text)) }
 {
-    let words = message_problem(alloc, error)?;
+    let words = message_problem(alloc, Form::Parquet, error)?;
     let mut text = String::from_str(alloc, "the schema at ARROW:schema: ")?;
     text.push_str(words.as_str())?;
     Ok(text)

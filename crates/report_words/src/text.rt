@@ -1,12 +1,9 @@
 //! Texts as they are shown to people.
 ghost use Rattle.std.specs.Prelude.{◌≡◌, IfOk, map, string_bytes};
 ghost use Rattle.std.specs.Str.{chars, encode_utf8_all};
-ghost use Rattle.report_words.specs.Shown.{shown_as, shown, first_shown};
+ghost use Rattle.report_words.specs.Shown.{shown_as, shown, blanked};
 
 use std::alloc::{AllocError, Global};
-
-/// How many characters of a CRS are shown.
-const FIRST: usize = 40;
 
 /// A character, or the mark in place of a control character.
 fn shown_as(mark: char, character: char) -> char
@@ -19,8 +16,8 @@ fn shown_as(mark: char, character: char) -> char
     }
 }
 
-/// A text with `?` in place of each control character, so that it stands on one line and changes nothing of a terminal. Errs only when out of
-/// memory.
+/// Returns a text with `?` in place of each control character, so that it stands on one line and
+/// changes nothing of a terminal (`docs/FORMAT.md`, 2.7). Errs only when out of memory.
 ///
 /// ```rust
 /// assert_eq!(rt; shown(alloc, "flag\u{1b}[1m")?.as_str(), "flag?[1m");
@@ -32,12 +29,11 @@ pub fn shown(alloc: Global, text: &str) -> Result<String, AllocError>
     marked(alloc, '?', characters.as_slice())
 }
 
-/// The first characters of a text, with a blank in place of each control character.
-pub(crate) fn first_shown(alloc: Global, text: &str) -> Result<String, AllocError>
-    ensures { IfOk result (λ s. string_bytes s ≡ first_shown text.now) }
+/// A text with a blank in place of each control character.
+pub(crate) fn blanked(alloc: Global, text: &str) -> Result<String, AllocError>
+    ensures { IfOk result (λ s. string_bytes s ≡ blanked text.now) }
 {
-    let mut characters = characters_of(alloc, text)?;
-    characters.truncate(FIRST);
+    let characters = characters_of(alloc, text)?;
     marked(alloc, ' ', characters.as_slice())
 }
 
