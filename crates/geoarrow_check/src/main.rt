@@ -7,7 +7,7 @@ mod source;
 use crate::report::Report;
 use crate::source::{Failure, report_columns};
 use check_options::{Asked, asked_by};
-use column_files::{MAX_LINE_BYTES, ReadFault};
+use column_files::{Form, MAX_LINE_BYTES, ReadFault};
 use report_words::{long_line_text, problem_text, shown};
 use std::alloc::{AllocError, Global};
 use std::io::{ErrorKind, Write};
@@ -55,18 +55,18 @@ fn print_report(rt: &HostRuntime, file: &str, report: &mut Report<'_>) -> io::Re
         Err(Failure::Output(error)) => return Err(error),
         Err(Failure::Input(fault)) => fault,
     };
-    let problem = problem_of(rt.alloc(), fault)?;
+    let problem = problem_of(rt.alloc(), report.form(), fault)?;
     report.write_before(rt)?;
     report.say(rt, problem.as_str())?;
     Ok(2)
 }
 
 /// Why a file cannot be read.
-fn problem_of(alloc: Global, fault: ReadFault) -> Result<String, AllocError> {
+fn problem_of(alloc: Global, form: Form, fault: ReadFault) -> Result<String, AllocError> {
     match fault {
         ReadFault::Input(error) => format!(in alloc; "{error}"),
         ReadFault::LongLine(before) => long_line_text(alloc, before, MAX_LINE_BYTES),
-        ReadFault::File(fault) => problem_text(alloc, &fault),
+        ReadFault::File(fault) => problem_text(alloc, form, &fault),
     }
 }
 

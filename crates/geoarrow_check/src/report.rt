@@ -5,12 +5,12 @@ use arrow_columns::Column;
 use arrow_ipc::{Endianness, Schema, write_schema};
 use check_options::{Asked, Output};
 use column_check::{Finding, check_column};
-use column_files::{FileFault, MAX_LINE_BYTES, column_line, report_budget};
+use column_files::{FileFault, Form, MAX_LINE_BYTES, column_line, report_budget};
 use column_tables::{Row, table_text};
 use file_reports::column_line_of;
 use geoparquet::GeoFinding;
 use json::Scratch;
-use report_words::{Found, checked_lines, checked_text, has_failed, row_of, shown_name};
+use report_words::{Found, checked_lines, checked_text, has_failed, row_of, shown};
 use std::alloc::{AllocError, Global};
 use std::collections::BTreeMap;
 use std::io::Write;
@@ -41,8 +41,8 @@ pub(crate) struct Report<'a> {
     limit: u128,
     /// How many they have.
     size: u128,
-    /// Whether the columns are those of a schema.
-    is_schema: bool,
+    /// The format of the file.
+    form: Form,
 }
 
 impl<'a> Report<'a> {
@@ -52,7 +52,7 @@ impl<'a> Report<'a> {
         Ok(Report {
             asked,
             file,
-            shown: shown_name(alloc, file)?,
+            shown: shown(alloc, file)?,
             scratch: Scratch::new(alloc),
             text: String::new(alloc),
             rows: Vec::new(alloc),
@@ -63,14 +63,19 @@ impl<'a> Report<'a> {
             status: 0,
             limit: report_budget(MAX_LINE_BYTES),
             size: 0,
-            is_schema: false,
+            form: Form::Lines,
         })
     }
 
-    /// Takes what is added from here on for the columns of a schema, of which so many bytes were read.
-    pub(crate) fn begin_schema(&mut self, bytes: usize) {
+    /// Takes what is added from here on for the columns of a schema of that format, of which so many bytes were read.
+    pub(crate) fn begin_schema(&mut self, form: Form, bytes: usize) {
         self.limit = report_budget(bytes);
-        self.is_schema = true;
+        self.form = form;
+    }
+
+    /// The format of the file.
+    pub(crate) fn form(&self) -> Form {
+        self.form
     }
 
     /// Adds columns.
@@ -83,7 +88,7 @@ impl<'a> Report<'a> {
 
     /// Adds a column, and writes what is to be printed of it, but for a table, a stream, and the lines of JSON of a schema.
     pub(crate) fn add(&mut self, rt: &HostRuntime, column: Column) -> Reported {
-        if !self.is_schema {
+        if matches!(self.form, Form::Lines) {
             self.size = 0;
         }
         self.look_at(rt.alloc(), &column)?;
@@ -97,7 +102,7 @@ impl<'a> Report<'a> {
 
     /// Whether nothing is written before all is made: the lines of JSON of a schema, which may be more than they may.
     fn is_held(&self) -> bool {
-        self.is_schema && matches!(self.asked.flags.output(), Output::Json)
+        !matches!(self.form, Form::Lines) && matches!(self.asked.flags.output(), Output::Json)
     }
 
     /// Counts so many bytes of lines of JSON or of rows. Errs where there are more than there may be.

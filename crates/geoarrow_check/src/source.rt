@@ -94,7 +94,7 @@ fn report_schema(
     report: &mut Report<'_>,
 ) -> Reported {
     let bytes = end.bytes.as_slice();
-    report.begin_schema(bytes.len());
+    report.begin_schema(form, bytes.len());
     let columns = columns_of_end(rt.alloc(), form, end.start, bytes)?;
     if !matches!(form, Form::Parquet) {
         return report.add_all(rt, columns);
