@@ -95,10 +95,10 @@ Columns of other types as lines, which are read back
   {"name":"d","nullable":true,"type":{"other":"dictionary<values=large_utf8, indices=int16, ordered=1>"}}
 
   $ geoarrow_check --lines ../crates/geoarrow_check/data/other.arrows | geoarrow_check -
-  column  holds                                                    CRS  edges
-  g       point interleaved XY                                          planar
-  é       dense_union<p: utf8=5, q: timestamp[us, tz=UTC]=1>
-  d       dictionary<values=large_utf8, indices=int16, ordered=1>
+  column  holds                                     CRS  edges
+  g       point interleaved XY                           planar
+  é       dense_union<p: utf8=5, q: timestamp[us..
+  d       dictionary<values=large_utf8, indices=..
 
   $ echo '{"metadata":{"ARROW:extension:name":"geoarrow.point"},"name":"p","nullable":true,"type":{"other":"map<e: null>"}}' | geoarrow_check -
   column  holds                   CRS  edges
@@ -248,14 +248,14 @@ Names of files that would control a terminal, or stand on two lines: above a tab
   column  holds  CRS  edges
   a       null
 
-  $ cd "$TMPDIR" && file=$(printf 'a\nb\033[1m') && echo '{"name":"a","nullable":true,"type":{"other":"timestamp[ms]"}}' > "$file" && geoarrow_check --quiet --require-geometry --expect b=XY --expect a=XY "$file"; geoarrow_check --ipc "$file"; echo '[]' > "$file"; geoarrow_check "$file"; geoarrow_check "$file.parquet"; geoarrow_check "--$file" 2>&1 | head -n 1
+  $ cd "$TMPDIR" && file=$(printf 'a\nb\033[1m') && echo '{"name":"a","nullable":true,"type":{"other":"timestamp[ms]"}}' > "$file" && geoarrow_check --quiet --require-geometry --expect b=XY --expect a=XY "$file"; geoarrow_check --ipc "$file"; echo '[]' > "$file"; geoarrow_check "$file"; geoarrow_check "$file.parquet"; geoarrow_check --expect "$file" x 2>&1 | head -n 1
   a?b?[1m: no column b
   a?b?[1m: column a holds no geometries
   a?b?[1m: no column of geometries
   a?b?[1m: column 0 has a type that no message can hold
   a?b?[1m: line 1: is JSON, but no object
   a?b?[1m.parquet: No such file or directory (os error 2)
-  geoarrow_check: --a?b?[1m is unknown
+  geoarrow_check: a?b?[1m is no COLUMN=WANT
 
   $ cd "$TMPDIR" && file=$(printf 'a\nb\033[1m') && echo '{"name":"a","nullable":true,"type":"null"}' > "$file" && geoarrow_check --json "$file"
   {"column":"a","file":"a\nb\u001b[1m","index":0,"state":"plain","type":"null"}
@@ -288,9 +288,11 @@ A PROJJSON of 60,009 bytes that 2,048 columns of a Parquet file name: refused, i
 
 A report that is too large: no column is printed, also of those before the one that makes it so
 
-  $ long=$(head -c 20000 /dev/zero | tr '\0' a) && field='{"metadata":{"ARROW:extension:name":"geoarrow.wkb"},"name":"k","nullable":true,"type":"binary"}' && cd "$TMPDIR" && (echo "$field"; echo "{\"name\":\"s\",\"nullable\":true,\"type\":{\"struct\":[{\"name\":\"$long\",\"nullable\":true,\"type\":{\"struct\":[$(yes "$field," | head -n 199 | tr -d '\n')$field]}}]}}") > lines && geoarrow_check --ipc lines > stream && geoarrow_check --json stream; geoarrow_check stream; geoarrow_check --quiet --expect k=wkb stream
+  $ long=$(yes '\u0001' | head -n 30000 | tr -d '\n') && field='{"metadata":{"ARROW:extension:name":"geoarrow.wkb"},"name":"k","nullable":true,"type":"binary"}' && cd "$TMPDIR" && (echo "$field"; printf '{"name":"s","nullable":true,"type":{"struct":[{"name":"%s","nullable":true,"type":{"struct":[%s%s]}}]}}\n' "$long" "$(yes "$field," | head -n 15 | tr -d '\n')" "$field") > lines && geoarrow_check --ipc lines > stream
+  > geoarrow_check --json stream
+  > geoarrow_check --quiet --expect k=wkb stream && geoarrow_check --json lines | wc -l
   stream: the report would have more than 1048576 bytes and 32 for each byte read
-  stream: the report would have more than 1048576 bytes and 32 for each byte read
+  2
 
 A file without geometries where some are required
 
@@ -371,7 +373,7 @@ Why a line is refused
   -: byte 8 of the message: no whole message
   [2]
 
-The byte of an Arrow file's fault is that of the file, by its path and by standard input: its end is cut off, a byte in its footer is another, and both are behind 4096 bytes
+The byte of an Arrow file's fault is that of the file, by its path and by standard input: its end is cut off, or the type of a field, whose table begins at 518, is none; also behind 4096 bytes
 
   $ cd "$TMPDIR" && head -c 700 "$top/crates/geoarrow_check/data/file.arrow" > cut.arrow && (head -c 522 "$top/crates/geoarrow_check/data/file.arrow"; printf '\374'; tail -c +524 "$top/crates/geoarrow_check/data/file.arrow") > tag.arrow
   > for file in cut tag
@@ -381,14 +383,14 @@ The byte of an Arrow file's fault is that of the file, by its path and by standa
   >     geoarrow_check - < $file.arrow
   >     cat behind.arrow | geoarrow_check -
   > done
-  cut.arrow: byte 690 of the file: no whole message
-  behind.arrow: byte 4786 of the file: no whole message
-  -: byte 690 of the file: no whole message
-  -: byte 4786 of the file: no whole message
-  tag.arrow: byte 522 of the file: an unknown type
-  behind.arrow: byte 4618 of the file: an unknown type
-  -: byte 522 of the file: an unknown type
-  -: byte 4618 of the file: an unknown type
+  cut.arrow: byte 690: no whole message
+  behind.arrow: byte 4786: no whole message
+  -: byte 690: no whole message
+  -: byte 4786: no whole message
+  tag.arrow: byte 518: an unknown type
+  behind.arrow: byte 4614: an unknown type
+  -: byte 518: an unknown type
+  -: byte 4614: an unknown type
   [2]
 
 The checks of GeoParquet metadata behind the columns: those that do not hold, or all

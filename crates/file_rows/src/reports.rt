@@ -1,6 +1,6 @@
 //! Rows of reports: calls of `file_reports`, and so of the crates that read files and say what columns hold. A row's text is lines of fields,
-//! with ` & ` between them in place of line feeds; under `report_file` it is the bytes of a file in hexadecimal digits, and under `columns_of_end` those of
-//! the end of an Arrow file, behind the number of bytes before it.
+//! with ` & ` between them in place of line feeds; under `report_file` and `report_size` it is the bytes of a file in hexadecimal digits, and under
+//! `columns_of_end` those of the end of an Arrow file, behind the number of bytes before it.
 use column_check::{Finding, check_column, warnings};
 use column_files::{FileFault, Form, columns_in, columns_of_end};
 use column_reports::{reason_words, warning_words};
@@ -17,7 +17,10 @@ pub fn answer(it: &mut Asked<'_>) {
         "report_inferred" => report(it, text.as_bytes(), true, false),
         "report_noted" => report(it, text.as_bytes(), false, true),
         "report_both" => report(it, text.as_bytes(), true, true),
-        "report_size" => size(it, text.as_bytes()),
+        "report_size" => match hex::decode(it.alloc, it.text) {
+            Ok(bytes) => size(it, bytes.as_slice()),
+            Err(_) => it.said.fail(),
+        },
         "report_file" => match hex::decode(it.alloc, it.text) {
             Ok(bytes) => report(it, bytes.as_slice(), false, false),
             Err(_) => it.said.fail(),
