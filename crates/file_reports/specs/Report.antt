@@ -87,6 +87,11 @@ abbrev pub ReportsOf : Option Text → Options → ℕ → List ColumnTree → R
 ReportsOf file o limit cs (Ok report) = IsReportOf file o cs report × (size report ≤ limit)
 ReportsOf file o limit cs (Err fault) = IsUnreported (ArePast file o limit cs) fault
 
+-- a report within a limit; or that it has more bytes; for private contracts
+abbrev pub IsWithin : ℕ → FileReport → Result FileReport FileFault → Type 0
+IsWithin limit made (Ok report) = (report ≡ made) × (size report ≤ limit)
+IsWithin limit made (Err fault) = (fault ≡ ReportTooLarge) × (limit < size made)
+
 -- the report of a Parquet file has more bytes than the limit: the lines of its first columns alone, or all its lines
 abbrev pub IsParquetPast : Option Text → Options → ℕ → Result (List ℕ) SchemaError → List ColumnTree → Type 0
 IsParquetPast file o limit footer cs =

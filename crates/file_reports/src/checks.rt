@@ -10,7 +10,7 @@ ghost use Rattle.parquet_schema.specs.Reads.{footer_in};
 ghost use Rattle.file_reports.specs.Checks.{is_failed, AreChecked, AddsText, AddsFindings, warning_text};
 ghost use Rattle.file_reports.specs.Report.{ParquetReports};
 
-use crate::report::{Options, Report, is_past, push_line, report_columns};
+use crate::report::{Options, Report, push_line, report_columns, within};
 use arrow_columns::Column;
 use column_files::FileFault;
 use geo_columns::geo_columns;
@@ -123,12 +123,13 @@ pub(crate) fn parquet_report(
     let Ok(checked) = checked_columns(alloc, end, columns) else {
         return Err(FileFault::OutOfMemory);
     };
-    let report = report_columns(alloc, file, checked.columns.as_slice(), options, limit)?;
-    let report = with_findings(alloc, report, file, &checked.findings)?;
-    if is_past(&report, limit) {
-        return Err(FileFault::ReportTooLarge);
+    match report_columns(alloc, file, checked.columns.as_slice(), options, limit) {
+        Ok(report) => within(
+            with_findings(alloc, report, file, &checked.findings)?,
+            limit,
+        ),
+        Err(fault) => Err(fault),
     }
-    Ok(report)
 }
 
 /// The report of a Parquet file with those findings, from that of its columns. Errs only when out of memory.

@@ -9,7 +9,7 @@ ghost use Rattle.arrow_columns.specs.Column.{column_tree, metadata_on};
 ghost use Rattle.column_check.specs.Finding.{IsFinding};
 ghost use Rattle.column_check.specs.States.{is_invalid, is_geometry};
 ghost use Rattle.column_check.specs.declared.finding.Finding.{Finding};
-ghost use Rattle.file_reports.specs.Report.{line_feed, IsCrsOf, IsLineOf, ReportsOf, ReportsIn, Reports};
+ghost use Rattle.file_reports.specs.Report.{line_feed, IsCrsOf, IsLineOf, IsWithin, ReportsOf, ReportsIn, Reports};
 
 use crate::checks::parquet_report;
 use arrow_columns::Column;
@@ -139,10 +139,20 @@ pub fn report_columns(
 }
 
 /// Whether the lines of a report have more bytes than that.
-pub(crate) fn is_past(report: &Report, limit: u128) -> bool
+fn is_past(report: &Report, limit: u128) -> bool
     ensures { MatchBool result (limit < length (string_bytes report.now.lines)) (length (string_bytes report.now.lines) ≤ limit) }
 {
     report.lines.len() as u128 > limit
+}
+
+/// The report, where its lines have at most that many bytes.
+pub(crate) fn within(report: Report, limit: u128) -> Result<Report, FileFault>
+    ensures { IsWithin limit report result }
+{
+    if is_past(&report, limit) {
+        return Err(FileFault::ReportTooLarge);
+    }
+    Ok(report)
 }
 
 /// Adds the line of a column.

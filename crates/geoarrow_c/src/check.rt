@@ -13,14 +13,20 @@ use std::alloc::Global;
 fn options_of(number: u8) -> Option<Options>
     ensures { MatchOption result (3 < number) (λ options. (number ≡ options_number options) × (number ≤ 3)) }
 {
-    let (infer, notes) = match number {
-        0 => (false, false),
-        1 => (true, false),
-        2 => (false, true),
-        3 => (true, true),
-        _ => return None,
-    };
-    Some(Options { infer, notes })
+    match number {
+        0 => Some(options_with(false, false)),
+        1 => Some(options_with(true, false)),
+        2 => Some(options_with(false, true)),
+        3 => Some(options_with(true, true)),
+        _ => None,
+    }
+}
+
+/// The options that infer types, or not, and have notes, or not.
+fn options_with(infer: bool, notes: bool) -> Options
+    ensures { (result.infer ≡ infer) × (result.notes ≡ notes) }
+{
+    Options { infer, notes }
 }
 
 /// Writes the report of a file, from its bytes, to the front of `out`: what each of its columns holds, a line of JSON for each, with its line

@@ -14,7 +14,7 @@ loop-index-preserved c =
     (
       report_next (text_of c.args.file) c.args.options columns i c.loop-index.report c.add_column.new.report column added.0 added.1 c.loop-index-test.true taken
       c.loop-index.invariant.0 added.2 added.3 added.4 added.5 added.6 added.7,
-      c.if-is_past.false
+      c.if-is_past.ensures
     )
 
 pub returns-then-is_past : goal.returns-then-is_past
@@ -26,4 +26,4 @@ returns-then-is_past c =
     let added = c.in_ok-add_column.ensures in
     let said = report_next (text_of c.args.file) c.args.options columns i c.loop-index.report c.add_column.new.report column added.0 added.1 c.loop-index-test.true taken
       c.loop-index.invariant.0 added.2 added.3 added.4 added.5 added.6 added.7 in
-    inr (refl, first_past (text_of c.args.file) c.args.options columns (i + 1) c.args.limit c.add_column.new.report said c.if-is_past.true)
+    inr (refl, first_past (text_of c.args.file) c.args.options columns (i + 1) c.args.limit c.add_column.new.report said c.if-is_past.ensures)
