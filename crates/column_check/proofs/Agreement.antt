@@ -1,5 +1,7 @@
 -- What is said of a column, and what its field is read as.
 use Rattle.std.proofs.Common.{◌≡◌, [], ◌∷◌, Bool, false, Option, None, Some, option_map, refl, sym, ap, ◌∙◌}
+use Rattle.json.specs.Lex.{lex, punctuate}
+use Rattle.json.specs.Json.{value}
 use Rattle.serde_json.specs.Data.{Data}
 use Rattle.serde_json.specs.Read.{read}
 use Rattle.arrow_values.specs.Tree.{Text, Tree, FieldTree}
@@ -36,8 +38,12 @@ abbrev metadata_with : Values → Metadata
 metadata_with v = record { crs = record { value = v.crs; crs_type = v.crs_type }; edges = v.edges }
 
 -- the empty text is no JSON
+empty_unread : read [] ≡ None
+unfolding lex punctuate value
+empty_unread = refl
+
 no_empty_json : (d : Data) → read [] ≡ Some d → ⊥
-no_empty_json d h = absurd cc
+no_empty_json d h = absurd (cc (empty_unread, h))
 
 -- and so it denotes no metadata
 no_empty_metadata : (t : Option Text) (m : Metadata) → t ≡ Some [] → DenotesMetadata t m → ⊥

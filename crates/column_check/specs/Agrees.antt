@@ -1,5 +1,5 @@
 -- How what is said of a column goes together with what its field is read as, or taken for.
-use Rattle.std.specs.Prelude.{◌≡◌, ◌≢◌, [], Bool, true, false, None, Some}
+use Rattle.std.specs.Prelude.{◌≡◌, [], Bool, true, false, None, Some}
 use Rattle.arrow_values.specs.Tree.{FieldTree}
 use Rattle.arrow_values.specs.Texts.{extension_name, extension_metadata}
 use Rattle.arrow_columns.specs.Column.{column_of}

@@ -1,5 +1,5 @@
 -- Which values a metadata text denotes, whatever numbers its CRS holds, and why a text denotes none (GeoArrow, "Extension metadata").
-use Rattle.std.specs.Prelude.{◌≡◌, List, [], codes, Option, None, Some, IsSome, option_map, Result, Ok, Err}
+use Rattle.std.specs.Prelude.{◌≡◌, [], codes, Option, None, Some, IsSome, option_map, Result, Ok, Err}
 use Rattle.serde_json.specs.Data.{Data}
 use Rattle.serde_json.specs.Find.{as_object}
 use Rattle.serde_json.specs.Read.{read}

@@ -69,10 +69,7 @@ fn without_values() -> ColumnMetadata
 }
 
 /// The values that a text denotes as JSON, or why it denotes none.
-fn read_json(
-    alloc: Global,
-    text: &str,
-) -> Result<Result<ColumnMetadata, MetadataFault>, AllocError>
+fn read_json(alloc: Global, text: &str) -> Result<Result<ColumnMetadata, MetadataFault>, AllocError>
     ensures { IfOk result (IsJsonRead text.now) }
 {
     match read_values(alloc, text) {

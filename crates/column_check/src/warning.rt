@@ -85,7 +85,13 @@ fn push_geometry(
     ensures { OnOk result (map said warnings.new.items ≡ map said warnings.old.items ++ geometry_warnings notes (column_tree column.now) (Some geometry.now)) }
 {
     let is_empty = is_empty_text(column.extension_type_metadata());
-    push_if(alloc, warnings, WarningCode::MetadataEmpty, &Way::Column, is_empty)?;
+    push_if(
+        alloc,
+        warnings,
+        WarningCode::MetadataEmpty,
+        &Way::Column,
+        is_empty,
+    )?;
     push_crs(alloc, warnings, &geometry.metadata, notes)?;
     let ColumnType::Data(data_type) = &column.data_type else {
         return Ok(());
@@ -123,7 +129,13 @@ fn push_crs(
     let lacks_type = !is_object_crs(crs) && metadata.crs_type.is_none();
     let is_odd = is_odd_crs(crs);
     push_if(alloc, warnings, WarningCode::CrsNotWhole, way, is_noted)?;
-    push_if(alloc, warnings, WarningCode::CrsWithoutType, way, lacks_type)?;
+    push_if(
+        alloc,
+        warnings,
+        WarningCode::CrsWithoutType,
+        way,
+        lacks_type,
+    )?;
     push_if(alloc, warnings, WarningCode::CrsNumber, way, is_odd)
 }
 
