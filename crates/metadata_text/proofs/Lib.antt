@@ -1,3 +1,4 @@
+pub mod Compact
 mod Copies
 mod Objects
 mod ReadBack

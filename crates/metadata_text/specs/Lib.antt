@@ -1,2 +1,3 @@
+pub mod Compact
 pub mod Crs
 pub mod Written

@@ -1,6 +1,6 @@
 //! The text of extension metadata (GeoArrow, "Extension metadata") from a CRS as it is written: [`metadata_text`] copies the JSON text of a
 //! CRS token by token, so each number of a PROJJSON stays as it is written;
-//! and a column with such a text.
+//! the text of a PROJJSON without blanks; and a column with such a text.
 #![tactic(auto)]
 
 mod column;
@@ -9,4 +9,4 @@ mod write;
 
 pub use column::with_extension;
 pub use crs::{WrittenCrs, is_projjson};
-pub use write::metadata_text;
+pub use write::{compact_projjson, metadata_text};

@@ -1,4 +1,4 @@
-//! The text of extension metadata.
+//! The text of extension metadata, and of PROJJSON without blanks.
 ghost use Rattle.std.specs.Prelude.{◌≡◌, Some, IfOk, OnOk, option_map, string_bytes};
 ghost use Rattle.json.specs.Lex.{tokens};
 ghost use Rattle.json.specs.Print.{print};
@@ -6,9 +6,10 @@ ghost use Rattle.serde_json.specs.Data.{Data};
 ghost use Rattle.serde_json.specs.Read.{read};
 ghost use Rattle.value_tokens.specs.Adds.{Adds};
 ghost use Rattle.metadata_text.specs.Crs.{IsCrs, IsJson};
+ghost use Rattle.metadata_text.specs.Compact.{compact_projjson};
 ghost use Rattle.metadata_text.specs.Written.{crs_tokens, string_tokens, metadata_tokens, metadata_data};
 
-use crate::crs::WrittenCrs;
+use crate::crs::{WrittenCrs, is_projjson};
 use geoarrow_meta::{CrsType, Edges};
 use json::{Reader, Scratch, Token, Writer};
 use std::alloc::{AllocError, Global};
@@ -35,6 +36,33 @@ pub fn metadata_text(
 {
     let mut out = Writer::new(Vec::new(alloc));
     put_metadata(alloc, crs, crs_type, edges, &mut out)?;
+    Ok(unsafe { String::from_utf8_unchecked(out.into_inner()) })
+}
+
+/// Returns the text of a PROJJSON, a JSON object as `is_projjson` has it, without blanks: its tokens
+/// are those of the text, so each number stays as it is written. Returns `None` where the text is no
+/// PROJJSON. Errs only when out of memory.
+///
+/// ```rust
+/// let text = compact_projjson(alloc, r#"{"epoch": 2010.50}"#)?;
+/// assert!(rt; matches!(text, Some(text) if text.as_str() == r#"{"epoch":2010.50}"#));
+/// ```
+pub fn compact_projjson(alloc: Global, text: &str) -> Result<Option<String>, AllocError>
+    ensures { IfOk result (λ found. option_map string_bytes found ≡ compact_projjson text.now) }
+{
+    if !is_projjson(alloc, text)? {
+        return Ok(None);
+    }
+    Ok(Some(json_text(alloc, text)?))
+}
+
+// The text of a JSON value without blanks.
+fn json_text(alloc: Global, text: &str) -> Result<String, AllocError>
+    requires { (d : Data) × IsJson text.now d }
+    ensures { IfOk result (λ made. string_bytes made ≡ print (tokens text.now)) }
+{
+    let mut out = Writer::new(Vec::new(alloc));
+    put_json(alloc, text, &mut out)?;
     Ok(unsafe { String::from_utf8_unchecked(out.into_inner()) })
 }
 

@@ -1,9 +1,9 @@
 -- The last of values.
-use Rattle.std.proofs.Common.{◌≡◌, ℕ, ◌+◌, ◌<◌, ◌≤◌, List, ◌∷◌, length, get_or, drop, map, Option, Some, None, refl, sym, ap, ◌∙◌}
+use Rattle.std.proofs.Common.{◌≡◌, ℕ, ◌+◌, ◌<◌, ◌≤◌, List, [], ◌∷◌, ◌++◌, length, get_or, drop, map, Option, Some, None, refl, sym, ap, ◌∙◌}
 use Rattle.std.proofs.lemmas.List.{at_drop_more, drop_all}
 use Rattle.arrow_values.specs.Tree.{Text}
 use Rattle.parquet_footer.specs.declared.footer.KeyValue.{KeyValue}
-use Rattle.parquet_footer.specs.Footer.{pairing}
+use Rattle.parquet_footer.specs.Footer.{Pairing, pairing}
 use Rattle.parquet_schema.specs.Keys.{later, value_under, value_of}
 
 pub first : (value : Option Text) → later value None ≡ value
@@ -13,6 +13,11 @@ first (Some v) = refl
 turns : (a b c : Option Text) → later (later a b) c ≡ later a (later b c)
 turns None b c = refl
 turns (Some v) b c = refl
+
+-- with one more pair
+pub value_of-push : (key : Text) (ps : List Pairing) (p : Pairing) → value_of key (ps ++ p ∷ []) ≡ later (value_under key p) (value_of key ps)
+value_of-push key [] p = sym (first (value_under key p))
+value_of-push key (q ∷ ps) p = ap (λ v. later v (value_under key q)) (value_of-push key ps p) ∙ turns (value_under key p) (value_of key ps) (value_under key q)
 
 -- the last value behind an index, or the one found before it
 abbrev pub LastFrom : Text → List KeyValue → ℕ → Option Text → Type 0

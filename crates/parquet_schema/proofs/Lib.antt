@@ -1,5 +1,9 @@
 mod Children
+mod Jsons
 mod Laters
+mod Maps
+mod Named
 mod Names
 mod Parts
+mod Spending
 mod Steps

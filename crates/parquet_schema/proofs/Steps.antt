@@ -1,5 +1,5 @@
 -- From what a step returned to what a call returned.
-use Rattle.std.proofs.Common.{◌≡◌, ℕ, List, map, Option, Some, None, Result, Ok, Err, Bool, true, false, Vec, Global, refl, subst, sym, ap, ◌∙◌}
+use Rattle.std.proofs.Common.{◌≡◌, ◌≤◌, ◌<◌, ℕ, List, length, map, Option, Some, None, Result, Ok, Err, Bool, true, false, Vec, Global, refl, subst, sym, ap, ◌∙◌}
 use Rattle.base64.specs.Engines.{standard}
 use Rattle.base64.specs.GeneralPurpose.{decode_of}
 use Rattle.arrow_values.specs.Tree.{Text}
@@ -15,9 +15,12 @@ use Rattle.parquet_columns.specs.declared.fault.Fault as elements
 use Rattle.parquet_columns.specs.Columns.{columns_of}
 use Rattle.parquet_schema.specs.Keys.{schema_key, value_of}
 use Rattle.parquet_schema.specs.Fault.{error_of}
-use Rattle.parquet_schema.specs.Reads.{same_names, IsBuilt, IsDecoded, HoldsSchema, IsStoredRead, IsReadBy, IsFooterRead, IsParsedAs, IsReadAs}
+use Rattle.parquet_schema.specs.Budget.{budget}
+use Rattle.parquet_schema.specs.Geometry.{root_children, given_bytes}
+use Rattle.parquet_schema.specs.Marks.{AreMarked}
+use Rattle.parquet_schema.specs.Reads.{same_names, IsBuilt, IsDecoded, HoldsSchema, IsStoredRead, IsReadBy, AreStored, IsFooterRead, IsParsedAs, IsReadAs}
 use Rattle.parquet_schema.specs.declared.fault.SchemaError.{SchemaError}
-use Rattle.parquet_schema.specs.declared.fault.SchemaError.TheVariants.{Elements, Encoding, Ipc, Names, OutOfMemory}
+use Rattle.parquet_schema.specs.declared.fault.SchemaError.TheVariants.{Elements, Encoding, Ipc, Names, Budget, OutOfMemory}
 
 -- an error was handed on
 pub handed : {X : Type 0} (Is : Result X SchemaError → Type 0) (r : Result X SchemaError) (e : SchemaError) → r ≡ Err e → Is (Err e) → Is r
@@ -72,8 +75,32 @@ module _ (cs : List ColumnTree) (text : Text) where
       pub is_stored : same ≡ true → IsStoredRead cs text (Ok s.columns)
       is_stored agree = (bytes, are, s, holds, (refl, compared ∙ agree))
 
-pub memory_footer : (c : Contents) → IsFooterRead c (Err OutOfMemory)
-memory_footer c = memory_read (columns_of c.schema) (value_of schema_key c.key_value_metadata)
+-- ---- the columns of a footer
+
+pub memory_footer : (n : ℕ) (c : Contents) → IsFooterRead n c (Err OutOfMemory)
+memory_footer n c = memory_read (columns_of c.schema) (value_of schema_key c.key_value_metadata)
+
+not_budget : (there : Result (List ColumnTree) elements.Fault) (value : Option Text) → IsReadBy there value (Err Budget) → ⊥
+not_budget (Ok cs) (Some text) f = f.4
+not_budget (Ok cs) None f = f
+not_budget (Err fault) value f = f
+
+-- of the columns that are stored, or of the elements, there are none
+pub stored_fails : (n : ℕ) (c : Contents) (e : SchemaError) → AreStored c (Err e) → IsFooterRead n c (Err e)
+stored_fails n c Budget f = absurd (not_budget (columns_of c.schema) (value_of schema_key c.key_value_metadata) f)
+stored_fails n c _ f = f
+
+-- they are marked within the budget, or it is not enough
+pub all_marked : (n : ℕ) (c : Contents) (stored : Vec Column Global) (amount : ℕ) (r : Result (Vec Column Global) SchemaError) → amount ≡ budget n → AreStored c (Ok stored)
+    → AreMarked c.key_value_metadata (root_children c.schema) (map column_tree stored.items) amount r → IsFooterRead n c r
+all_marked n c stored amount (Ok made) is are f =
+    (stored, are, subst (λ a. given_bytes c.key_value_metadata (root_children c.schema) (map column_tree stored.items) ≤ a) is f.1, f.0)
+all_marked n c stored amount (Err Budget) is are f =
+    (stored, are, subst (λ a. a < given_bytes c.key_value_metadata (root_children c.schema) (map column_tree stored.items)) is f)
+all_marked n c stored amount (Err OutOfMemory) is are f = memory_footer n c
+all_marked n c stored amount (Err _) is are f = absurd f
+
+-- ---- what is read of bytes, and of a file
 
 module _ {A : Type 0} (Is : Contents → Result A SchemaError → Type 0) where
   pub is_parsed : (bytes : List ℕ) (read : Result Contents footers.Fault) (c : Contents) (r : Result A SchemaError) → read ≡ Ok c → Is c r → IsParsedAs Is bytes read r
@@ -89,8 +116,9 @@ module _ {A : Type 0} (Is : Contents → Result A SchemaError → Type 0) where
   is_refused memory bytes read (Invalid rule offset) f = rw f.1 (refl, f.2)
   is_refused memory bytes read Memory f = memory_of memory bytes read
 
+module _ {A : Type 0} (Is : ℕ → Contents → Result A SchemaError → Type 0) where
   pub no_footer : (found : Result (List ℕ) SchemaError) (e : SchemaError) → found ≡ Err e → IsReadAs Is found (Err e)
   no_footer found e is = rw is refl
 
-  pub with_footer : (found : Result (List ℕ) SchemaError) (bytes : List ℕ) (r : Result A SchemaError) → found ≡ Ok bytes → IsParsedAs Is bytes (footer_at bytes) r → IsReadAs Is found r
+  pub with_footer : (found : Result (List ℕ) SchemaError) (bytes : List ℕ) (r : Result A SchemaError) → found ≡ Ok bytes → IsParsedAs (Is (length bytes)) bytes (footer_at bytes) r → IsReadAs Is found r
   with_footer found bytes r is f = rw is f

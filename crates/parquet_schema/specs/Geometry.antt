@@ -23,6 +23,7 @@ use Rattle.parquet_footer.specs.declared.logical.Algorithm.TheVariants.{Spherica
 use Rattle.parquet_footer.specs.Element.{Element}
 use Rattle.parquet_footer.specs.Footer.{Pairing}
 use Rattle.parquet_footer.specs.Logical.{Logical, geometry, geography}
+use Rattle.parquet_schema.specs.Budget.{size_of}
 use Rattle.parquet_schema.specs.Keys.{value_of}
 
 -- a CRS by the tokens that it is written with, and its type
@@ -96,19 +97,33 @@ is_plain_leaf e = is_byte_array e.storage.physical_type && not (is_repeated e.st
 abbrev pub extension_text : List Pairing → Element → Option Text
 extension_text pairs e = if is_plain_leaf e then logical_text pairs e.logical_type else None
 
--- a column without an extension name whose element denotes extension metadata has them, and the name of well-known binary
-abbrev pub marked_by : Option Text → Option Text → ColumnTree → ColumnTree
-marked_by None (Some text) c = record c { metadata = set_extension (codes "geoarrow.wkb") (Some text) c.metadata }
-marked_by name text c = c
+-- the extension metadata that a column is given: those that its element denotes, if it has no extension name
+abbrev pub given_by : Option Text → Option Text → Option Text
+given_by None text = text
+given_by (Some name) text = None
+
+abbrev pub given : List Pairing → Option Element → ColumnTree → Option Text
+given pairs None c = None
+given pairs (Some e) c = given_by (name_on c) (extension_text pairs e)
+
+-- with extension metadata that it is given, a column has the name of well-known binary
+abbrev pub marked_by : Option Text → ColumnTree → ColumnTree
+marked_by None c = c
+marked_by (Some text) c = record c { metadata = set_extension (codes "geoarrow.wkb") (Some text) c.metadata }
 
 abbrev pub marked : List Pairing → Option Element → ColumnTree → ColumnTree
-marked pairs None c = c
-marked pairs (Some e) c = marked_by (name_on c) (extension_text pairs e) c
+marked pairs e c = marked_by (given pairs e c) c
 
 abbrev pub marked_columns : List Pairing → List Element → List ColumnTree → List ColumnTree
 marked_columns pairs es [] = []
 marked_columns pairs [] (c ∷ cs) = marked pairs None c ∷ marked_columns pairs [] cs
 marked_columns pairs (e ∷ es) (c ∷ cs) = marked pairs (Some e) c ∷ marked_columns pairs es cs
+
+-- how many bytes the extension metadata have together that columns are given
+abbrev pub given_bytes : List Pairing → List Element → List ColumnTree → ℕ
+given_bytes pairs es [] = 0
+given_bytes pairs [] (c ∷ cs) = 0
+given_bytes pairs (e ∷ es) (c ∷ cs) = size_of (given pairs (Some e) c) + given_bytes pairs es cs
 
 -- the children of the root: behind each stand the elements below it, of which so many are still to come
 abbrev pub count_of : Element → ℕ

@@ -1,5 +1,5 @@
 -- Which columns a footer denotes, and a file; or why they denote none.
-use Rattle.std.specs.Prelude.{◌≡◌, ℕ, ◌+◌, ◌-◌, Bool, true, false, ◌&&◌, List, [], ◌∷◌, length, take, drop, map, Option, Some, Result, Ok, Err, ⊤, nat_lt, if◌then◌else◌}
+use Rattle.std.specs.Prelude.{◌≡◌, ℕ, ◌+◌, ◌-◌, ◌≤◌, ◌<◌, Bool, true, false, ◌&&◌, List, [], ◌∷◌, length, take, drop, map, Option, Some, Result, Ok, Err, ⊤, nat_lt, if◌then◌else◌}
 use Rattle.std.specs.Str.{bytes_eq}
 use Rattle.std.specs.declared.vec.Vec.{Vec}
 use Rattle.std.specs.declared.alloc.Global.{Global}
@@ -19,9 +19,10 @@ use Rattle.parquet_columns.specs.Columns.{columns_of}
 use Rattle.parquet_columns.specs.declared.fault.Fault as elements
 use Rattle.arrow_values.specs.Tree.{Text}
 use Rattle.parquet_schema.specs.Keys.{schema_key, value_of}
-use Rattle.parquet_schema.specs.Geometry.{root_children, marked_columns}
+use Rattle.parquet_schema.specs.Budget.{budget}
+use Rattle.parquet_schema.specs.Geometry.{root_children, given_bytes, marked_columns}
 use Rattle.parquet_schema.specs.declared.fault.SchemaError.{SchemaError}
-use Rattle.parquet_schema.specs.declared.fault.SchemaError.TheVariants.{Footer, Cut, Elements, Encoding, Ipc, Names, OutOfMemory}
+use Rattle.parquet_schema.specs.declared.fault.SchemaError.TheVariants.{Footer, Cut, Elements, Encoding, Ipc, Names, Budget, OutOfMemory}
 
 -- columns with the same names in the same order
 abbrev pub same_names : List ColumnTree → List ColumnTree → Bool
@@ -72,11 +73,16 @@ IsReadBy there value r = IsBuilt there r
 abbrev pub AreStored : Contents → Result (Vec Column Global) SchemaError → Type 0
 AreStored c r = IsReadBy (columns_of c.schema) (value_of schema_key c.key_value_metadata) r
 
--- the columns of a footer: those, of which the ones of geometry types have the extension that their elements denote
-abbrev pub IsFooterRead : Contents → Result (Vec Column Global) SchemaError → Type 0
-IsFooterRead c (Ok columns) = (stored : Vec Column Global) × AreStored c (Ok stored)
+-- how many bytes the extension metadata have that geometry types give the columns
+abbrev pub given_to : Contents → Vec Column Global → ℕ
+given_to c stored = given_bytes c.key_value_metadata (root_children c.schema) (map column_tree stored.items)
+
+-- the columns of a footer of so many bytes: those, of which the ones of geometry types have the extension that their elements denote, within the budget
+abbrev pub IsFooterRead : ℕ → Contents → Result (Vec Column Global) SchemaError → Type 0
+IsFooterRead n c (Ok columns) = (stored : Vec Column Global) × AreStored c (Ok stored) × (given_to c stored ≤ budget n)
     × (map column_tree columns.items ≡ marked_columns c.key_value_metadata (root_children c.schema) (map column_tree stored.items))
-IsFooterRead c (Err error) = AreStored c (Err error)
+IsFooterRead n c (Err Budget) = (stored : Vec Column Global) × AreStored c (Ok stored) × (budget n < given_to c stored)
+IsFooterRead n c (Err error) = AreStored c (Err error)
 
 -- the value of a key of a footer
 abbrev pub IsValueOf : Text → Contents → Result (Option Text) SchemaError → Type 0
@@ -101,14 +107,14 @@ IsParsedAs Is bytes (Err fault) (Err OutOfMemory) = ⊤
 IsParsedAs Is bytes (Err fault) (Err (Footer (Invalid rule offset))) = (rule ≡ fault.rule) × (offset + fault.left ≡ length bytes)
 IsParsedAs Is bytes (Err fault) r = ⊥
 
--- what is read of a file, by its end
-abbrev pub IsReadAs : {A : Type 0} → (Contents → Result A SchemaError → Type 0) → Result (List ℕ) SchemaError → Result A SchemaError → Type 0
+-- what is read of a file, by its end: of a footer by how many bytes it has
+abbrev pub IsReadAs : {A : Type 0} → (ℕ → Contents → Result A SchemaError → Type 0) → Result (List ℕ) SchemaError → Result A SchemaError → Type 0
 IsReadAs Is (Err error) r = r ≡ Err error
-IsReadAs Is (Ok footer) r = IsParsedAs Is footer (footer_at footer) r
+IsReadAs Is (Ok footer) r = IsParsedAs (Is (length footer)) footer (footer_at footer) r
 
 -- the columns of a file, and the value of a key
 abbrev pub IsFileRead : Result (List ℕ) SchemaError → Result (Vec Column Global) SchemaError → Type 0
 IsFileRead found r = IsReadAs IsFooterRead found r
 
 abbrev pub IsValueRead : Text → Result (List ℕ) SchemaError → Result (Option Text) SchemaError → Type 0
-IsValueRead key found r = IsReadAs (IsValueOf key) found r
+IsValueRead key found r = IsReadAs (λ _. IsValueOf key) found r

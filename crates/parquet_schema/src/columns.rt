@@ -9,16 +9,18 @@ ghost use Rattle.parquet_footer.specs.Footer.{contents};
 ghost use Rattle.parquet_columns.specs.Columns.{columns_of};
 ghost use Rattle.parquet_schema.specs.Reads.{same_names, IsBuilt, IsDecoded, HoldsSchema, IsReadBy, AreStored, IsFooterRead};
 
+use crate::budget::report_budget;
 use crate::fault::SchemaError;
-use crate::keys::{ARROW_SCHEMA_KEY, value_of};
+use crate::keys::ARROW_SCHEMA_KEY;
 use crate::marks::marked_columns;
+use crate::values::KeyValues;
 use arrow_columns::Column;
 use arrow_ipc::{IpcError, Schema, read_schema};
 use base64::DecodeAllocError;
 use base64::engine::general_purpose::STANDARD;
 use parquet_columns::{ColumnsError, columns_of};
 use parquet_footer::Footer;
-use std::alloc::{AllocError, Global};
+use std::alloc::Global;
 
 /// Whether columns have the same names in the same order.
 fn same_names(columns: &[Column], others: &[Column]) -> bool
@@ -86,31 +88,43 @@ fn columns_of_text(
 }
 
 /// The columns of a footer before its geometry types are looked at.
-fn stored_columns(alloc: Global, footer: &Footer<'_>) -> Result<Vec<Column>, SchemaError>
-    ensures { AreStored (contents footer.now) result }
+fn stored_columns(
+    alloc: Global,
+    footer: &Footer<'_>,
+    values: &KeyValues<'_, '_>,
+) -> Result<Vec<Column>, SchemaError>
+    ensures { let schema = map element footer.now.schema.items in
+        AreStored (record { schema = schema; key_value_metadata = values.now }) result }
 {
     let columns = columns_of_elements(alloc, footer)?;
-    match value_of(footer, ARROW_SCHEMA_KEY) {
+    match values.value_of(ARROW_SCHEMA_KEY) {
         None => Ok(columns),
         Some(text) => columns_of_text(alloc, text, columns.as_slice()),
     }
 }
 
-/// The columns of the footer of a Parquet file (`docs/FORMAT.md`, 4.5): where its key-value metadata have a value of the
-/// key `ARROW:schema`, those of the schema that it holds, an encapsulated IPC message in base64, if they have the
-/// names of the columns of the elements, in their order; otherwise those of the elements, as `columns_of` of
-/// `parquet_columns` makes them. A column without an extension name whose element is of the type GEOMETRY or GEOGRAPHY has the extension
-/// `geoarrow.wkb`, with the CRS and the edges of that type (`docs/FORMAT.md`, 4.6).
+/// Returns the columns of the footer of a Parquet file (`docs/FORMAT.md`, 4.5), which has so many
+/// bytes: where its key-value metadata have a value of the key `ARROW:schema`, those of the schema
+/// that it holds, an encapsulated IPC message in base64, if they have the names of the columns of
+/// the elements, in their order; otherwise those of the elements, as `columns_of` of
+/// `parquet_columns` makes them. A column without an extension name whose element is of the type
+/// GEOMETRY or GEOGRAPHY has the extension `geoarrow.wkb`, with the CRS and the edges of that type
+/// (`docs/FORMAT.md`, 4.6).
 ///
-/// Errs with `Elements` where the elements break a rule, with the rule and the element; with `Encoding` where the value is not
-/// base64, with the offset; with `Ipc` as `read_schema` of `arrow_ipc`, with the rule and the byte; with `Names` where names
-/// differ; and when out of memory.
-pub fn columns_of_footer(alloc: Global, footer: &Footer<'_>) -> Result<Vec<Column>, SchemaError>
-    ensures { IsFooterRead (contents footer.now) result }
+/// Errs with `Elements` where the elements break a rule, with the rule and the element; with
+/// `Encoding` where the value is not base64, with the offset; with `Ipc` as `read_schema` of
+/// `arrow_ipc`, with the rule and the byte; with `Names` where names differ; with `Budget` where
+/// the extension metadata that geometry types give the columns have together more bytes than
+/// `report_budget(bytes)`; and when out of memory.
+pub fn columns_of_footer(
+    alloc: Global,
+    footer: &Footer<'_>,
+    bytes: usize,
+) -> Result<Vec<Column>, SchemaError>
+    ensures { IsFooterRead bytes (contents footer.now) result }
 {
-    let stored = stored_columns(alloc, footer)?;
-    match marked_columns(alloc, footer, stored) {
-        Ok(columns) => Ok(columns),
-        Err(AllocError) => Err(SchemaError::OutOfMemory),
-    }
+    let mut values = KeyValues::new(alloc, footer.key_value_metadata.as_slice())?;
+    let stored = stored_columns(alloc, footer, &values)?;
+    let most = report_budget(bytes);
+    marked_columns(alloc, &mut values, footer.schema.as_slice(), stored, most)
 }

@@ -1,11 +1,13 @@
 //! Why a file has no columns.
 ghost use Rattle.std.specs.Prelude.{◌≡◌};
 ghost use Rattle.parquet_schema.specs.Fault.{error_of};
+ghost use Rattle.parquet_schema.specs.declared.fault.SchemaError.TheVariants.{OutOfMemory};
 
 use arrow_ipc::IpcError;
 use base64::DecodeError;
 use parquet_columns::Fault;
 use parquet_footer::FooterError;
+use std::alloc::{AllocError, AllocFailed};
 
 /// Why a Parquet file has no columns.
 #[derive(Debug, Clone, Copy, PartialEq, Eq)]
@@ -22,8 +24,27 @@ pub enum SchemaError {
     Ipc(IpcError),
     /// The schema that is stored has other columns than the elements, by their names.
     Names,
+    /// The extension metadata that geometry types give the columns have more bytes than
+    /// `report_budget` of the footer's bytes.
+    Budget,
     /// Out of memory.
     OutOfMemory,
+}
+
+impl From<AllocError> for SchemaError {
+    ghost from_gives = { λ _ e. e ≡ OutOfMemory };
+
+    fn from(_refused: AllocError) -> SchemaError {
+        SchemaError::OutOfMemory
+    }
+}
+
+impl<T: Drop> From<AllocFailed<T>> for SchemaError {
+    ghost from_gives = { λ _ e. e ≡ OutOfMemory };
+
+    fn from(_refused: AllocFailed<T>) -> SchemaError {
+        SchemaError::OutOfMemory
+    }
 }
 
 /// The error of a footer that is not read.

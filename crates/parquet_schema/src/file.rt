@@ -1,5 +1,5 @@
 //! The columns of a file and the values of its keys, from its end.
-ghost use Rattle.std.specs.Prelude.{◌≡◌};
+ghost use Rattle.std.specs.Prelude.{◌≡◌, length};
 ghost use Rattle.parquet_footer.specs.Footer.{footer_at};
 ghost use Rattle.parquet_schema.specs.Fault.{map_ok};
 ghost use Rattle.arrow_values.specs.Texts.{text_of};
@@ -43,19 +43,19 @@ pub fn footer_in(end: &[u8]) -> Result<&[u8], SchemaError>
 
 /// The columns of the bytes of a footer.
 fn columns_of_bytes(alloc: Global, bytes: &[u8]) -> Result<Vec<Column>, SchemaError>
-    ensures { IsParsedAs IsFooterRead bytes.now (footer_at bytes.now) result }
+    ensures { IsParsedAs (IsFooterRead (length bytes.now)) bytes.now (footer_at bytes.now) result }
 {
     match read_footer(alloc, bytes) {
-        Ok(footer) => columns_of_footer(alloc, &footer),
+        Ok(footer) => columns_of_footer(alloc, &footer, bytes.len()),
         Err(error) => Err(error_of(error)),
     }
 }
 
-/// The columns of a Parquet file, from its end: the bytes of the file, or as many of its last ones as the footer, its length and the
-/// magic take. Nothing else is looked at.
+/// Returns the columns of a Parquet file, from its end: the bytes of the file, or as many of its last
+/// ones as the footer, its length and the magic take. Nothing else is looked at.
 ///
-/// Errs as `footer_in`; with `Footer` where the footer breaks a rule, with the rule and the offset in the footer; as
-/// `columns_of_footer`; and when out of memory.
+/// Errs as `footer_in`; with `Footer` where the footer breaks a rule, with the rule and the offset
+/// in the footer; as `columns_of_footer` does by the bytes of the footer; and when out of memory.
 pub fn columns_of_file(alloc: Global, end: &[u8]) -> Result<Vec<Column>, SchemaError>
     ensures { IsFileRead (footer_in end.now) result }
 {

@@ -1,41 +1,35 @@
 //! The extension metadata that Parquet's geometry types denote (Parquet, "Geospatial Definitions"; `docs/FORMAT.md`, 4.6).
-ghost use Rattle.std.specs.Prelude.{◌≡◌, Some, IfOk, IsSome, map, option_map, string_bytes};
+ghost use Rattle.std.specs.Prelude.{◌≡◌, Some, IfOk, List, map, option_map, string_bytes};
 ghost use Rattle.arrow_values.specs.Texts.{text_of};
 ghost use Rattle.parquet_footer.specs.Element.{element};
-ghost use Rattle.parquet_footer.specs.Footer.{pairing};
+ghost use Rattle.parquet_footer.specs.Footer.{Pairing};
 ghost use Rattle.parquet_footer.specs.Logical.{logical};
-ghost use Rattle.parquet_schema.specs.Typed.{IsTyped};
-ghost use Rattle.parquet_schema.specs.Geometry.{TypedCrs, text_crs, json_or, colon_parts, keyed_crs, coded_crs, crs_in, edges_of, text_with, logical_text, is_byte_array, is_repeated, is_plain_leaf, extension_text};
-ghost use Rattle.parquet_schema.specs.Keys.{value_of};
+ghost use Rattle.parquet_schema.specs.Typed.{IsNamed};
+ghost use Rattle.parquet_schema.specs.Geometry.{text_crs, colon_parts, coded_crs, crs_in, edges_of, text_with, logical_text, is_plain_leaf, extension_text};
 
-use crate::keys::value_of;
+use crate::values::KeyValues;
 use geoarrow_meta::{CrsType, Edges};
 use metadata_text::{WrittenCrs, is_projjson, metadata_text};
-use parquet_footer::{Algorithm, Footer, LogicalType, PhysicalType, Repetition, SchemaElement};
+use parquet_footer::{Algorithm, LogicalType, PhysicalType, Repetition, SchemaElement};
 use std::alloc::{AllocError, Global};
 
 /// The CRS where a geometry type names none.
 const DEFAULT_CRS: &str = "OGC:CRS84";
 
-/// A text as a CRS of that type.
-fn text_crs<'a>(text: &'a str, crs_type: Option<CrsType>) -> (WrittenCrs<'a>, Option<CrsType>)
-    ensures { IsTyped result (text_crs text.now crs_type) }
-{
-    (WrittenCrs::Text(text), crs_type)
+/// A CRS that a geometry type names.
+#[derive(Clone, Copy)]
+pub(crate) enum NamedCrs<'a> {
+    /// This one, of this type.
+    Written(WrittenCrs<'a>, Option<CrsType>),
+    /// The value of a key, where it is PROJJSON, or else the text: the text, and the key.
+    Keyed(&'a str, &'a str),
 }
 
-/// The PROJJSON that a text is, or another CRS where it is none.
-fn json_or<'a>(
-    alloc: Global,
-    text: &'a str,
-    other: (WrittenCrs<'a>, Option<CrsType>),
-) -> Result<(WrittenCrs<'a>, Option<CrsType>), AllocError>
-    ensures { (t : TypedCrs) → IsTyped other.entry t → IfOk result (λ p. IsTyped p (json_or text.now t)) }
+/// A text as a CRS of that type.
+fn text_crs(text: &str, crs_type: Option<CrsType>) -> NamedCrs<'_>
+    ensures { (pairs : List Pairing) → IsNamed pairs result (text_crs text.now crs_type) }
 {
-    if is_projjson(alloc, text)? {
-        return Ok((WrittenCrs::Json(text), Some(CrsType::Projjson)));
-    }
-    Ok(other)
+    NamedCrs::Written(WrittenCrs::Text(text), crs_type)
 }
 
 /// What stands before the first colon of a text, and behind it.
@@ -45,54 +39,34 @@ fn colon_parts(text: &str) -> Option<(&str, &str)>
     text.split_once(':')
 }
 
-/// The CRS of a text `projjson:KEY`.
-fn keyed_crs<'a>(
-    alloc: Global,
-    footer: &Footer<'a>,
-    text: &'a str,
-    key: &str,
-) -> Result<(WrittenCrs<'a>, Option<CrsType>), AllocError>
-    ensures { IfOk result (λ p. IsTyped p (keyed_crs text.now (value_of key.now (map pairing footer.now.key_value_metadata.items)))) }
-{
-    match value_of(footer, key) {
-        None => Ok(text_crs(text, None)),
-        Some(value) => json_or(alloc, value, text_crs(text, None)),
-    }
-}
-
 /// The CRS of a text that is no PROJJSON.
-fn coded_crs<'a>(
-    alloc: Global,
-    footer: &Footer<'a>,
-    text: &'a str,
-) -> Result<(WrittenCrs<'a>, Option<CrsType>), AllocError>
-    ensures { IfOk result (λ p. IsTyped p (coded_crs (map pairing footer.now.key_value_metadata.items) text.now (colon_parts text.now))) }
+fn coded_crs(text: &str) -> NamedCrs<'_>
+    ensures { (pairs : List Pairing) → IsNamed pairs result (coded_crs pairs text.now (colon_parts text.now)) }
 {
     let Some((word, rest)) = colon_parts(text) else {
-        return Ok(text_crs(text, None));
+        return text_crs(text, None);
     };
     if word == "srid" {
-        return Ok(text_crs(rest, Some(CrsType::Srid)));
+        return text_crs(rest, Some(CrsType::Srid));
     }
     if word == "projjson" {
-        return keyed_crs(alloc, footer, text, rest);
+        return NamedCrs::Keyed(text, rest);
     }
-    Ok(text_crs(text, Some(CrsType::AuthorityCode)))
+    text_crs(text, Some(CrsType::AuthorityCode))
 }
 
 /// The CRS that a geometry type names.
-fn crs_in<'a>(
-    alloc: Global,
-    footer: &Footer<'a>,
-    text: Option<&'a str>,
-) -> Result<(WrittenCrs<'a>, Option<CrsType>), AllocError>
-    ensures { IfOk result (λ p. IsTyped p (crs_in (map pairing footer.now.key_value_metadata.items) (text_of text.entry))) }
+fn named_crs<'a>(alloc: Global, text: Option<&'a str>) -> Result<NamedCrs<'a>, AllocError>
+    ensures { IfOk result (λ named. (pairs : List Pairing) → IsNamed pairs named (crs_in pairs (text_of text.entry))) }
 {
     let Some(text) = text else {
         return Ok(text_crs(DEFAULT_CRS, Some(CrsType::AuthorityCode)));
     };
-    let coded = coded_crs(alloc, footer, text)?;
-    json_or(alloc, text, coded)
+    if is_projjson(alloc, text)? {
+        let crs = WrittenCrs::Json(text);
+        return Ok(NamedCrs::Written(crs, Some(CrsType::Projjson)));
+    }
+    Ok(coded_crs(text))
 }
 
 /// The edges of a GEOGRAPHY.
@@ -109,31 +83,37 @@ fn edges_of(algorithm: Option<Algorithm>) -> Edges
 }
 
 /// The text of the metadata with the CRS that a geometry type names and those edges.
-fn text_with(
+fn text_with<'a>(
     alloc: Global,
-    footer: &Footer<'_>,
-    crs: Option<&str>,
+    values: &mut KeyValues<'_, 'a>,
+    crs: Option<&'a str>,
     edges: Option<Edges>,
 ) -> Result<String, AllocError>
-    ensures { IfOk result (λ text. string_bytes text ≡ text_with (crs_in (map pairing footer.now.key_value_metadata.items) (text_of crs.entry)) edges) }
+    ensures text { IfOk result (λ text. string_bytes text ≡ text_with (crs_in values.old (text_of crs.entry)) edges) }
+    ensures same { values.new ≡ values.old }
 {
-    let (crs, crs_type) = crs_in(alloc, footer, crs)?;
-    metadata_text(alloc, crs, crs_type, edges)
+    let named = named_crs(alloc, crs)?;
+    match named {
+        NamedCrs::Written(written, crs_type) => metadata_text(alloc, written, crs_type, edges),
+        NamedCrs::Keyed(text, key) => values.keyed_text(alloc, text, key, edges),
+    }
 }
 
 /// The text of the metadata that a logical type denotes, if it is a geometry type.
-fn logical_text(
+fn logical_text<'a>(
     alloc: Global,
-    footer: &Footer<'_>,
-    logical_type: Option<LogicalType<'_>>,
+    values: &mut KeyValues<'_, 'a>,
+    logical_type: Option<LogicalType<'a>>,
 ) -> Result<Option<String>, AllocError>
-    ensures { IfOk result (λ text. option_map string_bytes text ≡ logical_text (map pairing footer.now.key_value_metadata.items) (option_map logical logical_type.entry)) }
+    ensures text { IfOk result (λ text. option_map string_bytes text
+        ≡ logical_text values.old (option_map logical logical_type.entry)) }
+    ensures same { values.new ≡ values.old }
 {
     match logical_type {
-        Some(LogicalType::Geometry(crs)) => Ok(Some(text_with(alloc, footer, crs, None)?)),
+        Some(LogicalType::Geometry(crs)) => Ok(Some(text_with(alloc, values, crs, None)?)),
         Some(LogicalType::Geography(crs, algorithm)) => {
             let edges = Some(edges_of(algorithm));
-            Ok(Some(text_with(alloc, footer, crs, edges)?))
+            Ok(Some(text_with(alloc, values, crs, edges)?))
         }
         _ => Ok(None),
     }
@@ -148,15 +128,16 @@ fn is_plain_leaf(found: &SchemaElement<'_>) -> bool
 }
 
 /// The text of the extension metadata that an element denotes, if it is of a geometry type. Errs only when out of memory.
-pub(crate) fn extension_text(
+pub(crate) fn extension_text<'a>(
     alloc: Global,
-    footer: &Footer<'_>,
-    found: &SchemaElement<'_>,
+    values: &mut KeyValues<'_, 'a>,
+    found: &SchemaElement<'a>,
 ) -> Result<Option<String>, AllocError>
-    ensures { IfOk result (λ text. option_map string_bytes text ≡ extension_text (map pairing footer.now.key_value_metadata.items) (element found.now)) }
+    ensures text { IfOk result (λ text. option_map string_bytes text ≡ extension_text values.old (element found.now)) }
+    ensures same { values.new ≡ values.old }
 {
     if is_plain_leaf(found) {
-        return logical_text(alloc, footer, found.logical_type);
+        return logical_text(alloc, values, found.logical_type);
     }
     Ok(None)
 }

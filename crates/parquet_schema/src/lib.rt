@@ -2,13 +2,16 @@
 //! the elements of its own schema; with the extensions that its geometry types denote.
 #![tactic(auto)]
 
+mod budget;
 mod columns;
 mod fault;
 mod file;
 mod geometry;
 mod keys;
 mod marks;
+mod values;
 
+pub use budget::report_budget;
 pub use columns::columns_of_footer;
 pub use fault::SchemaError;
 pub use file::{columns_of_file, footer_in, value_in_file};

@@ -1,15 +1,18 @@
 //! The columns of geometry types.
-ghost use Rattle.std.specs.Prelude.{◌≡◌, ◌<◌, ◌^◌, IfOk, map, option_map};
+ghost use Rattle.std.specs.Prelude.{◌≡◌, ◌<◌, ◌^◌, IfOk, map, option_map, string_bytes};
 ghost use Rattle.std.specs.List.{slice_get};
 ghost use Rattle.arrow_columns.specs.Column.{column_tree};
 ghost use Rattle.parquet_footer.specs.Element.{element};
-ghost use Rattle.parquet_footer.specs.Footer.{pairing};
-ghost use Rattle.parquet_schema.specs.Geometry.{count_of, root_children, children_in, marked, marked_columns};
+ghost use Rattle.parquet_schema.specs.Geometry.{count_of, root_children, children_in, given, marked_by};
+ghost use Rattle.parquet_schema.specs.Marks.{IsMarked, AreMarked};
 
+use crate::budget::size_of;
+use crate::fault::SchemaError;
 use crate::geometry::extension_text;
+use crate::values::KeyValues;
 use arrow_columns::Column;
 use metadata_text::with_extension;
-use parquet_footer::{Footer, SchemaElement};
+use parquet_footer::SchemaElement;
 use std::alloc::{AllocError, Global};
 
 /// The extension name of well-known binary.
@@ -60,26 +63,31 @@ fn count_of(found: &SchemaElement<'_>) -> u128
     }
 }
 
-/// A column with the extension that its element denotes, if it has no extension name of its own.
-fn marked(
+/// The extension metadata that a column is given: those that its element denotes, if it has no
+/// extension name of its own.
+fn given<'a>(
     alloc: Global,
-    footer: &Footer<'_>,
-    child: Option<&SchemaElement<'_>>,
-    column: Column,
-) -> Result<Column, AllocError>
-    ensures { IfOk result (λ c. column_tree c
-        ≡ marked (map pairing footer.now.key_value_metadata.items) (option_map (λ e. element e.now) child.entry) (column_tree column)) }
+    values: &mut KeyValues<'_, 'a>,
+    child: Option<&SchemaElement<'a>>,
+    column: &Column,
+) -> Result<Option<String>, AllocError>
+    ensures text { IfOk result (λ text. option_map string_bytes text
+        ≡ given values.old (option_map (λ e. element e.now) child.entry) (column_tree column.now)) }
+    ensures same { values.new ≡ values.old }
 {
     let Some(child) = child else {
-        return Ok(column);
+        return Ok(None);
     };
     if column.extension_type_name().is_some() {
-        return Ok(column);
+        return Ok(None);
     }
-    let Ok(text) = extension_text(alloc, footer, child) else {
-        drop(column);
-        return Err(AllocError);
-    };
+    extension_text(alloc, values, child)
+}
+
+/// A column with extension metadata that it is given.
+fn marked_by(alloc: Global, column: Column, text: Option<String>) -> Result<Column, AllocError>
+    ensures { IfOk result (λ c. column_tree c ≡ marked_by (option_map string_bytes text) (column_tree column)) }
+{
     match text {
         None => Ok(column),
         Some(text) => with_extension(alloc, column, WKB, text),
@@ -93,35 +101,61 @@ fn child_at<'c, 'a>(children: &'c [SchemaElement<'a>], at: usize) -> Option<&'c 
     children.get(at)
 }
 
-/// Columns with the extensions that these elements denote, each for the column at its place.
-fn marked_by(
+/// A column with the extension that its element denotes, if it has no extension name of its own;
+/// and what its extension metadata leave of an amount.
+fn marked<'a>(
     alloc: Global,
-    footer: &Footer<'_>,
-    children: &[SchemaElement<'_>],
+    values: &mut KeyValues<'_, 'a>,
+    child: Option<&SchemaElement<'a>>,
+    column: Column,
+    amount: u128,
+) -> Result<(Column, u128), SchemaError>
+    ensures made { IsMarked values.old (option_map (λ e. element e.now) child.entry) (column_tree column) amount result }
+    ensures same { values.new ≡ values.old }
+{
+    let text = given(alloc, values, child, &column)?;
+    let size = size_of(&text);
+    if amount < size {
+        return Err(SchemaError::Budget);
+    }
+    let new = marked_by(alloc, column, text)?;
+    Ok((new, amount - size))
+}
+
+/// Columns with the extensions that the elements denote, each for the column at its place, whose
+/// extension metadata have at most so many bytes.
+fn marked_within<'a>(
+    alloc: Global,
+    values: &mut KeyValues<'_, 'a>,
+    children: &[SchemaElement<'a>],
     columns: Vec<Column>,
-) -> Result<Vec<Column>, AllocError>
-    ensures { IfOk result (λ made. map column_tree made.items
-        ≡ marked_columns (map pairing footer.now.key_value_metadata.items) (map element children.now) (map column_tree columns.items)) }
+    amount: u128,
+) -> Result<Vec<Column>, SchemaError>
+    ensures { AreMarked values.old (map element children.now) (map column_tree columns.items) amount result }
 {
     let mut made = Vec::new(alloc);
+    let mut left = amount;
     for column in columns {
         let at = made.len();
         let child = child_at(children, at);
-        let new = marked(alloc, footer, child, column)?;
+        let (new, rest) = marked(alloc, values, child, column, left)?;
         made.push(new)?;
+        left = rest;
     }
     Ok(made)
 }
 
-/// Columns with the extensions that the children of the root denote.
-pub(crate) fn marked_columns(
+/// Columns with the extensions that the children of the root denote, whose extension metadata have
+/// at most so many bytes.
+pub(crate) fn marked_columns<'a>(
     alloc: Global,
-    footer: &Footer<'_>,
+    values: &mut KeyValues<'_, 'a>,
+    elements: &[SchemaElement<'a>],
     columns: Vec<Column>,
-) -> Result<Vec<Column>, AllocError>
-    ensures { IfOk result (λ made. map column_tree made.items
-        ≡ marked_columns (map pairing footer.now.key_value_metadata.items) (root_children (map element footer.now.schema.items)) (map column_tree columns.items)) }
+    amount: u128,
+) -> Result<Vec<Column>, SchemaError>
+    ensures { AreMarked values.old (root_children (map element elements.now)) (map column_tree columns.items) amount result }
 {
-    let children = root_children(alloc, footer.schema.as_slice())?;
-    marked_by(alloc, footer, children.as_slice(), columns)
+    let children = root_children(alloc, elements)?;
+    marked_within(alloc, values, children.as_slice(), columns, amount)
 }

@@ -1,0 +1,11 @@
+-- How many bytes may be made of so many that are read.
+use Rattle.std.specs.Prelude.{ℕ, ◌+◌, ◌*◌, length, Option, None, Some}
+use Rattle.arrow_values.specs.Tree.{Text}
+
+abbrev pub budget : ℕ → ℕ
+budget n = 1048576 + 32 * n
+
+-- how many bytes a text has, if there is one
+abbrev pub size_of : Option Text → ℕ
+size_of None = 0
+size_of (Some text) = length text
