@@ -1,5 +1,8 @@
 -- Coverings: a column of boxes, one for each geometry (GeoParquet 1.1, "covering").
-use Rattle.std.specs.Prelude.{◌≡◌, ◌⊎◌, ◌&&◌, ◌||◌, Bool, true, false, IsTrue, bytes_eq, codes, List, Option, None, Some, option_and_then, ⊤}
+use Rattle.std.specs.Prelude.{◌≡◌, ◌⊎◌, ◌&&◌, ◌||◌, Bool, true, false, IsTrue, bytes_eq, codes, List, Option, None, Some, String, option_and_then, ⊤}
+use Rattle.std.specs.BTreeMap.{BTreeMap, get_by_text}
+use Rattle.std.specs.BTreeSet.{BTreeSet, contains_text}
+use Rattle.std.specs.Global.{Global}
 use Rattle.serde_json.specs.Data.{Data, Items, no_items, item}
 use Rattle.serde_json.specs.Find.{get, as_str, as_array}
 use Rattle.arrow_values.specs.Tree.{Text, Tree, plain, float16, float32, float64, struct}
@@ -53,3 +56,23 @@ AreBounds cs bounds = IsPath cs (at (codes "xmin") bounds) × IsPath cs (at (cod
 abbrev pub IsCovering : List ColumnTree → Option Data → Type 0
 IsCovering cs None = ⊤
 IsCovering cs (Some d) = AreBounds cs (get (codes "bbox") d)
+
+-- ---- for private contracts
+
+-- whether a type is a group with a member of that name, of floats
+abbrev pub group_has : Text → TypeTree → Bool
+group_has name (known (struct fs)) = has_floats name fs
+group_has name t = false
+
+-- the names are those of the members of floats of the group
+abbrev pub AreFloatsOf : TypeTree → BTreeSet (String Global) → Type 0
+AreFloatsOf t names = (name : Text) → contains_text names name ≡ group_has name t
+
+-- what a map has of a name are the floats of the first column of that name
+abbrev pub AreFirst : Option ColumnTree → Option (BTreeSet (String Global)) → Type 0
+AreFirst None None = ⊤
+AreFirst (Some c) (Some names) = AreFloatsOf c.data_type names
+AreFirst _ _ = ⊥
+
+abbrev pub AreFloats : List ColumnTree → BTreeMap (String Global) (BTreeSet (String Global)) → Type 0
+AreFloats cs m = (column : Text) → AreFirst (first_of cs column) (get_by_text m column)

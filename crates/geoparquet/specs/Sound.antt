@@ -20,7 +20,7 @@ abbrev pub NamesOne : List ColumnTree → Option Text → Type 0
 NamesOne cs None = ⊥
 NamesOne cs (Some s) = IsTrue (is_one cs s)
 
--- the column of each key is of its encoding, and has the CRS and the edges that the metadata say
+-- the column of each key is of its encoding, and its own metadata agree with the metadata in the CRS and the edges
 abbrev pub AreSound : Data → List ColumnTree → List Text → Type 0
 AreSound d cs [] = ⊤
 AreSound d cs (key ∷ keys) = (Holds d cs (Some key) Encoding × Holds d cs (Some key) CrsAgrees × Holds d cs (Some key) Edges) × AreSound d cs keys

@@ -27,10 +27,16 @@ IsCrs (Some d) = ⊥
 abbrev pub IsEdges : Option Data → Type 0
 IsEdges found = (found ≡ None) ⊎ (IsTheText (codes "planar") found ⊎ IsTheText (codes "spherical") found)
 
--- `edges` and the edges of the column's own metadata: those that are there are the same
-abbrev pub EdgesAgree : Option Data → Option Text → Type 0
-EdgesAgree found None = ⊤
-EdgesAgree found (Some s) = IsTheText s found
+-- the edges that a value says: its text, and planar where it is absent or null
+abbrev pub edges_text : Option Data → Option Text
+edges_text None = Some (codes "planar")
+edges_text (Some null) = Some (codes "planar")
+edges_text (Some d) = as_str d
+
+-- `edges`, and the column's own metadata, where these are an object: both say the same edges
+abbrev pub EdgesAgree : Option Data → Data → Type 0
+EdgesAgree found (object ms) = (s : Text) × (edges_text found ≡ Some s) × (edges_text (get (codes "edges") (object ms)) ≡ Some s)
+EdgesAgree found own = ⊤
 
 -- `orientation`: absent, or the one text
 abbrev pub IsOrientation : Option Data → Type 0

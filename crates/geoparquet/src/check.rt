@@ -5,6 +5,7 @@ ghost use Rattle.arrow_columns.specs.Column.{column_tree};
 ghost use Rattle.arrow_values.specs.Texts.{text_of};
 ghost use Rattle.geoparquet.specs.Checks.{checks_of_all, checks_of_column, places_in, Holds, answer_of, given, AreHeld, AreAnswers, AreFindings};
 
+use crate::columns::SchemaColumns;
 use crate::crs::crs_agree;
 use crate::encoding::{are_types, is_encoding};
 use crate::finding::{GeoCheck, GeoFinding};
@@ -13,7 +14,7 @@ use crate::values::{
     columns_in, copied, is_bbox, is_crs, is_edges, is_epoch, is_orientation, member_at,
     member_of_column, present_at, text_in, value_of,
 };
-use arrow_columns::{Column, ColumnNames};
+use arrow_columns::Column;
 use serde_json::Value;
 use std::alloc::{AllocError, Global};
 
@@ -44,7 +45,7 @@ pub fn check_geo(
     ensures { IfOk result (λ findings. AreFindings geo.now (map column_tree columns.now) findings.items) }
 {
     let value = value_of(alloc, geo)?;
-    let names = ColumnNames::new(alloc, columns)?;
+    let names = SchemaColumns::new(alloc, columns)?;
     let mut findings = Vec::new(alloc);
     add_all(alloc, &mut findings, &value, &names)?;
     Ok(findings)
@@ -55,7 +56,7 @@ fn add_all(
     alloc: Global,
     findings: &mut Vec<GeoFinding>,
     value: &Value,
-    columns: &ColumnNames<'_>,
+    columns: &SchemaColumns<'_>,
 ) -> Result<(), AllocError>
     requires { findings.now.items ≡ [] }
     ensures { OnOk result (AreAnswers (view value.now) (map column_tree columns.now) (places_in (view value.now)) (map answer_of findings.new.items)) }
@@ -73,7 +74,7 @@ fn add_all(
 }
 
 /// What holds of all the metadata.
-fn checks_of_all(value: &Value, columns: &ColumnNames<'_>) -> [(GeoCheck, bool); 4]
+fn checks_of_all(value: &Value, columns: &SchemaColumns<'_>) -> [(GeoCheck, bool); 4]
     ensures { AreHeld (Holds (view value.now) (map column_tree columns.now) None) checks_of_all result }
 {
     [
@@ -89,7 +90,7 @@ fn checks_of_all(value: &Value, columns: &ColumnNames<'_>) -> [(GeoCheck, bool);
 fn checks_of_column(
     alloc: Global,
     value: &Value,
-    columns: &ColumnNames<'_>,
+    columns: &SchemaColumns<'_>,
     key: &str,
 ) -> Result<[(GeoCheck, bool); 9], AllocError>
     ensures { IfOk result (AreHeld (Holds (view value.now) (map column_tree columns.now) (Some key.now)) checks_of_column) }
@@ -109,7 +110,7 @@ fn checks_of_column(
         (GeoCheck::Types, are_types(encoding, types)),
         (GeoCheck::Crs, is_crs(crs)),
         (GeoCheck::CrsAgrees, is_own_crs),
-        (GeoCheck::Edges, is_edges(edges, text_in(own.get("edges")))),
+        (GeoCheck::Edges, is_edges(edges, &own)),
         (GeoCheck::Orientation, is_orientation(orientation)),
         (GeoCheck::Bbox, is_bbox(member_at(member, "bbox"))),
         (GeoCheck::Epoch, is_epoch(member_at(member, "epoch"))),

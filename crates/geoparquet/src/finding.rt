@@ -22,7 +22,9 @@ pub enum GeoCheck {
     /// `crs` of a column is the CRS of the column's own metadata, where that has one: both are equal, or have the same authority and code. Where
     /// `crs` is absent, it is `OGC:CRS84`.
     CrsAgrees,
-    /// `edges` of a column is absent, `planar` or `spherical`, and the edges of the column's own metadata, where it names some.
+    /// `edges` of a column is absent, `planar` or `spherical`, and says the edges of the column's own
+    /// metadata, where these are a JSON object. Edges that are absent, or null in the own metadata,
+    /// are `planar`.
     Edges,
     /// `orientation` of a column is absent or `counterclockwise`.
     Orientation,

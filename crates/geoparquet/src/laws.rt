@@ -7,7 +7,8 @@ ghost use Rattle.geoparquet.specs.Checks.{value_of, AreFindings};
 ghost use Rattle.geoparquet.specs.Sound.{AllHold, IsSound};
 
 /// A law: where every finding says that its check holds, `primary_column` is the name of one column of the schema, and the column of each key of
-/// `columns` is of its encoding, and has the CRS and the edges that the metadata say. There is nothing to run.
+/// `columns` is of its encoding; its own metadata say the CRS of the metadata, where they have one,
+/// and the edges of the metadata, where they are an object. There is nothing to run.
 pub fn is_sound_where_all_hold()
     ensures { (geo : Text) (cs : List ColumnTree) (findings : List GeoFinding) → AreFindings geo cs findings → AllHold findings
         → IsSound (value_of geo) cs }

@@ -3,6 +3,7 @@
 #![tactic(auto)]
 
 mod check;
+mod columns;
 mod crs;
 mod encoding;
 mod equality_laws;

@@ -4,19 +4,18 @@ ghost use Rattle.serde_json.specs.Find.{get};
 ghost use Rattle.serde_json.specs.View.{view, members_view};
 ghost use Rattle.arrow_columns.specs.Column.{column_tree};
 ghost use Rattle.arrow_values.specs.Texts.{text_of};
-ghost use Rattle.arrow_values.specs.View.{tree, field_trees};
-ghost use Rattle.geoparquet.specs.Coverings.{is_floating, has_floats, IsColumnWith, IsPathTo, IsPath, AreBounds, IsCovering};
+ghost use Rattle.geoparquet.specs.Coverings.{IsPathTo, IsPath, AreBounds, IsCovering};
 ghost use Rattle.geoparquet.specs.Values.{text_of_value};
 ghost use Rattle.geoparquet.specs.Checks.{AreColumns, IsPrimary, own_metadata};
 
+use crate::columns::SchemaColumns;
 use crate::values::{items_in, member_at, member_of_column, text_in, value_of};
-use arrow_columns::{Column, ColumnNames, ColumnType};
-use arrow_values::{DataType, Field, Fields};
+use arrow_columns::Column;
 use serde_json::{Map, Value};
 use std::alloc::{AllocError, Global};
 
 /// Whether `columns` is an object with a member at least, whose keys are each the name of one column.
-pub(crate) fn are_columns(members: Option<&Map<String, Value>>, columns: &ColumnNames<'_>) -> bool
+pub(crate) fn are_columns(members: Option<&Map<String, Value>>, columns: &SchemaColumns<'_>) -> bool
     ensures { IsTrue result ↔ AreColumns (map column_tree columns.now) (option_map (λ m. members_view m.now.entries) members.entry) }
 {
     let Some(members) = members else {
@@ -53,49 +52,18 @@ pub(crate) fn own_metadata(alloc: Global, column: Option<&Column>) -> Result<Val
     }
 }
 
-/// Whether a type is one of floats.
-fn is_floating(data_type: &DataType) -> bool
-    ensures { result ≡ is_floating (tree data_type.now) }
-{
-    matches!(
-        data_type,
-        DataType::Float16 | DataType::Float32 | DataType::Float64
-    )
-}
-
-/// Whether a field of that name has floats.
-fn has_floats(name: &str, fields: &Fields) -> bool
-    ensures { result ≡ has_floats name.now (field_trees fields.now) }
-{
-    let has_them = |field: &Field| field.name() == name && is_floating(field.data_type());
-    fields.as_slice().iter().any(has_them)
-}
-
-/// Whether a column is a group with a member of that name, of floats.
-fn is_column_with(name: &str, column: Option<&Column>) -> bool
-    ensures { IsTrue result ↔ IsColumnWith name.now (option_map (λ c. column_tree c.now) column.entry) }
-{
-    let Some(column) = column else {
-        return false;
-    };
-    match &column.data_type {
-        ColumnType::Data(DataType::Struct(fields)) => has_floats(name, fields),
-        _ => false,
-    }
-}
-
 /// Whether there are two texts, the name of a column and that of floats in its group.
-fn is_path_to(columns: &ColumnNames<'_>, column: Option<&str>, name: Option<&str>) -> bool
+fn is_path_to(columns: &SchemaColumns<'_>, column: Option<&str>, name: Option<&str>) -> bool
     ensures { IsTrue result ↔ IsPathTo (map column_tree columns.now) (text_of column.entry) (text_of name.entry) }
 {
     match (column, name) {
-        (Some(column), Some(name)) => is_column_with(name, columns.first(column)),
+        (Some(column), Some(name)) => columns.has_floats(column, name),
         _ => false,
     }
 }
 
 /// Whether a value is a path to floats: an array of two such texts.
-fn is_path(columns: &ColumnNames<'_>, found: Option<&Value>) -> bool
+fn is_path(columns: &SchemaColumns<'_>, found: Option<&Value>) -> bool
     ensures { IsTrue result ↔ IsPath (map column_tree columns.now) (option_map (λ v. view v.now) found.entry) }
 {
     match items_in(found) {
@@ -105,7 +73,7 @@ fn is_path(columns: &ColumnNames<'_>, found: Option<&Value>) -> bool
 }
 
 /// Whether `bbox` of a covering has a path for each bound.
-fn are_bounds(columns: &ColumnNames<'_>, bounds: Option<&Value>) -> bool
+fn are_bounds(columns: &SchemaColumns<'_>, bounds: Option<&Value>) -> bool
     ensures { IsTrue result ↔ AreBounds (map column_tree columns.now) (option_map (λ v. view v.now) bounds.entry) }
 {
     let least = member_at(bounds, "zmin");
@@ -119,7 +87,7 @@ fn are_bounds(columns: &ColumnNames<'_>, bounds: Option<&Value>) -> bool
 }
 
 /// Whether `covering` is absent or has such a `bbox`.
-pub(crate) fn is_covering(columns: &ColumnNames<'_>, found: Option<&Value>) -> bool
+pub(crate) fn is_covering(columns: &SchemaColumns<'_>, found: Option<&Value>) -> bool
     ensures { IsTrue result ↔ IsCovering (map column_tree columns.now) (option_map (λ v. view v.now) found.entry) }
 {
     match found {

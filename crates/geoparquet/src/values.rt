@@ -4,7 +4,7 @@ ghost use Rattle.serde_json.specs.Find.{get, as_array};
 ghost use Rattle.serde_json.specs.View.{view, items_view, members_view};
 ghost use Rattle.arrow_values.specs.Texts.{text_of};
 ghost use Rattle.geoarrow_meta.specs.Read.{at_key};
-ghost use Rattle.geoparquet.specs.Values.{at, text_of_value, IsCrs, IsEdges, EdgesAgree, IsOrientation, IsEpoch};
+ghost use Rattle.geoparquet.specs.Values.{at, text_of_value, IsCrs, edges_text, IsEdges, EdgesAgree, IsOrientation, IsEpoch};
 ghost use Rattle.geoparquet.specs.Boxes.{AreInOrder, IsFlat, IsBox, IsBbox};
 ghost use Rattle.geoparquet.specs.Checks.{value_of, columns_in};
 
@@ -95,13 +95,36 @@ pub(crate) fn is_crs(found: Option<&Value>) -> bool
     matches!(found, None | Some(Value::Null | Value::Object(_)))
 }
 
-/// Whether `edges` is absent or one of two texts, and that text of the column's own metadata, where it has one.
-pub(crate) fn is_edges(found: Option<&Value>, own: Option<&str>) -> bool
-    ensures { IsTrue result ↔ (IsEdges (option_map (λ v. view v.now) found.entry) × EdgesAgree (option_map (λ v. view v.now) found.entry) (text_of own.entry)) }
+/// The edges that a value says: its text, and `planar` where it is absent or null.
+fn edges_text(found: Option<&Value>) -> Option<&str>
+    ensures { text_of result ≡ edges_text (option_map (λ v. view v.now) found.entry) }
 {
-    let text = text_in(found);
-    (found.is_none() || matches!(text, Some("planar" | "spherical")))
-        && (own.is_none() || text == own)
+    match found {
+        None | Some(Value::Null) => Some("planar"),
+        Some(value) => value.as_str(),
+    }
+}
+
+/// Whether `edges` says the edges of the column's own metadata, where these are an object.
+fn edges_agree(found: Option<&Value>, own: &Value) -> bool
+    ensures { IsTrue result ↔ EdgesAgree (option_map (λ v. view v.now) found.entry) (view own.now) }
+{
+    if !own.is_object() {
+        return true;
+    }
+    match (edges_text(found), edges_text(own.get("edges"))) {
+        (Some(edges), Some(own)) => edges == own,
+        _ => false,
+    }
+}
+
+/// Whether `edges` is absent or one of two texts, and says the edges of the column's own metadata.
+pub(crate) fn is_edges(found: Option<&Value>, own: &Value) -> bool
+    ensures { IsTrue result ↔ (IsEdges (option_map (λ v. view v.now) found.entry)
+        × EdgesAgree (option_map (λ v. view v.now) found.entry) (view own.now)) }
+{
+    (found.is_none() || matches!(text_in(found), Some("planar" | "spherical")))
+        && edges_agree(found, own)
 }
 
 /// Whether `orientation` is absent or the one text.

@@ -14,7 +14,6 @@ returns c =
     let held : List (GeoCheck × Bool) = (Encoding, c.is_encoding.result) ∷ (Types, c.are_types.result) ∷ (Crs, c.is_crs.result) ∷ (CrsAgrees, c.in_ok-is_own_crs.is_own_crs) ∷ (Edges, c.is_edges.result) ∷ (Orientation, c.is_orientation.result) ∷ (Bbox, c.is_bbox.result) ∷ (Epoch, c.is_epoch.result) ∷ (Covering, c.is_covering.result) ∷ [] in
     let found : Entry = record { member = option_map (λ v. view v.now) c.member_of_column-member.result; column = option_map (λ t. column_tree t.now) c.first-column.result } in
     let encoding = c.text_in-encoding.ensures ∙ ap text_of_value c.member_at.ensures in
-    let edges = c.text_in.ensures ∙ ap text_of_value c.get.ensures in
     let of_found : AreHeld (HoldsOf d cs found) checks_of_column held = (
       refl,
       rw encoding at c.is_encoding.ensures,
@@ -29,7 +28,7 @@ returns c =
             rw (c.member_at-crs.ensures, c.present_at.ensures, c.in_ok-own.ensures) at c.in_ok-is_own_crs.ensures,
             (
               refl,
-              rw (c.member_at-edges.ensures, edges, c.in_ok-own.ensures) at c.is_edges.ensures,
+              rw (c.member_at-edges.ensures, c.in_ok-own.ensures) at c.is_edges.ensures,
               (
                 refl,
                 rw c.member_at-orientation.ensures at c.is_orientation.ensures,
