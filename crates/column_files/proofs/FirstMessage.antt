@@ -9,8 +9,8 @@ use Rattle.arrow_ipc.specs.declared.fault.Rule.TheVariants.{Envelope}
 use Rattle.arrow_ipc.specs.Schema.{message_in, cut, schema_of_message}
 use Rattle.arrow_ipc.specs.Wire.{integer_at}
 use Rattle.column_files.specs.Forms.{IsForm}
-use Rattle.column_files.specs.Files.{IsSchemaRead, IsFileRead}
-use Rattle.column_files.specs.Reading.{size_in, GivesSchema, IsHead, ReadAs}
+use Rattle.column_files.specs.Files.{size_in, IsSchemaRead, IsFileRead}
+use Rattle.column_files.specs.Reading.{GivesSchema, IsHead, ReadAs}
 use Rattle.column_files.specs.Sources.{GivesUpTo}
 use Rattle.column_files.specs.declared.form.Form.{Form}
 use Rattle.column_files.specs.declared.form.Form.TheVariants.{ArrowFile, ArrowStream, Parquet, Lines}

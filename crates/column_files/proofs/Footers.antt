@@ -1,5 +1,5 @@
 -- The footer of an Arrow file is found by the file's end alone.
-use Rattle.std.proofs.Common.{◌≡◌, ◌⊎◌, inl, inr, ℕ, ◌+◌, ◌-◌, ◌^◌, ◌<◌, ◌≤◌, min, Bool, true, false, ◌&&◌, nat_lt, nat_le, List, [], ◌∷◌, ◌++◌, length, take, drop, if◌then◌else◌, Result, Ok, Err, refl, sym, ap, ◌∙◌, subst, codes, arith}
+use Rattle.std.proofs.Common.{◌≡◌, ◌⊎◌, inl, inr, ℕ, ◌+◌, ◌-◌, ◌^◌, ◌<◌, ◌≤◌, min, Bool, true, false, ◌&&◌, nat_lt, nat_le, List, [], ◌∷◌, ◌++◌, length, take, drop, get_or, if◌then◌else◌, Result, Ok, Err, refl, sym, ap, ◌∙◌, subst, codes, arith}
 use Rattle.std.specs.Int.{w32, from_le_bytes}
 use Rattle.std.specs.Str.{bytes_eq}
 use Rattle.std.specs.declared.vec.Vec.{Vec}
@@ -33,6 +33,24 @@ told (a ∷ b ∷ c ∷ d ∷ magic) = by_magic (bytes_eq magic (codes "ARROW1")
         → ((at : ℕ) → size_before_magic at (a ∷ b ∷ c ∷ d ∷ magic) ≡ Ok (size_in (a ∷ b ∷ c ∷ d ∷ magic))) ⊎ ((at : ℕ) → size_before_magic at (a ∷ b ∷ c ∷ d ∷ magic) ≡ breaks Envelope at)
     by_magic true is = inl (λ at. rw is refl)
     by_magic false is = inr (λ at. rw is refl)
+
+-- ten bytes of which the last six are the magic tell a size
+abbrev pub HasMagic : List ℕ → Type 0
+HasMagic t = (get_or t 4 0 ≡ 65) × (get_or t 5 0 ≡ 82) × (get_or t 6 0 ≡ 82) × (get_or t 7 0 ≡ 79) × (get_or t 8 0 ≡ 87) × (get_or t 9 0 ≡ 49)
+
+pub tells : (t : List ℕ) (at : ℕ) → length t ≡ 10 → HasMagic t → size_before_magic at t ≡ Ok (from_le_bytes w32 (get_or t 0 0 ∷ get_or t 1 0 ∷ get_or t 2 0 ∷ get_or t 3 0 ∷ []))
+tells [] at len is = absurd (omega (arith, len))
+tells (a ∷ []) at len is = absurd (omega (arith, len))
+tells (a ∷ b ∷ []) at len is = absurd (omega (arith, len))
+tells (a ∷ b ∷ c ∷ []) at len is = absurd (omega (arith, len))
+tells (a ∷ b ∷ c ∷ d ∷ []) at len is = absurd (omega (arith, len))
+tells (a ∷ b ∷ c ∷ d ∷ e ∷ []) at len is = absurd (omega (arith, len))
+tells (a ∷ b ∷ c ∷ d ∷ e ∷ f ∷ []) at len is = absurd (omega (arith, len))
+tells (a ∷ b ∷ c ∷ d ∷ e ∷ f ∷ g ∷ []) at len is = absurd (omega (arith, len))
+tells (a ∷ b ∷ c ∷ d ∷ e ∷ f ∷ g ∷ h ∷ []) at len is = absurd (omega (arith, len))
+tells (a ∷ b ∷ c ∷ d ∷ e ∷ f ∷ g ∷ h ∷ i ∷ []) at len is = absurd (omega (arith, len))
+tells (a ∷ b ∷ c ∷ d ∷ e ∷ f ∷ g ∷ h ∷ i ∷ j ∷ []) at len (is4, is5, is6, is7, is8, is9) = rw (is4, is5, is6, is7, is8, is9) refl
+tells (a ∷ b ∷ c ∷ d ∷ e ∷ f ∷ g ∷ h ∷ i ∷ j ∷ k ∷ rest) at len is = absurd (omega (arith, len))
 
 module _ (bytes : List ℕ) (n : ℕ) (len : length bytes ≡ n + 10) where
   long : nat_lt (length bytes) 10 ≡ false
@@ -87,7 +105,7 @@ footer_by : (bytes footer : List ℕ) (n : ℕ) → length bytes ≡ n + 10 → 
 footer_by bytes footer n len found =
     let size = size_in (drop n bytes) in
     elim (told (drop n bytes)) [
-      | inr no ↦ absurd (not_ok _ footer (sym (no_magic bytes n len (no n)) ∙ found))
+      | inr wrong ↦ absurd (not_ok _ footer (sym (no_magic bytes n len (wrong n)) ∙ found))
       | inl tells ↦
           elim (cases_lt n size) [
             | inl great ↦ absurd (not_ok _ footer (sym (too_great bytes n len size (tells n) great) ∙ found))
@@ -126,7 +144,7 @@ module _ (front end : List ℕ) (n : ℕ) (len : length end ≡ n + 10) where
       let all = front ++ end in
       let at = length front + n in
       elim (told (drop n end)) [
-        | inr no ↦ no_magic all at all_len (same_tail at ∙ no at) ∙ ap (moved (length front)) (sym (no_magic end n len (no n)))
+        | inr wrong ↦ no_magic all at all_len (same_tail at ∙ wrong at) ∙ ap (moved (length front)) (sym (no_magic end n len (wrong n)))
         | inl tells ↦
             let place : at - size ≡ length front + (n - size) = omega (arith, fits) in
             let cut_same : take size (drop (at - size) (take at all)) ≡ take size (drop (n - size) (take n end)) =
@@ -159,9 +177,11 @@ of_refusal front end (Ok footer) is error inner meets refused =
     (inner, meets, refused ∙ ap (λ n. further n inner) begins)
 of_refusal front end (Err fault) is error inner meets refused =
     let same : inner ≡ Broken fault = cc in
-    let place : min (length front + 0 + fault.at) (2 ^ 64 - 1) ≡ min (0 + 0 + (length front + fault.at)) (2 ^ 64 - 1) = ap (λ n. min n (2 ^ 64 - 1)) (omega arith) in
-    (Broken (record { rule = fault.rule; at = length front + fault.at }), refl,
-      refused ∙ ap (further (length front + 0)) same ∙ ap (λ at. Broken (record { rule = fault.rule; at = at })) place)
+    let place : min (length front + 0 + fault.at) (2 ^ 64 - 1) ≡ min (0 + 0 + (length front + fault.at)) (2 ^ 64 - 1) = ap (λ n. min n (2 ^ 64 - 1)) (omega arith) in (
+      Broken (record { rule = fault.rule; at = length front + fault.at }),
+      refl,
+      refused ∙ ap (further (length front + 0)) same ∙ ap (λ at. Broken (record { rule = fault.rule; at = at })) place,
+    )
 
 of_whole : (front end : List ℕ) → 10 + size_in (drop (length end - 10) end) ≤ length end → (r : Result (Vec Column Global) FileFault)
     → IsFooterRead (length front) end r → IsFooterRead 0 (front ++ end) r
@@ -169,8 +189,10 @@ of_whole front end fits r is = by_result r is
   where
     n : ℕ
     n = length end - 10
+
     found : footer_in (front ++ end) ≡ moved (length front) (footer_in end)
     found = same_found front end n (omega (arith, fits)) (omega (arith, fits))
+
     by_result : (r : Result (Vec Column Global) FileFault) → IsFooterRead (length front) end r → IsFooterRead 0 (front ++ end) r
     by_result (Ok columns) (s, meets, is) =
         (s, subst (λ f. Meets f (schema_of_footer 61) (Ok s)) (sym found) (of_columns (length front) (footer_in end) (schema_of_footer 61) s meets), is)
@@ -188,3 +210,22 @@ of_end start end r is front len (inl fits) = of_whole front end fits r (subst (�
 of_end start end r is front len (inr none) =
     let empty : front ≡ [] = nil_from_length front (len ∙ none) in
     subst (λ f. IsFooterRead 0 (f ++ end) r) (sym empty) (subst (λ n. IsFooterRead n end r) none is)
+
+-- places that stop at the greatest `usize` stop alike where they were stopped before
+pub further_stops : (n : ℕ) (error : IpcError) → further (min n (2 ^ 64 - 1)) error ≡ further n error
+further_stops n (Broken fault) =
+    let place : min (min n (2 ^ 64 - 1) + fault.at) (2 ^ 64 - 1) ≡ min (n + fault.at) (2 ^ 64 - 1) = omega arith in
+    ap (λ at. Broken (record { rule = fault.rule; at = at })) place
+further_stops n (Budget at) = ap Budget (omega arith)
+further_stops n OutOfMemory = refl
+
+-- where a footer begins that is found
+pub cut_begin : (bytes : List ℕ) (n size : ℕ) → length bytes ≡ n + 10 → 0 < size → size ≤ n → size_before_magic n (drop n bytes) ≡ Ok size → n - size ≡ footer_begin bytes (footer_in bytes)
+cut_begin bytes n size len some fits told =
+    let test : nat_lt 0 size ≡ true = lt-ltb 0 size some in
+    let footer = take size (drop (n - size) (take n bytes)) in
+    let found : footer_in bytes ≡ Ok footer = sized bytes n len size told fits ∙ ap (λ t. if t then Ok footer else breaks Envelope (n - size)) test in
+    let front : length (take n bytes) ≡ n = length-take-le n bytes (omega (arith, len)) in
+    let cut_len : length footer ≡ size = length-take-le size (drop (n - size) (take n bytes)) (omega (arith, front, length-drop (n - size) (take n bytes), fits)) in
+    let begins : footer_begin bytes (footer_in bytes) ≡ length bytes - 10 - length footer = ap (footer_begin bytes) found in
+    omega (arith, begins, cut_len, len)

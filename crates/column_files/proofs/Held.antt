@@ -1,5 +1,5 @@
 -- Bytes that are held, and the line that they begin with, over plain variables.
-use Rattle.std.proofs.Common.{◌≡◌, inl, inr, ℕ, ◌+◌, ◌-◌, ◌^◌, ◌<◌, ◌≤◌, min, true, false, List, [], ◌∷◌, ◌++◌, length, take, drop, drop_of_length-le, get_or, Option, Some, None, IfSome, Ok, Err, refl, sym, ap, ◌∙◌, subst, arith}
+use Rattle.std.proofs.Common.{◌≡◌, inl, inr, ℕ, ◌+◌, ◌-◌, ◌<◌, ◌≤◌, min, true, false, List, [], ◌∷◌, ◌++◌, length, take, drop, drop_of_length-le, get_or, Option, Some, None, IfSome, Err, refl, sym, ap, ◌∙◌, subst, arith}
 use Rattle.std.proofs.lemmas.Bool.{cases_lt}
 use Rattle.std.proofs.lemmas.List.{append-nil, append_assoc, get_or_append_left, get_or-drop, length-append, length-drop, length-take, length-take-le, take-append-le, take_all, drop-append-le}
 use Rattle.std.proofs.lemmas.List.Elements.{All-nil, All-push}
@@ -136,26 +136,24 @@ pub passes_kept : (n m k : ℕ) (old mid new : Option (List ℕ)) (cs : List Col
 passes_kept n m k old mid new cs (lines, count, short, denote, goes) same kept = (lines, same ∙ count, short, denote, goes_on lines old mid new goes kept)
 
 -- the line at hand is passed over too
-goes_past : (lines : List (List ℕ)) (old mid rest : Option (List ℕ)) (held : List ℕ) (len : ℕ) → Goes (λ text rest. LinesTo text lines rest) old mid → Keeps mid (prepend_known held rest)
+goes_past : (lines : List (List ℕ)) (old rest : Option (List ℕ)) (held : List ℕ) (len : ℕ) → Goes (λ text rest. LinesTo text lines rest) old (prepend_known held rest)
     → HasLine held rest (Some len) → Goes (λ text rest. LinesTo text (lines ++ take len held ∷ []) rest) old (prepend_known (drop (len + 1) held) rest)
-goes_past lines None mid rest held len goes kept line = tt
-goes_past lines (Some text) None rest held len goes kept line = absurd goes
-goes_past lines (Some text) (Some left) None held len goes kept line = absurd kept
-goes_past lines (Some text) (Some left) (Some more) held len goes kept line =
+goes_past lines None rest held len goes line = tt
+goes_past lines (Some text) None held len goes line = absurd goes
+goes_past lines (Some text) (Some more) held len goes line =
     let behind = drop (len + 1) held ++ more in
-    let first : FirstLine left (take len held) behind = subst (λ t. FirstLine t (take len held) behind) kept ((first_line held more len line).0) in
-    lines_more lines (take len held ∷ []) text left behind goes (behind, first, refl)
+    lines_more lines (take len held ∷ []) text (held ++ more) behind goes (behind, (first_line held more len line).0, refl)
 
-pub passes_line : (n m k : ℕ) (old mid rest : Option (List ℕ)) (held : List ℕ) (len : ℕ) (cs : List ColumnTree) → PassesLines n m old mid [] → k ≡ min (m + 1) max_lines
-    → Keeps mid (prepend_known held rest) → HasLine held rest (Some len) → Denote (take len held ∷ []) cs → PassesLines n k old (prepend_known (drop (len + 1) held) rest) cs
-passes_line n m k old mid rest held len cs (lines, count, short, denote, goes) next kept line here =
+pub passes_line : (n m k : ℕ) (old rest now : Option (List ℕ)) (held : List ℕ) (len : ℕ) (cs : List ColumnTree) → PassesLines n m old (prepend_known held rest) [] → k ≡ min (m + 1) max_lines
+    → HasLine held rest (Some len) → Denote (take len held ∷ []) cs → now ≡ prepend_known (drop (len + 1) held) rest → PassesLines n k old now cs
+passes_line n m k old rest now held len cs (lines, count, short, denote, goes) next line here left =
     let one : length (take len held) ≤ max_line_bytes = omega (arith, line.0, length-take len held) in
-    (
-      lines ++ take len held ∷ [],
+    let all = lines ++ take len held ∷ [] in (
+      all,
       omega (arith, next, count, length-append lines (take len held ∷ [])),
       All-push (λ line. length line ≤ max_line_bytes) lines (take len held) short one,
       denote_more lines (take len held ∷ []) [] cs denote here,
-      goes_past lines old mid rest held len goes kept line,
+      subst (Goes (λ text rest. LinesTo text all rest) old) (sym left) (goes_past lines old rest held len goes line),
     )
 
 -- ---- what is answered of it

@@ -1,7 +1,7 @@
 -- What is read of a source: its lines one after another, and the bytes that hold its schema.
-use Rattle.std.specs.Prelude.{◌≡◌, ◌≢◌, ℕ, ◌+◌, ◌-◌, ◌^◌, ◌<◌, ◌≤◌, ◌⊎◌, ◌↔◌, min, Bool, true, false, ◌||◌, List, [], ◌∷◌, ◌++◌, length, take, drop, Option, Some, None, IfSome, Result, Ok, Err, ⊤}
+use Rattle.std.specs.Prelude.{◌≡◌, ◌≢◌, ℕ, ◌+◌, ◌-◌, ◌^◌, ◌<◌, ◌≤◌, ◌⊎◌, ◌↔◌, min, Bool, true, false, List, [], ◌∷◌, ◌++◌, length, take, drop, Option, Some, None, IfSome, Result, Ok, Err, ⊤}
 use Rattle.std.specs.List.{All}
-use Rattle.std.specs.Io.KnownBytes.{Keeps, IsAtEnd, prepend_known}
+use Rattle.std.specs.Io.KnownBytes.{IsAtEnd, prepend_known}
 use Rattle.std.specs.IoError.{error_kind}
 use Rattle.std.specs.declared.io.ErrorKind.TheVariants.{Interrupted}
 use Rattle.memchr.specs.Find.{is_byte, Passes, Nowhere, IsFirstByte}
@@ -9,7 +9,7 @@ use Rattle.std.specs.declared.vec.Vec.{Vec}
 use Rattle.std.specs.declared.alloc.Global.{Global}
 use Rattle.arrow_columns.specs.Column.{ColumnTree, column_tree}
 use Rattle.arrow_columns.specs.declared.column.Column.{Column}
-use Rattle.column_files.specs.Lines.{line_feed, LinesTo, Denote, is_blank}
+use Rattle.column_files.specs.Lines.{line_feed, LinesTo, Denote}
 use Rattle.column_files.specs.LineFaults.{DenotesNone}
 use Rattle.column_files.specs.Files.{IsFileRead, size_in, HasFooter}
 use Rattle.column_files.specs.Sources.{GivesUpTo, GivesAll}

@@ -4,7 +4,9 @@ ghost use Rattle.arrow_ipc.specs.Schema.{SchemaTree, Meets, footer_in, schema_of
 ghost use Rattle.arrow_ipc.specs.declared.fault.Fault.{Fault};
 ghost use Rattle.column_files.specs.Forms.{IsForm};
 ghost use Rattle.column_files.specs.declared.form.Form.{Form};
-ghost use Rattle.column_files.specs.Files.{IsFileRead, IsEndRead, IsFooterRead, IsSchemaRead, IsParquetRead, AreLinesRead, AreLinesInFile, further, footer_begin};
+ghost use Rattle.column_files.specs.Files.{IsFileRead, IsEndRead, IsFooterRead, IsSchemaRead};
+ghost use Rattle.column_files.specs.Files.{IsParquetRead, AreLinesRead, AreLinesInFile};
+ghost use Rattle.column_files.specs.Files.{further, footer_begin};
 ghost use Rattle.parquet_schema.specs.Reads as parquet;
 ghost use Rattle.parquet_schema.specs.declared.fault.SchemaError.{SchemaError};
 
@@ -19,11 +21,13 @@ use std::alloc::{AllocError, AllocFailed, Global};
 /// Why the columns of a file are not read.
 #[derive(Debug, Clone, Copy, PartialEq, Eq)]
 pub enum FileFault {
-    /// Behind so many lines, blank ones too, stands one that is not blank and denotes no column, for this reason.
+    /// Behind so many lines, blank ones too, stands one that is not blank and denotes no column,
+    /// for this reason.
     NoField(usize, LineFault),
     /// The file has no bytes, or blank lines alone.
     Empty,
-    /// The report of the file would be greater than its budget. Reading columns never errs so; reporting them may.
+    /// The report of the file would be greater than its budget. Reading columns never errs so;
+    /// reporting them may.
     ReportTooLarge,
     /// The schema of an Arrow file or stream is refused.
     Ipc(IpcError),
@@ -55,7 +59,8 @@ impl<T: Drop> From<AllocFailed<T>> for FileFault {
     }
 }
 
-/// Returns the columns of a file, from its bytes, whose first tell the format (docs/FORMAT.md, 2.7). Errs as [`columns_of`] does.
+/// Returns the columns of a file, from its bytes, whose first tell the format (docs/FORMAT.md,
+/// 2.7). Errs as [`columns_of`] does.
 ///
 /// ```rust
 /// let columns = columns_in(alloc, br#"{"name":"a","nullable":true,"type":"int64"}"#);
@@ -68,13 +73,16 @@ pub fn columns_in(alloc: Global, bytes: &[u8]) -> Result<Vec<Column>, FileFault>
     columns_of(alloc, form_of(bytes), bytes)
 }
 
-/// Returns the columns of a file in that format (docs/FORMAT.md, 2.7): of an Arrow file or stream those of its schema, of a Parquet file those of its
-/// footer, and of lines a column for each that is not blank. Of a stream only the first message is looked at, so these bytes alone may be given; of an
-/// Arrow or Parquet file only the end is, which [`columns_of_end`] takes.
+/// Returns the columns of a file in that format (docs/FORMAT.md, 2.7): of an Arrow file or stream
+/// those of its schema, of a Parquet file those of its footer, and of lines a column for each that
+/// is not blank. Of a stream only the first message is looked at, so these bytes alone may be
+/// given; of an Arrow or Parquet file only the end is, which [`columns_of_end`] takes.
 ///
-/// Errs with `NoField` at the first line that is not blank and denotes no column, with how many lines stand before it, and why; with `Empty` where lines
-/// have no column at all; with `Ipc` as `read_schema` and `read_file_footer` of `arrow_ipc` do, which say the rule that is broken, and the byte, of an
-/// Arrow file counted from the first byte given; with `Parquet` as `columns_of_file` of `parquet_schema` does; and when out of memory.
+/// Errs with `NoField` at the first line that is not blank and denotes no column, with how many
+/// lines stand before it, and why; with `Empty` where lines have no column at all; with `Ipc` as
+/// `read_schema` and `read_file_footer` of `arrow_ipc` do, which say the rule that is broken, and
+/// the byte, of an Arrow file counted from the first byte given; with `Parquet` as
+/// `columns_of_file` of `parquet_schema` does; and when out of memory.
 ///
 /// ```rust
 /// let refused = columns_of(alloc, Form::Lines, b"\n{\n");
@@ -93,8 +101,10 @@ pub fn columns_of(alloc: Global, form: Form, bytes: &[u8]) -> Result<Vec<Column>
     }
 }
 
-/// Returns the columns of a file in that format from its end, before which so many bytes stand, as [`crate::read_schema_end`] gives it; of a stream or lines
-/// from all bytes. Errs as [`columns_of`] does of the whole file: of an Arrow file the byte is counted from the file's first (docs/FORMAT.md, 2.7).
+/// Returns the columns of a file in that format from its end, before which so many bytes stand, as
+/// [`crate::read_schema_end`] gives it; of a stream or lines from all bytes. Errs as [`columns_of`]
+/// does of the whole file: of an Arrow file the byte is counted from the file's first
+/// (docs/FORMAT.md, 2.7).
 ///
 /// ```rust
 /// let refused = columns_of_end(alloc, Form::ArrowFile, 400, b"\0\0\0\0ARROW2");
@@ -124,7 +134,8 @@ fn columns_of_line_file(read: Result<Vec<Column>, FileFault>) -> Result<Vec<Colu
     }
 }
 
-/// The columns of a footer that is read of these bytes of an Arrow file, before which so many stand.
+/// The columns of a footer that is read of these bytes of an Arrow file, before which so many
+/// stand.
 fn columns_of_footer(
     read: Result<Schema, IpcError>,
     start: usize,

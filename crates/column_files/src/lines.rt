@@ -11,8 +11,9 @@ use json::Scratch;
 use memchr::memchr;
 use std::alloc::{AllocError, Global};
 
-/// Returns the columns that the lines of a text denote (docs/FORMAT.md, 2.7); no columns where there are no lines, or blank ones alone. Errs with
-/// `NoField` at the first line that is not blank and denotes no column, with how many lines stand before it, and why; and when out of memory.
+/// Returns the columns that the lines of a text denote (docs/FORMAT.md, 2.7); no columns where
+/// there are no lines, or blank ones alone. Errs with `NoField` at the first line that is not blank
+/// and denotes no column, with how many lines stand before it, and why; and when out of memory.
 ///
 /// ```rust
 /// let columns = columns_of_lines(alloc, b" \n");
@@ -38,7 +39,8 @@ pub fn columns_of_lines(alloc: Global, text: &[u8]) -> Result<Vec<Column>, FileF
     Ok(columns)
 }
 
-/// Adds the column that a line denotes to those before it, or says why it denotes none. A blank line adds nothing.
+/// Adds the column that a line denotes to those before it, or says why it denotes none. A blank
+/// line adds nothing.
 fn add_column(
     alloc: Global,
     line: &[u8],

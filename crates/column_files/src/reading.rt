@@ -1,11 +1,14 @@
 //! The columns of the lines of a source, one after another.
-ghost use Rattle.std.specs.Prelude.{◌≡◌, ◌+◌, ◌≤◌, ◌||◌, false, min, length, drop, take, [], IfOk, IfSome, OnErr, IfErr};
+ghost use Rattle.std.specs.Prelude.{◌≡◌, ◌+◌, ◌≤◌, ◌||◌, false, min, length, drop, take, []};
+ghost use Rattle.std.specs.Prelude.{IfOk, IfSome, OnErr, IfErr};
 ghost use Rattle.std.specs.Io.KnownBytes.{Keeps, prepend_known};
 ghost use Rattle.memchr.specs.Find.{is_byte, Passes, Nowhere, IsFirstByte};
 ghost use Rattle.column_files.specs.Lines.{line_feed, is_blank};
 ghost use Rattle.column_files.specs.Sources.{ReadsBehind};
 ghost use Rattle.column_files.specs.ReadErrors.{IsReadError, IsNoSignal};
-ghost use Rattle.column_files.specs.Reading.{ahead, max_lines, passed, has_column, text_left, HasLine, IsUnfinished, PassesLines, answered, is_column, IsNext};
+ghost use Rattle.column_files.specs.Reading.{ahead, max_lines, passed, has_column, text_left};
+ghost use Rattle.column_files.specs.Reading.{PassesLines, answered, is_column, IsNext};
+ghost use Rattle.column_files.specs.Reading.{HasLine, IsUnfinished};
 
 use crate::columns::FileFault;
 use crate::fault::ReadFault;
@@ -65,13 +68,17 @@ impl<R: Read> LineColumns<R> {
 
     /// Returns the column of the next line that is not blank; or none where all lines are answered.
     ///
-    /// Errs with `Empty` where no text is left, and no line had a column (docs/FORMAT.md, 2.7); with `NoField` where the line denotes no column, with
-    /// how many lines stand before it, blank ones too, and why; with `LongLine` where it, blank or not, has more than [`MAX_LINE_BYTES`] bytes, with how many
-    /// stand before it; with `Input` where the source fails, unless a signal interrupts it, which is tried again; and when out of memory. The line is
-    /// then not passed over: a further call begins with it, and goes on where the source failed.
+    /// Errs with `Empty` where no text is left, and no line had a column (docs/FORMAT.md, 2.7);
+    /// with `NoField` where the line denotes no column, with how many lines stand before it, blank
+    /// ones too, and why; with `LongLine` where it, blank or not, has more than [`MAX_LINE_BYTES`]
+    /// bytes, with how many stand before it; with `Input` where the source fails, unless a signal
+    /// interrupts it, which is tried again; and when out of memory. The line is then not passed
+    /// over: a further call begins with it, and goes on where the source failed.
     pub fn next_column(&mut self) -> Result<Option<Column>, ReadFault>
-        ensures passed { PassesLines (passed self.old) (passed self.new) (text_left R.remaining self.old) (text_left R.remaining self.new) (answered result) }
-        ensures next { IsNext (passed self.new) (has_column self.old) (text_left R.remaining self.new) (ahead self.new) result }
+        ensures passed { PassesLines (passed self.old) (passed self.new)
+            (text_left R.remaining self.old) (text_left R.remaining self.new) (answered result) }
+        ensures next { IsNext (passed self.new) (has_column self.old)
+            (text_left R.remaining self.new) (ahead self.new) result }
         ensures column { has_column self.new ≡ (has_column self.old || is_column result) }
     {
         let Some(len) = self.hold_filled()? else {
@@ -91,13 +98,15 @@ impl<R: Read> LineColumns<R> {
         }
     }
 
-    /// Passes over blank lines until the next line that is not blank is held, and says how many bytes it has, its line feed not among them; or that there
-    /// is none.
+    /// Passes over blank lines until the next line that is not blank is held, and says how many
+    /// bytes it has, its line feed not among them; or that there is none.
     fn hold_filled(&mut self) -> Result<Option<usize>, ReadFault>
-        ensures passed { PassesLines (passed self.old) (passed self.new) (text_left R.remaining self.old) (text_left R.remaining self.new) [] }
+        ensures passed { PassesLines (passed self.old) (passed self.new)
+            (text_left R.remaining self.old) (text_left R.remaining self.new) [] }
         ensures column { has_column self.new ≡ has_column self.old }
         ensures line { IfOk result (HasLine (ahead self.new) (R.remaining self.new.source)) }
-        ensures filled { IfOk result (λ held. IfSome held (λ len. is_blank (take len (ahead self.new)) ≡ false)) }
+        ensures filled { IfOk result (λ held.
+            IfSome held (λ len. is_blank (take len (ahead self.new)) ≡ false)) }
         ensures err { IfErr result (IsUnfinished (passed self.new) (ahead self.new)) }
     {
         for _ in 0..u64::MAX {

@@ -1,5 +1,6 @@
 //! The bytes of a source that hold its schema.
-ghost use Rattle.std.specs.Prelude.{◌≡◌, ◌+◌, ◌-◌, ◌≤◌, List, ℕ, nat_le, ◌++◌, length, drop, OnOk, IfSome, IfOk, IfErr};
+ghost use Rattle.std.specs.Prelude.{◌≡◌, ◌+◌, ◌-◌, ◌≤◌, List, ℕ, nat_le, ◌++◌, length, drop};
+ghost use Rattle.std.specs.Prelude.{OnOk, IfSome, IfOk, IfErr};
 ghost use Rattle.std.specs.Io.KnownBytes.{IsAtEnd};
 ghost use Rattle.column_files.specs.Forms.{IsForm};
 ghost use Rattle.column_files.specs.Sources.{GivesUpTo};
@@ -77,19 +78,23 @@ pub struct FileEnd {
     pub bytes: Vec<u8>,
 }
 
-/// Returns what `read_schema_bytes` does, but of an Arrow or Parquet file the end alone: the footer, with its size and the magic behind it, at the place
-/// that its size tells, or all where the size is greater than the file. Where the source does not seek, as a pipe, all is read. [`crate::columns_of_end`]
-/// reads the columns. Errs where the source fails, and when out of memory.
+/// Returns what `read_schema_bytes` does, but of an Arrow or Parquet file the end alone: the
+/// footer, with its size and the magic behind it, at the place that its size tells, or all where
+/// the size is greater than the file. Where the source does not seek, as a pipe, all is read.
+/// [`crate::columns_of_end`] reads the columns. Errs where the source fails, and when out of
+/// memory.
 ///
-/// The contract says of the end that it is the end, and of an Arrow file that it has the footer which its last ten bytes tell; not which bytes come before,
-/// since the contracts of `Seek` do not say which bytes a reader gives once it has sought.
+/// The contract says of the end that it is the end, and of an Arrow file that it has the footer
+/// which its last ten bytes tell; not which bytes come before, since the contracts of `Seek` do not
+/// say which bytes a reader gives once it has sought.
 pub fn read_schema_end<S: Read + Seek>(
     alloc: Global,
     form: Form,
     head: Vec<u8>,
     source: &mut S,
 ) -> Result<FileEnd, ReadFault>
-    ensures ok { IfOk result (λ end. GivesEnd form head.items (S.remaining source.old) (S.remaining source.new) end.bytes.items) }
+    ensures ok { IfOk result (λ end.
+        GivesEnd form head.items (S.remaining source.old) (S.remaining source.new) end.bytes.items) }
     ensures footer { IfOk result (λ end. IsEnd form end.start end.bytes.items) }
     ensures err { IfErr result IsReadError }
 {
@@ -105,8 +110,8 @@ pub fn read_schema_end<S: Read + Seek>(
     read_footer(alloc, source, length, tail)
 }
 
-/// The end of a file of that length that has its footer, whose size the last bytes tell, as many as `tail`; or all. All is read too where the file has
-/// changed since its last bytes were read.
+/// The end of a file of that length that has its footer, whose size the last bytes tell, as many as
+/// `tail`; or all. All is read too where the file has changed since its last bytes were read.
 fn read_footer<S: Read + Seek>(
     alloc: Global,
     source: &mut S,
@@ -130,7 +135,8 @@ fn read_footer<S: Read + Seek>(
 
 /// Whether bytes have, before their last ones, as many as `tail`, so many more as these tell.
 fn has_footer(bytes: &[u8], tail: usize) -> bool
-    ensures { result ≡ nat_le (tail + size_in (drop (length bytes.now - tail) bytes.now)) (length bytes.now) }
+    ensures { result
+        ≡ nat_le (tail + size_in (drop (length bytes.now - tail) bytes.now)) (length bytes.now) }
 {
     match bytes.len().checked_sub(tail) {
         Some(at) => size_of_four(&bytes[at..]) as usize <= at,

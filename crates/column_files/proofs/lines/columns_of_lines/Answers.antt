@@ -19,13 +19,12 @@ loop-rest-preserved c =
     let behind = c.first_line.result.1.now in
     let columns = c.loop-rest.columns.items in
     let now = c.add_column.new.columns.items in
-    let added : IsLineAdded line columns now None = subst (IsLineAdded line columns now) c.in_default.is c.in_ok-add_column.ensures in
+    let added : IsLineAdded line columns now None = subst (IsLineAdded line columns now) c.in_default.is c.in_ok-fault.ensures in
     let (shorter, lines, count, so, denote) = c.loop-rest.invariant in
     let (more, grown, here) = added in
     let denotes : Denote (lines ++ line ∷ []) (map column_tree now) =
     subst (λ cs. Denote (lines ++ line ∷ []) cs) (sym (ap (map column_tree) grown ∙ map-append column_tree columns more))
-    (denote_more lines (line ∷ []) (map column_tree columns) (map column_tree more) denote here) in
-    (
+    (denote_more lines (line ∷ []) (map column_tree columns) (map column_tree more) denote here) in (
       omega (arith, c.first_line.ensures.shorter),
       lines ++ line ∷ [],
       omega (arith, length-append lines (line ∷ []), count),
@@ -38,7 +37,7 @@ returns-in-Some c =
     let columns = c.loop-rest.columns.items in
     let line = c.first_line.result.0.now in
     let added : IsLineAdded line columns c.add_column.new.columns.items (Some c.in-Some.fault) =
-    subst (IsLineAdded line columns c.add_column.new.columns.items) c.in-Some.is c.in_ok-add_column.ensures in
+    subst (IsLineAdded line columns c.add_column.new.columns.items) c.in-Some.is c.in_ok-fault.ensures in
     let (shorter, lines, count, so, denote) = c.loop-rest.invariant in
     (lines, map column_tree columns, c.loop-rest.rest.now, count, so, denote, (line, c.first_line.result.1.now, c.first_line.ensures.line, added.1, added.2.0, added.2.1))
 

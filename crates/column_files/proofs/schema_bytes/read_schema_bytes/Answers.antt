@@ -1,5 +1,5 @@
 use Rattle.std.proofs.Common.{◌≡◌, ◌<◌, length, drop, ap, ◌∙◌, arith}
-use Rattle.column_files.specs.Reading.{size_in}
+use Rattle.column_files.specs.Files.{size_in}
 use Rattle.column_files.proofs.FirstMessage.{Given, enough, by_size, by_rest}
 use Rattle.column_files.proofs.schema_bytes.read_schema_bytes.Goals.{in-ArrowStream, in-ArrowFile}
 use Rattle.column_files.proofs.schema_bytes.read_schema_bytes.Goals as goal
