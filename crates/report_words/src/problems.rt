@@ -1,7 +1,6 @@
 //! Why a file is not read, in words.
 ghost use Rattle.std.specs.Prelude.{◌≡◌, ◌+◌, IfOk, string_bytes};
 ghost use Rattle.arrow_values.specs.Tree.{Text};
-ghost use Rattle.column_files.specs.declared.form.Form.TheVariants.{Parquet};
 ghost use Rattle.report_words.specs.Problems.{at_place, at_line, at_line_byte, long_line, line_problem, footer_rule, behind_byte, IsMessageProblem, IsParquetProblem, IsProblem};
 
 use arrow_ipc::IpcError;
