@@ -30,8 +30,9 @@ extern "C" {
 /* What is asked of a line. */
 enum { GEOARROW_READ = 0, GEOARROW_INFER = 1, GEOARROW_CANON = 2, GEOARROW_COLUMNS = 3 };
 
-/* Options of geoarrow_check: infer a type for columns without an extension name. */
-enum { GEOARROW_INFER_TYPES = 1 };
+/* Options of geoarrow_check, 0 or a sum of these: infer a type for columns without an extension name; notes among the warnings
+ * (docs/FORMAT.md, 2.6). */
+enum { GEOARROW_INFER_TYPES = 1, GEOARROW_NOTES = 2 };
 
 /* Statuses. */
 enum {
@@ -44,11 +45,13 @@ enum {
     /* Why geoarrow_check and geoarrow_write_schema refuse bytes; `*len` is the place. */
     GEOARROW_NO_FIELD = 5,    /* a line is no field; so many lines stand before it */
     GEOARROW_PARQUET = 6,     /* the columns of a Parquet file are not read; 0 */
-    GEOARROW_BUDGET = 7,      /* more is to be read than eight times the message's bytes; the byte of the message */
+    GEOARROW_BUDGET = 7,      /* more is to be read than eight times the message's bytes; the byte of the message, or of the Arrow file */
     GEOARROW_COLUMN = 8,      /* no message can hold the type of a column (docs/FORMAT.md, 3.6); the column's index */
     GEOARROW_TOO_LARGE = 9,   /* the message would take 2^31 bytes or more; 0 */
+    GEOARROW_REPORT_TOO_LARGE = 10, /* the report would have more than 1,048,576 bytes and 32 for each byte given; 0 */
+    GEOARROW_EMPTY = 11,      /* there are no bytes, or blank lines alone; 0 */
 
-    /* A rule of Arrow's IPC format is broken, at this byte of the message (docs/FORMAT.md, 3). */
+    /* A rule of Arrow's IPC format is broken, at this byte of the message of a stream, or of the Arrow file (docs/FORMAT.md, 3). */
     GEOARROW_RULE_ENVELOPE = 16,
     GEOARROW_RULE_NUMBER = 17,
     GEOARROW_RULE_OFFSET = 18,
@@ -79,13 +82,15 @@ uint8_t geoarrow_run(uint8_t command, const uint8_t *input, size_t input_len, ui
 
 /* The report of a file, from its bytes: a line of JSON for each of its columns (docs/FORMAT.md, 2.5 to 2.7), and behind them, of a
  * Parquet file, one for each check of its GeoParquet metadata that does not hold (5.1), or one that says that it has columns of
- * geometries and no such metadata; each with a line feed behind it. `options` is 0 or GEOARROW_INFER_TYPES.
+ * geometries and no such metadata; each with a line feed behind it. `options` is 0 to 3, a sum of GEOARROW_INFER_TYPES and
+ * GEOARROW_NOTES. Of an Arrow or Parquet file its end may stand for the file; a place is then counted from the first byte given.
  * Statuses: DONE, SHORT; MEMORY and UNKNOWN, at which `*len` is unchanged; and those of refused bytes. At all but DONE `out`
  * is unchanged. */
 uint8_t geoarrow_check(uint8_t options, const uint8_t *bytes, size_t bytes_len, uint8_t *out, size_t out_len, size_t *len);
 
 /* An Arrow stream of the schema whose columns the lines denote, one a line, without metadata of its own (docs/FORMAT.md, 2.7
- * and 3.6). It has the schema alone: no batches, and no mark of the stream's end.
+ * and 3.6). It has the schema alone: no batches, and no mark of the stream's end. Blank lines are passed over, and no lines
+ * denote a schema without columns.
  * Statuses: DONE, SHORT; MEMORY, at which `*len` is unchanged; NO_FIELD, COLUMN and TOO_LARGE, with the place in `*len`. At
  * all but DONE `out` is unchanged. */
 uint8_t geoarrow_write_schema(const uint8_t *lines, size_t lines_len, uint8_t *out, size_t out_len, size_t *len);

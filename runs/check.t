@@ -1,14 +1,14 @@
 The first example of the README: a table
 
   $ geoarrow_check ../examples/schema.jsonl
-  column     holds                                                                  CRS        edges
+  column     holds                                     CRS        edges
   id         int64
-  outline    multipolygon interleaved XYZ                                           EPSG:4326  spherical
-  any        geometry separated -                                                              planar
-  footprint  wkb - -                                                                           planar
+  outline    multipolygon interleaved XYZ              EPSG:4326  spherical
+  any        geometry separated -                                 planar
+  footprint  wkb - -                                              planar
   label      invalid geoarrow.wkb
       well-known binary needs a binary type, and well-known text a text type
-  track      struct<x: float64 not null, y: float64 not null, m: float64 not null>
+  track      struct<x: float64 not null, y: float64..
   broken     invalid geoarrow.geometry
       union has no members
   [1]
@@ -28,14 +28,10 @@ Several files, each under its name; a CRS by its code, its name or its text; an 
   one:
   column    holds                        CRS                                       edges
   named     wkb - -                      WGS 84                                    planar
-      CRS has a number that is not whole
-      CRS without crs_type
   code      wkb - -                      OGC:CRS84                                 planar
-      CRS without crs_type
-  long      wkb - -                      0123456789012345678901234567890123456789  planar
+  long      wkb - -                      01234567890123456789012345678901234567..  planar
       CRS without crs_type
   number    wkb - -                      a CRS                                     planar
-      CRS has a number that is not whole
       CRS without crs_type
       CRS is neither an object nor a text
   flag?[1m  extension arrow.bool8
@@ -99,10 +95,10 @@ Columns of other types as lines, which are read back
   {"name":"d","nullable":true,"type":{"other":"dictionary<values=large_utf8, indices=int16, ordered=1>"}}
 
   $ geoarrow_check --lines ../crates/geoarrow_check/data/other.arrows | geoarrow_check -
-  column  holds                                                    CRS  edges
-  g       point interleaved XY                                          planar
-  é       dense_union<p: utf8=5, q: timestamp[us, tz=UTC]=1>
-  d       dictionary<values=large_utf8, indices=int16, ordered=1>
+  column  holds                                     CRS  edges
+  g       point interleaved XY                           planar
+  é       dense_union<p: utf8=5, q: timestamp[us..
+  d       dictionary<values=large_utf8, indices=..
 
   $ echo '{"metadata":{"ARROW:extension:name":"geoarrow.point"},"name":"p","nullable":true,"type":{"other":"map<e: null>"}}' | geoarrow_check -
   column  holds                   CRS  edges
@@ -189,9 +185,114 @@ Standard input has no name; a stream is told from lines by its first bytes
   $ geoarrow_check --json - < ../crates/geoarrow_check/data/stream.arrows
   {"column":"a","index":0,"state":"plain","type":"int64"}
 
-No lines
+A file of no bytes, or of blank lines alone, is empty
+
+  $ cd "$TMPDIR" && : > none && printf '\n \t\r\n' > blank && for words in --json --lines --ipc --quiet --infer
+  > do
+  >     geoarrow_check $words none 2>&1
+  >     geoarrow_check $words blank 2>&1
+  >     geoarrow_check $words - < /dev/null 2>&1
+  >     cat blank | geoarrow_check $words - 2>&1
+  > done | LC_ALL=C sort | uniq -c
+       10 -: is empty
+        5 blank: is empty
+        5 none: is empty
+
+  $ geoarrow_check /dev/null
+  /dev/null: is empty
+  [2]
 
   $ geoarrow_check --json - < /dev/null
+  -: is empty
+  [2]
+
+A blank line is passed over, wherever it stands, and counts as a line
+
+  $ printf '\n{"name":"a","nullable":true,"type":"null"}\r\n \t\n{"name":"b","nullable":true,"type":"null"}\n\n' | geoarrow_check --json -
+  {"column":"a","index":0,"state":"plain","type":"null"}
+  {"column":"b","index":1,"state":"plain","type":"null"}
+
+  $ printf '{"name":"a","nullable":true,"type":"null"}\n\n \r\n[]\n' | geoarrow_check --json -
+  {"column":"a","index":0,"state":"plain","type":"null"}
+  -: line 4: is JSON, but no object
+  [2]
+
+What is said with notes alone: a number in a CRS that is not whole
+
+  $ cat > "$TMPDIR/projjson" << 'END'
+  > {"metadata":{"ARROW:extension:metadata":"{\"crs\":{\"id\":{\"authority\":\"EPSG\",\"code\":4326},\"scale\":0.5}}","ARROW:extension:name":"geoarrow.wkb"},"name":"g","nullable":true,"type":"binary"}
+  > {"metadata":{"ARROW:extension:metadata":"","ARROW:extension:name":"geoarrow.wkb"},"name":"e","nullable":true,"type":"binary"}
+  > END
+  > cd "$TMPDIR" && geoarrow_check projjson && geoarrow_check --notes projjson && geoarrow_check --json - < projjson && geoarrow_check --notes --json - < projjson
+  column  holds    CRS        edges
+  g       wkb - -  EPSG:4326  planar
+  e       wkb - -             planar
+      metadata is an empty text
+  column  holds    CRS        edges
+  g       wkb - -  EPSG:4326  planar
+      CRS has a number that is not whole
+  e       wkb - -             planar
+      metadata is an empty text
+  {"column":"g","crs":{"id":{"authority":"EPSG","code":4326},"scale":0.5},"edges":"planar","extension":"geoarrow.wkb","index":0,"state":"geometry","type":"wkb - -"}
+  {"column":"e","edges":"planar","extension":"geoarrow.wkb","index":1,"state":"geometry","type":"wkb - -","warnings":[{"code":"MetadataEmpty","message":"metadata is an empty text","path":[]}]}
+  {"column":"g","crs":{"id":{"authority":"EPSG","code":4326},"scale":0.5},"edges":"planar","extension":"geoarrow.wkb","index":0,"state":"geometry","type":"wkb - -","warnings":[{"code":"CrsNotWhole","message":"CRS has a number that is not whole","path":[]}]}
+  {"column":"e","edges":"planar","extension":"geoarrow.wkb","index":1,"state":"geometry","type":"wkb - -","warnings":[{"code":"MetadataEmpty","message":"metadata is an empty text","path":[]}]}
+
+Names of files that would control a terminal, or stand on two lines: above a table, and in all that is said
+
+  $ cd "$TMPDIR" && file=$(printf 'a\nb\033[1m') && echo '{"name":"a","nullable":true,"type":"null"}' > "$file" && geoarrow_check "$file" "$file"
+  a?b?[1m:
+  column  holds  CRS  edges
+  a       null
+  a?b?[1m:
+  column  holds  CRS  edges
+  a       null
+
+  $ cd "$TMPDIR" && file=$(printf 'a\nb\033[1m') && echo '{"name":"a","nullable":true,"type":{"other":"timestamp[ms]"}}' > "$file" && geoarrow_check --quiet --require-geometry --expect b=XY --expect a=XY "$file"; geoarrow_check --ipc "$file"; echo '[]' > "$file"; geoarrow_check "$file"; geoarrow_check "$file.parquet"; geoarrow_check --expect "$file" x 2>&1 | head -n 1
+  a?b?[1m: no column b
+  a?b?[1m: column a holds no geometries
+  a?b?[1m: no column of geometries
+  a?b?[1m: column 0 has a type that no message can hold
+  a?b?[1m: line 1: is JSON, but no object
+  a?b?[1m.parquet: No such file or directory (os error 2)
+  geoarrow_check: a?b?[1m is no COLUMN=WANT
+
+  $ cd "$TMPDIR" && file=$(printf 'a\nb\033[1m') && echo '{"name":"a","nullable":true,"type":"null"}' > "$file" && geoarrow_check --json "$file"
+  {"column":"a","file":"a\nb\u001b[1m","index":0,"state":"plain","type":"null"}
+
+One long name, or one long type, does not widen the other rows
+
+  $ long=$(head -c 20000 /dev/zero | tr '\0' a) && (echo "{\"name\":\"$long\",\"nullable\":true,\"type\":{\"list\":{\"name\":\"$long\",\"nullable\":true,\"type\":\"null\"}}}"; yes '{"name":"b","nullable":true,"type":"null"}' | head -n 20000) | geoarrow_check - | awk 'NR <= 3 { print } length($0) > longest { longest = length($0) } END { print NR, longest }'
+  column                                    holds                                     CRS  edges
+  aaaaaaaaaaaaaaaaaaaaaaaaaaaaaaaaaaaaaa..  list<aaaaaaaaaaaaaaaaaaaaaaaaaaaaaaaaa..
+  b                                         null
+  20002 94
+
+A PROJJSON of 60,009 bytes that 2,048 columns of a Parquet file name: refused, in 64 MB of addresses
+
+  $ cd "$TMPDIR" && printf '\025\014\045\002\030\001g\154\014\042\030\012projjson:k\000\000\000' > column && for times in 1 2 3 4 5 6 7 8 9 10 11
+  > do
+  >     cat column column > columns && mv columns column
+  > done
+  > (printf '\025\004\031\374\201\020\110\006schema\025\200\040\000'; cat column; printf '\026\000\031\014\031\034\030\001k\030\351\324\003{"name":"'; head -c 59998 /dev/zero | tr '\0' a; printf '"}\000\000') > footer
+  > size=$(wc -c < footer) && (printf 'PAR1'; cat footer; printf "\\$(printf %o $((size % 256)))\\$(printf %o $((size / 256 % 256)))\\$(printf %o $((size / 65536)))\\000PAR1") > bomb.parquet
+  > for words in --json --quiet --lines --infer
+  > do
+  >     (ulimit -v 64000; geoarrow_check $words bomb.parquet)
+  > done
+  bomb.parquet: the report would have more than 1048576 bytes and 32 for each byte read
+  bomb.parquet: the report would have more than 1048576 bytes and 32 for each byte read
+  bomb.parquet: the report would have more than 1048576 bytes and 32 for each byte read
+  bomb.parquet: the report would have more than 1048576 bytes and 32 for each byte read
+  [2]
+
+A report that is too large: no column is printed, also of those before the one that makes it so
+
+  $ long=$(yes '\u0001' | head -n 30000 | tr -d '\n') && field='{"metadata":{"ARROW:extension:name":"geoarrow.wkb"},"name":"k","nullable":true,"type":"binary"}' && cd "$TMPDIR" && (echo "$field"; printf '{"name":"s","nullable":true,"type":{"struct":[{"name":"%s","nullable":true,"type":{"struct":[%s%s]}}]}}\n' "$long" "$(yes "$field," | head -n 15 | tr -d '\n')" "$field") > lines && geoarrow_check --ipc lines > stream
+  > geoarrow_check --json stream
+  > geoarrow_check --quiet --expect k=wkb stream && geoarrow_check --json lines | wc -l
+  stream: the report would have more than 1048576 bytes and 32 for each byte read
+  2
 
 A file without geometries where some are required
 
@@ -226,12 +327,12 @@ What stands before a line that is refused is printed, but for a table and a stre
 
 Why a line is refused
 
-  $ for line in '{"name":"a" "nullable":true}' '' '{"nullable":true,"type":"null"}' '{"name":"a","type":"null"}' '{"metadata":{"a":1},"name":"a","nullable":true,"type":"null"}' '{"name":"a","nullable":true,"type":"time"}' '{"name":"a","nullable":true,"type":{"other":"time","size":1}}'
+  $ for line in '{"name":"a" "nullable":true}' '{' '{"nullable":true,"type":"null"}' '{"name":"a","type":"null"}' '{"metadata":{"a":1},"name":"a","nullable":true,"type":"null"}' '{"name":"a","nullable":true,"type":"time"}' '{"name":"a","nullable":true,"type":{"other":"time","size":1}}'
   > do
   >     printf '{"name":"a","nullable":true,"type":"null"}\n%s\n' "$line" | geoarrow_check -
   > done
   -: line 2, byte 13: is no JSON, or nests more than 127 levels
-  -: line 2, byte 0: is no JSON, or nests more than 127 levels
+  -: line 2, byte 1: is no JSON, or nests more than 127 levels
   -: line 2: is JSON, but no field: "name" is no text
   -: line 2: is JSON, but no field: "nullable" is neither true nor false
   -: line 2: is JSON, but no field: "metadata" is no object of texts
@@ -255,6 +356,11 @@ Why a line is refused
   -: the footer is encrypted
   [2]
 
+  $ printf 'PARE    \004\000\000\000PARE' > "$TMPDIR/encrypted.parquet" && cd "$TMPDIR" && geoarrow_check --json encrypted.parquet; geoarrow_check - < encrypted.parquet
+  encrypted.parquet: the footer is encrypted
+  -: the footer is encrypted
+  [2]
+
   $ printf 'PAR1    ' | geoarrow_check --json -
   -: does not end as a Parquet file does
   [2]
@@ -265,6 +371,26 @@ Why a line is refused
 
   $ head -c 100 ../crates/geoarrow_check/data/stream.arrows | geoarrow_check --json - 2>&1
   -: byte 8 of the message: no whole message
+  [2]
+
+The byte of an Arrow file's fault is that of the file, by its path and by standard input: its end is cut off, or the type of a field, whose table begins at 518, is none; also behind 4096 bytes
+
+  $ cd "$TMPDIR" && head -c 700 "$top/crates/geoarrow_check/data/file.arrow" > cut.arrow && (head -c 522 "$top/crates/geoarrow_check/data/file.arrow"; printf '\374'; tail -c +524 "$top/crates/geoarrow_check/data/file.arrow") > tag.arrow
+  > for file in cut tag
+  > do
+  >     (printf 'ARROW1'; head -c 4090 /dev/zero; cat $file.arrow) > behind.arrow
+  >     geoarrow_check $file.arrow behind.arrow
+  >     geoarrow_check - < $file.arrow
+  >     cat behind.arrow | geoarrow_check -
+  > done
+  cut.arrow: byte 690: no whole message
+  behind.arrow: byte 4786: no whole message
+  -: byte 690: no whole message
+  -: byte 4786: no whole message
+  tag.arrow: byte 518: an unknown type
+  behind.arrow: byte 4614: an unknown type
+  -: byte 518: an unknown type
+  -: byte 4614: an unknown type
   [2]
 
 The checks of GeoParquet metadata behind the columns: those that do not hold, or all
@@ -302,7 +428,12 @@ Words that are answered at once
   geoarrow_check 1.0.0 (rattle-kit-13f)
 
   $ geoarrow_check --help | head -n 1
-  usage: geoarrow_check [--json | --lines | --ipc] [--infer] [--all-checks] [--quiet] [--require-geometry] [--expect COLUMN=WANT].. FILE..
+  usage: geoarrow_check [--json | --lines | --ipc] [--infer] [--notes] [--all-checks] [--quiet] [--require-geometry] [--expect COLUMN=WANT].. FILE..
+
+  $ geoarrow_check -V x
+  geoarrow_check 1.0.0 (rattle-kit-13f)
+
+  $ geoarrow_check -h > "$TMPDIR/h" && geoarrow_check --help | cmp - "$TMPDIR/h"
 
 Words that are refused
 
@@ -340,6 +471,24 @@ Words that are refused
 
 Output that fails
 
-  $ geoarrow_check --json ../crates/geoarrow_check/data/stream.arrows > /dev/full
+  $ for words in --json --lines --ipc --infer --help
+  > do
+  >     geoarrow_check $words ../crates/geoarrow_check/data/stream.arrows > /dev/full
+  > done
+  geoarrow_check: No space left on device (os error 28)
+  geoarrow_check: No space left on device (os error 28)
+  geoarrow_check: No space left on device (os error 28)
+  geoarrow_check: No space left on device (os error 28)
   geoarrow_check: No space left on device (os error 28)
   [2]
+
+Output that nobody reads to its end: nothing is said, and the status is that of other tools
+
+  $ cd "$TMPDIR" && yes '{"name":"a","nullable":true,"type":"null"}' | head -n 50000 > lines && for words in --json --lines --infer
+  > do
+  >     (geoarrow_check $words lines 2> said; echo $? > status) | head -n 1 > /dev/null
+  >     cat said status
+  > done
+  141
+  141
+  141

@@ -1,17 +1,16 @@
 //! The checks of a Parquet file's GeoParquet metadata, and the columns that it has by them.
-ghost use Rattle.std.specs.Prelude.{◌≡◌, false, IfOk, MatchResult, map};
+ghost use Rattle.std.specs.Prelude.{◌≡◌, false, IfOk, map};
 ghost use Rattle.std.specs.List.{list_any};
 ghost use Rattle.arrow_values.specs.Texts.{text_of};
 ghost use Rattle.arrow_columns.specs.Column.{column_tree};
-ghost use Rattle.column_files.specs.declared.columns.FileFault.TheVariants.{OutOfMemory};
 ghost use Rattle.geoparquet.specs.Checks.{AreFindings};
 ghost use Rattle.geo_columns.specs.GeoColumns.{AreGeoColumns};
 ghost use Rattle.geo_reports.specs.Lines.{lines_text};
 ghost use Rattle.parquet_schema.specs.Reads.{footer_in};
 ghost use Rattle.file_reports.specs.Checks.{is_failed, AreChecked, AddsText, AddsFindings, warning_text};
-ghost use Rattle.file_reports.specs.Report.{IsParquetReport};
+ghost use Rattle.file_reports.specs.Report.{ParquetReports};
 
-use crate::report::{Report, push_line, report_columns};
+use crate::report::{Options, Report, push_line, report_columns, within};
 use arrow_columns::Column;
 use column_files::FileFault;
 use geo_columns::geo_columns;
@@ -110,21 +109,27 @@ fn with_warning(alloc: Global, report: Report, file: Option<&str>) -> Result<Rep
     Ok(report)
 }
 
-/// The report of a Parquet file, whose footer is read, with these columns. Errs only when out of memory.
+/// The report of a Parquet file, whose footer is read, with these columns, within a limit of its bytes.
 pub(crate) fn parquet_report(
     alloc: Global,
     file: Option<&str>,
     end: &[u8],
     columns: Vec<Column>,
-    infer: bool,
+    options: Options,
+    limit: u128,
 ) -> Result<Report, FileFault>
-    ensures { MatchResult result (IsParquetReport (text_of file.entry) infer (footer_in end.now) (map column_tree columns.items)) (λ fault. fault ≡ OutOfMemory) }
+    ensures { ParquetReports (text_of file.entry) options limit (footer_in end.now) (map column_tree columns.items) result }
 {
     let Ok(checked) = checked_columns(alloc, end, columns) else {
         return Err(FileFault::OutOfMemory);
     };
-    let report = report_columns(alloc, file, checked.columns.as_slice(), infer)?;
-    Ok(with_findings(alloc, report, file, &checked.findings)?)
+    match report_columns(alloc, file, checked.columns.as_slice(), options, limit) {
+        Ok(report) => within(
+            with_findings(alloc, report, file, &checked.findings)?,
+            limit,
+        ),
+        Err(fault) => Err(fault),
+    }
 }
 
 /// The report of a Parquet file with those findings, from that of its columns. Errs only when out of memory.

@@ -6,4 +6,4 @@ mod checks;
 mod report;
 
 pub use checks::{Checked, checked_columns};
-pub use report::{Report, column_line_of, report_columns, report_file};
+pub use report::{Options, Report, column_line_of, report_columns, report_file};

@@ -1,8 +1,7 @@
 //! The report of a file.
-ghost use Rattle.std.specs.Prelude.{◌≡◌, ◌||◌, ◌++◌, [], ◌∷◌, Ok, Err, IfOk, OnOk, MatchResult, map, string_bytes};
+ghost use Rattle.std.specs.Prelude.{◌≡◌, ◌<◌, ◌≤◌, ◌||◌, ◌++◌, [], ◌∷◌, length, Ok, Err, IfOk, OnOk, MatchBool, MatchResult, map, string_bytes};
 ghost use Rattle.column_files.specs.Files.{IsFileRead};
 ghost use Rattle.column_files.specs.Forms.{IsForm};
-ghost use Rattle.column_files.specs.declared.columns.FileFault.TheVariants.{OutOfMemory};
 ghost use Rattle.column_files.specs.declared.form.Form.{Form as FileForm};
 ghost use Rattle.arrow_values.specs.Tree.{Text};
 ghost use Rattle.arrow_values.specs.Texts.{text_of};
@@ -10,16 +9,25 @@ ghost use Rattle.arrow_columns.specs.Column.{column_tree, metadata_on};
 ghost use Rattle.column_check.specs.Finding.{IsFinding};
 ghost use Rattle.column_check.specs.States.{is_invalid, is_geometry};
 ghost use Rattle.column_check.specs.declared.finding.Finding.{Finding};
-ghost use Rattle.file_reports.specs.Report.{line_feed, IsCrsOf, IsLineOf, IsReportOf, IsReportIn, Reports};
+ghost use Rattle.file_reports.specs.Report.{line_feed, IsCrsOf, IsLineOf, IsWithin, ReportsOf, ReportsIn, Reports};
 
 use crate::checks::parquet_report;
 use arrow_columns::Column;
 use column_check::{Finding, check_column, warnings};
-use column_files::{FileFault, Form, columns_of, form_of};
+use column_files::{FileFault, Form, columns_of, form_of, report_budget};
 use column_reports::json_line;
 use crs_text::crs_text_with_scratch;
 use json::Scratch;
 use std::alloc::{AllocError, Global};
+
+/// What is asked of a report.
+#[derive(Debug, Clone, Copy)]
+pub struct Options {
+    /// Whether a column without an extension name is taken for what is inferred from its data type.
+    pub infer: bool,
+    /// Whether the notes stand among the warnings (docs/FORMAT.md, 2.6).
+    pub notes: bool,
+}
 
 /// The report of a file.
 #[derive(Debug, Drop)]
@@ -35,13 +43,16 @@ pub struct Report {
     pub has_failed: bool,
 }
 
-/// The report of a file, from its bytes: what each of its columns holds and what is doubtful of it, a line of JSON for each. A Parquet file has its
-/// columns by its GeoParquet metadata, as `checked_columns` answers them, and behind their lines a line for each check that does not hold; or,
+/// Returns the report of a file, from its bytes: what each of its columns holds and what is doubtful of it, a line of JSON for each. A Parquet file
+/// has its columns by its GeoParquet metadata, as `checked_columns` answers them, and behind their lines a line for each check that does not hold; or,
 /// where it has no such metadata and a column holds geometries, the line of a warning. `file` is the name that the lines give the file, if any.
-/// With `infer`, a column without an extension name is taken for what is inferred from its data type. Errs as `columns_in` of `column_files` does.
+///
+/// Errs as `columns_in` of `column_files` does; and with `ReportTooLarge` where the lines have more bytes than `report_budget` of the length of the
+/// file (docs/FORMAT.md, 2.7), as soon as those of the first columns have.
 ///
 /// ```rust
-/// let report = report_file(alloc, None, br#"{"name":"id","nullable":true,"type":"int64"}"#, false);
+/// let options = Options { infer: false, notes: false };
+/// let report = report_file(alloc, None, br#"{"name":"id","nullable":true,"type":"int64"}"#, options);
 /// let Ok(report) = report else { return Ok(()); };
 /// let line = "{\"column\":\"id\",\"index\":0,\"state\":\"plain\",\"type\":\"int64\"}\n";
 /// assert_eq!(rt; report.lines.as_str(), line);
@@ -51,13 +62,13 @@ pub fn report_file(
     alloc: Global,
     file: Option<&str>,
     bytes: &[u8],
-    infer: bool,
+    options: Options,
 ) -> Result<Report, FileFault>
-    ensures { Reports (text_of file.entry) infer bytes.now result }
+    ensures { Reports (text_of file.entry) options bytes.now result }
 {
     let read = read_columns(alloc, bytes)?;
     let (form, columns) = read;
-    report_in(alloc, form, file, bytes, columns, infer)
+    report_in(alloc, form, file, bytes, columns, options)
 }
 
 /// The form of a file, and its columns.
@@ -72,36 +83,36 @@ fn read_columns(alloc: Global, bytes: &[u8]) -> Result<(Form, Vec<Column>), File
     }
 }
 
-/// The report of a file in that form with these columns. Errs only when out of memory.
+/// The report of a file in that form with these columns, within the budget of its bytes.
 fn report_in(
     alloc: Global,
     form: Form,
     file: Option<&str>,
     bytes: &[u8],
     columns: Vec<Column>,
-    infer: bool,
+    options: Options,
 ) -> Result<Report, FileFault>
-    ensures { MatchResult result (IsReportIn form (text_of file.entry) infer bytes.now (map column_tree columns.items)) (λ fault. fault ≡ OutOfMemory) }
+    ensures { ReportsIn form (text_of file.entry) options bytes.now (map column_tree columns.items) result }
 {
+    let limit = report_budget(bytes.len());
     match form {
-        Form::Parquet => parquet_report(alloc, file, bytes, columns, infer),
-        Form::ArrowFile | Form::ArrowStream | Form::Lines => Ok(report_columns(
-            alloc,
-            file,
-            columns.as_slice(),
-            infer,
-        )?),
+        Form::Parquet => parquet_report(alloc, file, bytes, columns, options, limit),
+        Form::ArrowFile | Form::ArrowStream | Form::Lines => {
+            report_columns(alloc, file, columns.as_slice(), options, limit)
+        }
     }
 }
 
-/// The report of columns, as that of a file that is no Parquet file. Errs only when out of memory.
+/// Returns the report of columns, as that of a file that is no Parquet file, whose lines have at most that many bytes. Errs with `ReportTooLarge`
+/// where they have more, as soon as those of the first columns have; and when out of memory.
 pub fn report_columns(
     alloc: Global,
     file: Option<&str>,
     columns: &[Column],
-    infer: bool,
-) -> Result<Report, AllocError>
-    ensures { IfOk result (IsReportOf (text_of file.entry) infer (map column_tree columns.now)) }
+    options: Options,
+    limit: u128,
+) -> Result<Report, FileFault>
+    ensures { ReportsOf (text_of file.entry) options limit (map column_tree columns.now) result }
 {
     let mut report = Report {
         lines: String::new(alloc),
@@ -118,8 +129,28 @@ pub fn report_columns(
             file,
             index,
             &columns[index],
-            infer,
+            options,
         )?;
+        if is_past(&report, limit) {
+            return Err(FileFault::ReportTooLarge);
+        }
+    }
+    Ok(report)
+}
+
+/// Whether the lines of a report have more bytes than that.
+fn is_past(report: &Report, limit: u128) -> bool
+    ensures { MatchBool result (limit < length (string_bytes report.now.lines)) (length (string_bytes report.now.lines) ≤ limit) }
+{
+    report.lines.len() as u128 > limit
+}
+
+/// The report, where its lines have at most that many bytes.
+pub(crate) fn within(report: Report, limit: u128) -> Result<Report, FileFault>
+    ensures { IsWithin limit report result }
+{
+    if is_past(&report, limit) {
+        return Err(FileFault::ReportTooLarge);
     }
     Ok(report)
 }
@@ -132,17 +163,17 @@ fn add_column(
     file: Option<&str>,
     index: usize,
     column: &Column,
-    infer: bool,
+    options: Options,
 ) -> Result<(), AllocError>
-    ensures { OnOk result ((f : Finding) × (line : Text) × IsFinding infer (column_tree column.now) f
-        × IsLineOf (text_of file.entry) index (column_tree column.now) f line
+    ensures { OnOk result ((f : Finding) × (line : Text) × IsFinding options.infer (column_tree column.now) f
+        × IsLineOf (text_of file.entry) options.notes index (column_tree column.now) f line
         × (string_bytes report.new.lines ≡ string_bytes report.old.lines ++ (line ++ (line_feed ∷ [])))
         × (report.new.has_invalid ≡ (report.old.has_invalid || is_invalid f))
         × (report.new.has_geometry ≡ (report.old.has_geometry || is_geometry f))
         × (report.new.has_failed ≡ report.old.has_failed)) }
 {
-    let finding = check_column(alloc, column, infer)?;
-    let line = column_line_of(alloc, scratch, file, index, column, &finding)?;
+    let finding = check_column(alloc, column, options.infer)?;
+    let line = column_line_of(alloc, scratch, file, index, column, &finding, options.notes)?;
     push_line(&mut report.lines, line.as_str())?;
     report.has_invalid = report.has_invalid | finding.is_invalid();
     report.has_geometry = report.has_geometry | finding.is_geometry();
@@ -157,9 +188,9 @@ pub(crate) fn push_line(text: &mut String, line: &str) -> Result<(), AllocError>
     text.push_str("\n")
 }
 
-/// The line of JSON of a column at that place, of which that is said (docs/FORMAT.md, 2.5), with what is doubtful of it and the text of its CRS, and without a
-/// line feed. `file` is the name that the line gives the file, if any. The scratch buffer is kept by the caller from column to column. Errs only when out of
-/// memory.
+/// Returns the line of JSON of a column at that place, of which that is said (docs/FORMAT.md, 2.5), with what is doubtful of it and the text of its
+/// CRS, and without a line feed. `file` is the name that the line gives the file, if any; with `notes` the notes stand among the warnings. The scratch
+/// buffer is kept by the caller from column to column. Errs only when out of memory.
 pub fn column_line_of(
     alloc: Global,
     scratch: &mut Scratch,
@@ -167,10 +198,11 @@ pub fn column_line_of(
     index: usize,
     column: &Column,
     finding: &Finding,
+    notes: bool,
 ) -> Result<String, AllocError>
-    ensures { IfOk result (λ line. IsLineOf (text_of file.entry) index (column_tree column.now) finding.now (string_bytes line)) }
+    ensures { IfOk result (λ line. IsLineOf (text_of file.entry) notes index (column_tree column.now) finding.now (string_bytes line)) }
 {
-    let warnings = warnings(alloc, column, finding)?;
+    let warnings = warnings(alloc, column, finding, notes)?;
     let crs = written_crs(scratch, column)?;
     json_line(
         alloc,

@@ -1,6 +1,6 @@
 //! Rows of GeoParquet metadata: calls of `geoparquet` and `geo_columns`. A row's text is the text at the key `geo`, and then lines of fields, each with ` & ` before it.
 use arrow_columns::Column;
-use column_files::{column_line, columns_in};
+use column_files::{column_line, columns_of_lines};
 use geo_columns::geo_columns;
 use geoparquet::{GeoFinding, check_geo};
 use rows::asked::Asked;
@@ -13,7 +13,7 @@ use std::mem::ManuallyDrop;
 pub fn answer(it: &mut Asked<'_>) {
     let (geo, lines) = it.text.split_once(" & ").unwrap_or((it.text, ""));
     let lines = it.said.replaced(lines, " & ", "\n");
-    let Ok(columns) = columns_in(it.alloc, lines.as_bytes()) else {
+    let Ok(columns) = columns_of_lines(it.alloc, lines.as_bytes()) else {
         return it.said.fail();
     };
     let columns = ManuallyDrop::new(columns);

@@ -1,9 +1,10 @@
 //! Rows of reports: calls of `file_reports`, and so of the crates that read files and say what columns hold. A row's text is lines of fields,
-//! with ` & ` between them in place of line feeds; under `report_file` it is the bytes of a file in hexadecimal digits.
+//! with ` & ` between them in place of line feeds; under `report_file` and `report_size` it is the bytes of a file in hexadecimal digits, and under
+//! `columns_of_end` those of the end of an Arrow file, behind the number of bytes before it.
 use column_check::{Finding, check_column, warnings};
-use column_files::{FileFault, columns_in};
+use column_files::{FileFault, Form, columns_in, columns_of_end};
 use column_reports::{reason_words, warning_words};
-use file_reports::report_file;
+use file_reports::{Options, report_file};
 use parquet_schema::SchemaError;
 use rows::asked::Asked;
 use std::alloc::{AllocError, Global};
@@ -12,21 +13,54 @@ use std::alloc::{AllocError, Global};
 pub fn answer(it: &mut Asked<'_>) {
     let text = it.said.replaced(it.text, " & ", "\n");
     match it.command {
-        "report" => report(it, text.as_bytes(), false),
-        "report_inferred" => report(it, text.as_bytes(), true),
-        "report_file" => match hex::decode(it.alloc, it.text) {
-            Ok(bytes) => report(it, bytes.as_slice(), false),
+        "report" => report(it, text.as_bytes(), false, false),
+        "report_inferred" => report(it, text.as_bytes(), true, false),
+        "report_noted" => report(it, text.as_bytes(), false, true),
+        "report_both" => report(it, text.as_bytes(), true, true),
+        "report_size" => match hex::decode(it.alloc, it.text) {
+            Ok(bytes) => size(it, bytes.as_slice()),
             Err(_) => it.said.fail(),
         },
+        "report_file" => match hex::decode(it.alloc, it.text) {
+            Ok(bytes) => report(it, bytes.as_slice(), false, false),
+            Err(_) => it.said.fail(),
+        },
+        "columns_of_end" => end(it),
         "reason_words" => words(it, reasons_of(it.alloc, text.as_str())),
         "warning_words" => words(it, warnings_of(it.alloc, text.as_str())),
         _ => it.no_command(),
     }
 }
 
+/// Says how many bytes the lines of the report of a file have.
+fn size(it: &mut Asked<'_>, bytes: &[u8]) {
+    let options = Options {
+        infer: false,
+        notes: false,
+    };
+    match report_file(it.alloc, None, bytes, options) {
+        Ok(report) => it.said.shown(&report.lines.len()),
+        Err(fault) => say_fault(it, &fault),
+    }
+}
+
+/// Says how many columns the end of an Arrow file has.
+fn end(it: &mut Asked<'_>) {
+    let (start, digits) = it.text.split_once(' ').unwrap_or(("", it.text));
+    match (start.parse::<u64>(), hex::decode(it.alloc, digits)) {
+        (Ok(start), Ok(end)) => {
+            match columns_of_end(it.alloc, Form::ArrowFile, start, end.as_slice()) {
+                Ok(columns) => it.said.shown(&columns.len()),
+                Err(fault) => say_fault(it, &fault),
+            }
+        }
+        _ => it.said.fail(),
+    }
+}
+
 /// Says the report of a file, with ` & ` between its lines.
-fn report(it: &mut Asked<'_>, bytes: &[u8], infer: bool) {
-    match report_file(it.alloc, None, bytes, infer) {
+fn report(it: &mut Asked<'_>, bytes: &[u8], infer: bool, notes: bool) {
+    match report_file(it.alloc, None, bytes, Options { infer, notes }) {
         Ok(report) => {
             for (place, line) in report.lines.as_str().lines().enumerate() {
                 if place > 0 {
@@ -58,7 +92,7 @@ fn warnings_of(alloc: Global, text: &str) -> Result<Vec<String>, FileFault> {
         return Ok(Vec::new(alloc));
     };
     let finding = check_column(alloc, column, false)?;
-    let warnings = warnings(alloc, column, &finding)?;
+    let warnings = warnings(alloc, column, &finding, true)?;
     Ok(warning_words(alloc, warnings.as_slice())?)
 }
 

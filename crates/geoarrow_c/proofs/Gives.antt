@@ -1,14 +1,14 @@
 -- What a call gives, by the bytes that it was to fill in.
-use Rattle.std.proofs.Common.{◌≡◌, ℕ, Bool, List, [], String, length, map, None, Ok, Vec, Global, string_bytes, refl, subst}
+use Rattle.std.proofs.Common.{◌≡◌, ℕ, List, [], String, length, map, None, Ok, Vec, Global, string_bytes, refl, subst}
 use Rattle.arrow_values.specs.View.{texts_of}
 use Rattle.arrow_columns.specs.Column.{ColumnTree, column_tree}
 use Rattle.arrow_columns.specs.declared.column.Column.{Column}
 use Rattle.arrow_ipc.specs.Schema.{SchemaTree}
 use Rattle.arrow_ipc.specs.Denotes.{IsStreamOf}
 use Rattle.arrow_ipc.specs.declared.schema.Endianness.TheVariants.{Little}
-use Rattle.column_files.specs.Files.{IsFileRead}
-use Rattle.column_files.specs.declared.form.Form.TheVariants.{Lines}
+use Rattle.column_files.specs.Files.{AreLinesRead}
 use Rattle.file_reports.specs.Report.{Reports}
+use Rattle.file_reports.specs.declared.report.Options.{Options}
 use Rattle.file_reports.specs.declared.report.Report.{Report as FileReport}
 use Rattle.geoarrow_fields.specs.Lines.{Bytes}
 use Rattle.geoarrow_c.specs.Refusals.{options_number, ReportGives}
@@ -20,12 +20,12 @@ of_entries columns entries = record { columns = columns; metadata = texts_of ent
 
 -- the bytes have that length, and this is done with them
 module _ (filled : Bytes) (len : ℕ) (len_is : length filled ≡ len) (Done : Bytes → Type 0) (done : Done filled) where
-  pub report_gives : (options : ℕ) (bytes : Bytes) (infer : Bool) (report : FileReport) → filled ≡ string_bytes report.lines → options ≡ options_number infer
-      → Reports None infer bytes (Ok report) → ReportGives options bytes len Done
-  report_gives options bytes infer report lines is reports =
-      record { infer = infer; report = report; is = is; reports = reports; len_is = subst (λ text. length text ≡ len) lines len_is; done = subst Done lines done }
+  pub report_gives : (number : ℕ) (bytes : Bytes) (options : Options) (report : FileReport) → filled ≡ string_bytes report.lines → number ≡ options_number options
+      → Reports None options bytes (Ok report) → ReportGives number bytes len Done
+  report_gives number bytes options report lines is reports =
+      record { options = options; report = report; is = is; reports = reports; len_is = subst (λ text. length text ≡ len) lines len_is; done = subst Done lines done }
 
-  pub stream_gives : (lines : Bytes) (columns : Vec Column Global) (stream : Bytes) → filled ≡ stream → IsFileRead Lines lines (Ok columns)
+  pub stream_gives : (lines : Bytes) (columns : Vec Column Global) (stream : Bytes) → filled ≡ stream → AreLinesRead lines (Ok columns)
       → (entries : List (String Global × String Global)) → entries ≡ [] → IsStreamOf 61 stream (of_entries (map column_tree columns.items) entries) → StreamGives lines len Done
   stream_gives lines columns stream bytes read entries none is = record {
     columns = map column_tree columns.items;

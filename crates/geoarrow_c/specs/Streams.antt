@@ -11,15 +11,14 @@ use Rattle.arrow_ipc.specs.Writes.{RefusesColumns}
 use Rattle.arrow_ipc.specs.declared.schema.Endianness.TheVariants.{Little}
 use Rattle.arrow_ipc.specs.declared.write.WriteError.{WriteError}
 use Rattle.arrow_ipc.specs.declared.write.WriteError.TheVariants.{Column as OfColumn, TooLarge, OutOfMemory}
-use Rattle.column_files.specs.Files.{IsFileRead}
+use Rattle.column_files.specs.Files.{AreLinesRead}
 use Rattle.column_files.specs.declared.columns.FileFault.{FileFault}
-use Rattle.column_files.specs.declared.form.Form.TheVariants.{Lines}
 use Rattle.geoarrow_fields.specs.Lines.{Bytes}
 use Rattle.geoarrow_c.specs.Refusals.{fault_number, fault_place}
 
 -- the columns that lines denote
 abbrev pub AreOf : Bytes → List ColumnTree → Type 0
-AreOf lines columns = (read : Vec Column Global) × IsFileRead Lines lines (Ok read) × (columns ≡ map column_tree read.items)
+AreOf lines columns = (read : Vec Column Global) × AreLinesRead lines (Ok read) × (columns ≡ map column_tree read.items)
 
 -- the schema of columns: without metadata of its own, of the byte order of little-endian
 abbrev pub schema_of : List ColumnTree → SchemaTree
@@ -49,7 +48,7 @@ write_place TooLarge = 0
 -- a line denotes no column, which this number and place say
 pub record IsUnread (lines : Bytes) (status place : ℕ) : Type 0 where
   pub fault : FileFault
-  pub reads : IsFileRead Lines lines (Err fault)
+  pub reads : AreLinesRead lines (Err fault)
   pub status_is : status ≡ fault_number fault
   pub place_is : place ≡ fault_place fault
 

@@ -40,7 +40,9 @@ pub(crate) fn refusal_of(fault: &FileFault) -> (u8, usize)
         FileFault::OutOfMemory | FileFault::Ipc(IpcError::OutOfMemory) => (MEMORY, 0),
         FileFault::NoField(before, _) => (5, *before),
         FileFault::Parquet(SchemaError::OutOfMemory) => (MEMORY, 0),
+        FileFault::ReportTooLarge | FileFault::Parquet(SchemaError::Budget) => (10, 0),
         FileFault::Parquet(_) => (6, 0),
+        FileFault::Empty => (11, 0),
         FileFault::Ipc(IpcError::Budget(at)) => (7, *at),
         FileFault::Ipc(IpcError::Broken(fault)) => (rule_number(fault.rule), fault.at),
     }

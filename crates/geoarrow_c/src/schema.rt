@@ -7,7 +7,7 @@ use crate::buffer::fill;
 use crate::refusal::{refusal_of, refuse};
 use crate::status::MEMORY;
 use arrow_ipc::{Endianness, Schema, WriteError, write_schema};
-use column_files::{Form, columns_of};
+use column_files::columns_of_lines;
 use std::alloc::Global;
 use std::collections::BTreeMap;
 
@@ -25,7 +25,7 @@ fn unwritten_of(error: WriteError) -> (u8, usize)
 }
 
 /// Writes an Arrow stream of the schema whose columns lines denote (docs/FORMAT.md, 2.7 and 3.6), one column a line, to the front of `out`,
-/// and its length to `len`. The schema has no metadata of its own.
+/// and its length to `len`. The schema has no metadata of its own. Blank lines are passed over, and no lines denote a schema without columns.
 ///
 /// Returns 0; 1 where `out` is too small: it is then unchanged, and `len` says what is needed; 2 when out of memory, with both unchanged; any
 /// other number where no stream is written, with `out` unchanged and the place in `len`: 5 for a line that denotes no column, with how many lines
@@ -43,7 +43,7 @@ pub extern "C" fn geoarrow_write_schema(
     ensures kept { result ≡ 2 → len.new ≡ len.old }
     ensures refused { 3 ≤ result → IsUnread lines.now result len.new ⊎ IsUnwritten lines.now result len.new }
 {
-    let columns = match columns_of(alloc, Form::Lines, lines) {
+    let columns = match columns_of_lines(alloc, lines) {
         Ok(columns) => columns,
         Err(fault) => return refuse(refusal_of(&fault), len),
     };

@@ -7,16 +7,16 @@ mod source;
 use crate::report::Report;
 use crate::source::{Failure, report_columns};
 use check_options::{Asked, asked_by};
-use column_files::{MAX_LINE_BYTES, ReadFault};
-use report_words::{long_line_text, problem_text};
+use column_files::{Form, MAX_LINE_BYTES, ReadFault};
+use report_words::{long_line_text, problem_text, shown};
 use std::alloc::{AllocError, Global};
-use std::io::Write;
+use std::io::{ErrorKind, Write};
 use std::process::ExitCode;
 use std::{env, io};
 
 /// What `--help` prints, and what follows the reason where words are refused.
 const USAGE: &str =
-    "usage: geoarrow_check [--json | --lines | --ipc] [--infer] [--all-checks] [--quiet] [--require-geometry] [--expect COLUMN=WANT].. FILE..
+    "usage: geoarrow_check [--json | --lines | --ipc] [--infer] [--notes] [--all-checks] [--quiet] [--require-geometry] [--expect COLUMN=WANT].. FILE..
 
 Says what each column of each file holds, and why it is invalid; and which checks of GeoParquet metadata do not hold.
 FILE: an Arrow file (Feather), an Arrow stream, a Parquet file, or lines of fields; - is standard input
@@ -25,12 +25,19 @@ WANT: a kind, a coordinate type, a dimension, an encoding (native, WKB, WKT), a 
   --lines             the columns as lines of fields, in place of what they hold
   --ipc               the columns as an Arrow stream of its schema alone, of one file
   --infer             infer a type for columns without an extension name
+  --notes             also warnings of what is allowed: a number in a CRS that is not whole
   --all-checks        also the checks of GeoParquet metadata that hold
   --quiet             print nothing of the columns
   --require-geometry  status 1 where a file has no column of geometries
   --expect            status 1 where the column holds other geometries, or none
-Status: 0 if no column is invalid, each check holds and all that is expected is met, 1 otherwise, 2 if a file or the words cannot be read.
+  -h, --help          this text
+  -V, --version       the version
+Status: 0 if no column is invalid, each check holds and all that is expected is met, 1 otherwise, 2 if a file or the words cannot be read or the output fails,
+141 if nobody reads the output any more.
 ";
+
+/// The status where nobody reads the output any more, as that of other tools: 128, and the number of the signal SIGPIPE.
+const UNREAD: u8 = 141;
 
 /// The version, as `--version` prints it.
 const VERSION: &str = "geoarrow_check 1.0.0 (rattle-kit-13f)\n";
@@ -48,18 +55,18 @@ fn print_report(rt: &HostRuntime, file: &str, report: &mut Report<'_>) -> io::Re
         Err(Failure::Output(error)) => return Err(error),
         Err(Failure::Input(fault)) => fault,
     };
-    let problem = problem_of(rt.alloc(), fault)?;
-    report.write(rt)?;
-    eprintln!(rt; "{file}: {problem}")?;
+    let problem = problem_of(rt.alloc(), report.form(), fault)?;
+    report.write_before(rt)?;
+    report.say(rt, problem.as_str())?;
     Ok(2)
 }
 
 /// Why a file cannot be read.
-fn problem_of(alloc: Global, fault: ReadFault) -> Result<String, AllocError> {
+fn problem_of(alloc: Global, form: Form, fault: ReadFault) -> Result<String, AllocError> {
     match fault {
         ReadFault::Input(error) => format!(in alloc; "{error}"),
         ReadFault::LongLine(before) => long_line_text(alloc, before, MAX_LINE_BYTES),
-        ReadFault::File(fault) => problem_text(alloc, &fault),
+        ReadFault::File(fault) => problem_text(alloc, form, &fault),
     }
 }
 
@@ -69,6 +76,7 @@ fn run(rt: &HostRuntime) -> io::Result<u8> {
     match asked_by(rt.alloc(), words.as_slice())? {
         Ok(asked) => answer(rt, &asked),
         Err(reason) => {
+            let reason = shown(rt.alloc(), reason.as_str())?;
             eprint!(rt; "geoarrow_check: {reason}\n{USAGE}")?;
             Ok(2)
         }
@@ -92,12 +100,18 @@ fn answer(rt: &HostRuntime, asked: &Asked) -> io::Result<u8> {
     Ok(status)
 }
 
+/// Says why the output fails, unless nobody reads it any more. Returns the status.
+fn failed(rt: &HostRuntime, error: &io::Error) -> u8 {
+    if error.kind() == ErrorKind::BrokenPipe {
+        return UNREAD;
+    }
+    let _ = eprintln!(rt; "geoarrow_check: {error}");
+    2
+}
+
 fn main(rt: HostRuntime) -> ExitCode {
     match run(&rt) {
         Ok(status) => ExitCode::from(status),
-        Err(error) => {
-            let _ = eprintln!(rt; "geoarrow_check: {error}");
-            ExitCode::from(2)
-        }
+        Err(error) => ExitCode::from(failed(&rt, &error)),
     }
 }

@@ -1,15 +1,16 @@
 //! The report of a file, a column at a time.
 
+use crate::source::Reported;
 use arrow_columns::Column;
 use arrow_ipc::{Endianness, Schema, write_schema};
 use check_options::{Asked, Output};
 use column_check::{Finding, check_column};
-use column_files::column_line;
+use column_files::{FileFault, Form, MAX_LINE_BYTES, column_line, report_budget};
 use column_tables::{Row, table_text};
 use file_reports::column_line_of;
 use geoparquet::GeoFinding;
 use json::Scratch;
-use report_words::{Found, checked_lines, checked_text, has_failed, row_of};
+use report_words::{Found, checked_lines, checked_text, has_failed, row_of, shown};
 use std::alloc::{AllocError, Global};
 use std::collections::BTreeMap;
 use std::io::Write;
@@ -23,6 +24,8 @@ const KEPT_BYTES: usize = 65_536;
 pub(crate) struct Report<'a> {
     asked: &'a Asked,
     file: &'a str,
+    /// The name of the file, as it is shown.
+    shown: String,
     scratch: Scratch,
     /// What is not written yet: of a table what stands behind it.
     text: String,
@@ -34,6 +37,12 @@ pub(crate) struct Report<'a> {
     count: usize,
     has_geometry: bool,
     status: u8,
+    /// How many bytes the lines of JSON or the rows may have: those of all columns of a schema, and of lines each.
+    limit: u128,
+    /// How many they have.
+    size: u128,
+    /// The format of the file.
+    form: Form,
 }
 
 impl<'a> Report<'a> {
@@ -43,6 +52,7 @@ impl<'a> Report<'a> {
         Ok(Report {
             asked,
             file,
+            shown: shown(alloc, file)?,
             scratch: Scratch::new(alloc),
             text: String::new(alloc),
             rows: Vec::new(alloc),
@@ -51,30 +61,61 @@ impl<'a> Report<'a> {
             count: 0,
             has_geometry: false,
             status: 0,
+            limit: report_budget(MAX_LINE_BYTES),
+            size: 0,
+            form: Form::Lines,
         })
     }
 
+    /// Takes what is added from here on for the columns of a schema of that format, of which so many bytes were read.
+    pub(crate) fn begin_schema(&mut self, form: Form, bytes: usize) {
+        self.limit = report_budget(bytes);
+        self.form = form;
+    }
+
+    /// The format of the file.
+    pub(crate) fn form(&self) -> Form {
+        self.form
+    }
+
     /// Adds columns.
-    pub(crate) fn add_all(&mut self, rt: &HostRuntime, columns: Vec<Column>) -> io::Result<()> {
+    pub(crate) fn add_all(&mut self, rt: &HostRuntime, columns: Vec<Column>) -> Reported {
         for column in columns {
             self.add(rt, column)?;
         }
         Ok(())
     }
 
-    /// Adds a column, and writes what is to be printed of it, but for a table and a stream.
-    pub(crate) fn add(&mut self, rt: &HostRuntime, column: Column) -> io::Result<()> {
+    /// Adds a column, and writes what is to be printed of it, but for a table, a stream, and the lines of JSON of a schema.
+    pub(crate) fn add(&mut self, rt: &HostRuntime, column: Column) -> Reported {
+        if matches!(self.form, Form::Lines) {
+            self.size = 0;
+        }
         self.look_at(rt.alloc(), &column)?;
         self.keep(rt.alloc(), column)?;
         self.count = self.count.saturating_add(1);
-        if self.text.len() >= KEPT_BYTES {
+        if self.text.len() >= KEPT_BYTES && !self.is_held() {
             self.write(rt)?;
         }
         Ok(())
     }
 
+    /// Whether nothing is written before all is made: the lines of JSON of a schema, which may be more than they may.
+    fn is_held(&self) -> bool {
+        !matches!(self.form, Form::Lines) && matches!(self.asked.flags.output(), Output::Json)
+    }
+
+    /// Counts so many bytes of lines of JSON or of rows. Errs where there are more than there may be.
+    fn count_bytes(&mut self, bytes: usize) -> Result<(), FileFault> {
+        self.size = self.size.saturating_add(bytes as u128);
+        if self.size > self.limit {
+            return Err(FileFault::ReportTooLarge);
+        }
+        Ok(())
+    }
+
     /// Looks at what a column is.
-    fn look_at(&mut self, alloc: Global, column: &Column) -> Result<(), AllocError> {
+    fn look_at(&mut self, alloc: Global, column: &Column) -> Result<(), FileFault> {
         let finding = check_column(alloc, column, self.asked.flags.infer)?;
         self.add_finding(alloc, column, &finding)
     }
@@ -85,19 +126,35 @@ impl<'a> Report<'a> {
         alloc: Global,
         column: &Column,
         finding: &Finding,
-    ) -> Result<(), AllocError> {
+    ) -> Result<(), FileFault> {
         self.status = self.status.max(u8::from(finding.is_invalid()));
         self.has_geometry = self.has_geometry | finding.is_geometry();
         self.expect(alloc, column, finding)?;
         match self.asked.flags.output() {
-            Output::Table => Ok(self.rows.push(row_of(alloc, column, finding)?)?),
-            Output::Json => {
-                let (file, scratch) = (self.named_file(), &mut self.scratch);
-                let line = column_line_of(alloc, scratch, file, self.count, column, finding)?;
-                self.add_line(line)
-            }
+            Output::Table => self.add_row(row_of(alloc, column, finding, self.asked.flags.notes)?),
+            Output::Json => self.add_json(alloc, column, finding),
             Output::Nothing | Output::Lines | Output::Ipc => Ok(()),
         }
+    }
+
+    /// Adds a row.
+    fn add_row(&mut self, row: Row) -> Result<(), FileFault> {
+        self.count_bytes(row_bytes(&row))?;
+        Ok(self.rows.push(row)?)
+    }
+
+    /// Adds the line of JSON of a column.
+    fn add_json(
+        &mut self,
+        alloc: Global,
+        column: &Column,
+        finding: &Finding,
+    ) -> Result<(), FileFault> {
+        let (file, notes) = (self.named_file(), self.asked.flags.notes);
+        let scratch = &mut self.scratch;
+        let line = column_line_of(alloc, scratch, file, self.count, column, finding, notes)?;
+        self.count_bytes(line.len().saturating_add(1))?;
+        Ok(self.add_line(line)?)
     }
 
     /// Looks at a column for each expectation.
@@ -143,7 +200,7 @@ impl<'a> Report<'a> {
         &mut self,
         alloc: Global,
         findings: &Option<Vec<GeoFinding>>,
-    ) -> io::Result<()> {
+    ) -> Result<(), FileFault> {
         self.status = self.status.max(u8::from(has_failed(findings)));
         let (has_geometry, all) = (self.has_geometry, self.asked.flags.all_checks);
         let said = match self.asked.flags.output() {
@@ -151,7 +208,21 @@ impl<'a> Report<'a> {
             Output::Table => checked_text(alloc, findings, has_geometry, all)?,
             Output::Nothing | Output::Lines | Output::Ipc => return Ok(()),
         };
+        self.count_bytes(said.len())?;
         Ok(self.text.push_str(said.as_str())?)
+    }
+
+    /// Writes what was made before a fault: the lines before one that is refused, and nothing of a schema.
+    pub(crate) fn write_before(&mut self, rt: &HostRuntime) -> io::Result<()> {
+        if self.is_held() {
+            return Ok(());
+        }
+        self.write(rt)
+    }
+
+    /// Says something of the file on standard error.
+    pub(crate) fn say(&self, rt: &HostRuntime, words: &str) -> io::Result<()> {
+        eprintln!(rt; "{}: {words}", self.shown)
     }
 
     /// Writes what is not written yet.
@@ -170,56 +241,69 @@ impl<'a> Report<'a> {
             return Ok(status);
         }
         let columns = mem::replace(&mut self.columns, Vec::new(rt.alloc()));
-        Ok(write_stream(rt, self.file, columns)?.max(status))
+        Ok(self.write_stream(rt, columns)?.max(status))
     }
 
     /// Writes the table, below the file's name where there are several files.
     fn write_table(&self, rt: &HostRuntime) -> io::Result<()> {
-        let (asked, file) = (self.asked, self.file);
+        let asked = self.asked;
         if !matches!(asked.flags.output(), Output::Table) {
             return Ok(());
         }
         let table = table_text(rt.alloc(), self.rows.as_slice())?;
         if asked.files.len() > 1 {
-            println!(rt; "{file}:")?;
+            println!(rt; "{}:", self.shown)?;
         }
         rt.stdout().write_all(table.as_bytes())
     }
 
     /// Says on standard error what is asked of the file and not met. Returns the status.
     fn say_unmet(&self, rt: &HostRuntime) -> io::Result<u8> {
-        let (asked, file) = (self.asked, self.file);
+        let asked = self.asked;
         let mut status = self.status;
         for (want, found) in asked.wants.iter().zip(self.found.iter()) {
             if let Some(said) = found.said(rt.alloc(), want.column.as_str())? {
-                eprintln!(rt; "{file}: {said}")?;
+                self.say(rt, said.as_str())?;
                 status = 1;
             }
         }
         if asked.flags.require_geometry && !self.has_geometry {
-            eprintln!(rt; "{file}: no column of geometries")?;
+            self.say(rt, "no column of geometries")?;
             status = 1;
         }
         Ok(status)
     }
-}
 
-/// Writes columns as an Arrow stream of its schema alone (docs/FORMAT.md, 3.6). Where no message can hold them, it says so on standard
-/// error. Returns the status.
-fn write_stream(rt: &HostRuntime, file: &str, columns: Vec<Column>) -> io::Result<u8> {
-    let schema = Schema {
-        columns,
-        metadata: BTreeMap::new(rt.alloc()),
-        endianness: Endianness::Little,
-    };
-    match write_schema(rt.alloc(), &schema) {
-        Ok(stream) => {
-            rt.stdout().write_all(stream.as_slice())?;
-            Ok(0)
-        }
-        Err(error) => {
-            eprintln!(rt; "{file}: {error}")?;
-            Ok(2)
+    /// Writes columns as an Arrow stream of its schema alone (docs/FORMAT.md, 3.6). Where no message can hold them, it says so on standard
+    /// error. Returns the status.
+    fn write_stream(&self, rt: &HostRuntime, columns: Vec<Column>) -> io::Result<u8> {
+        let schema = Schema {
+            columns,
+            metadata: BTreeMap::new(rt.alloc()),
+            endianness: Endianness::Little,
+        };
+        match write_schema(rt.alloc(), &schema) {
+            Ok(stream) => {
+                rt.stdout().write_all(stream.as_slice())?;
+                Ok(0)
+            }
+            Err(error) => {
+                let words = error.to_string(rt.alloc())?;
+                self.say(rt, words.as_str())?;
+                Ok(2)
+            }
         }
     }
+}
+
+/// How many bytes the texts of a row have.
+fn row_bytes(row: &Row) -> usize {
+    let mut bytes = 0_usize;
+    for text in [&row.name, &row.holds, &row.crs, &row.edges] {
+        bytes = bytes.saturating_add(text.len());
+    }
+    for note in &row.notes {
+        bytes = bytes.saturating_add(note.len());
+    }
+    bytes
 }

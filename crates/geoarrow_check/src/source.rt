@@ -2,10 +2,11 @@
 
 use crate::report::Report;
 use column_files::{
-    FileFault, Form, LineColumns, ReadFault, columns_of, form_of, read_head, read_schema_bytes,
-    read_schema_end,
+    FileEnd, FileFault, Form, LineColumns, ReadFault, columns_of_end, form_of, read_head,
+    read_schema_bytes, read_schema_end,
 };
 use file_reports::checked_columns;
+use std::alloc::AllocError;
 use std::io::Read;
 use std::{fs, io};
 
@@ -19,11 +20,23 @@ pub(crate) enum Failure {
 }
 
 /// Whether a file is reported to its end.
-type Reported = Result<(), Failure>;
+pub(crate) type Reported = Result<(), Failure>;
 
 impl From<ReadFault> for Failure {
     fn from(fault: ReadFault) -> Failure {
         Failure::Input(fault)
+    }
+}
+
+impl From<FileFault> for Failure {
+    fn from(fault: FileFault) -> Failure {
+        Failure::Input(ReadFault::File(fault))
+    }
+}
+
+impl From<AllocError> for Failure {
+    fn from(_refused: AllocError) -> Failure {
+        Failure::Input(ReadFault::File(FileFault::OutOfMemory))
     }
 }
 
@@ -44,7 +57,7 @@ pub(crate) fn report_columns(rt: &HostRuntime, file: &str, report: &mut Report<'
             return report_lines(rt, head, source, report);
         }
         let bytes = read_schema_bytes(form, head, &mut source)?;
-        return report_schema(rt, form, bytes.as_slice(), report);
+        return report_schema(rt, form, &FileEnd { start: 0, bytes }, report);
     }
     let mut source = fs::File::open(rt, file).map_err(ReadFault::Input)?;
     let head = read_head(rt.alloc(), &mut source)?;
@@ -52,8 +65,8 @@ pub(crate) fn report_columns(rt: &HostRuntime, file: &str, report: &mut Report<'
     if matches!(form, Form::Lines) {
         return report_lines(rt, head, source, report);
     }
-    let bytes = read_schema_end(rt.alloc(), form, head, &mut source)?;
-    report_schema(rt, form, bytes.as_slice(), report)
+    let end = read_schema_end(rt.alloc(), form, head, &mut source)?;
+    report_schema(rt, form, &end, report)
 }
 
 /// Reports the columns of lines, of which one at a time is kept.
@@ -74,14 +87,19 @@ fn report_lines<R: Read + Drop>(
 }
 
 /// Reports the columns of a schema, and of a Parquet file what is said of its GeoParquet metadata.
-fn report_schema(rt: &HostRuntime, form: Form, end: &[u8], report: &mut Report<'_>) -> Reported {
-    let columns = columns_of(rt.alloc(), form, end).map_err(ReadFault::File)?;
+fn report_schema(
+    rt: &HostRuntime,
+    form: Form,
+    end: &FileEnd,
+    report: &mut Report<'_>,
+) -> Reported {
+    let bytes = end.bytes.as_slice();
+    report.begin_schema(form, bytes.len());
+    let columns = columns_of_end(rt.alloc(), form, end.start, bytes)?;
     if !matches!(form, Form::Parquet) {
-        return Ok(report.add_all(rt, columns)?);
+        return report.add_all(rt, columns);
     }
-    let checked = checked_columns(rt.alloc(), end, columns)
-        .map_err(FileFault::Parquet)
-        .map_err(ReadFault::File)?;
+    let checked = checked_columns(rt.alloc(), bytes, columns).map_err(FileFault::Parquet)?;
     report.add_all(rt, checked.columns)?;
     Ok(report.add_checks(rt.alloc(), &checked.findings)?)
 }

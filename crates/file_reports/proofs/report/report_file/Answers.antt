@@ -1,8 +1,7 @@
-use Rattle.std.proofs.Common.{◌≡◌, MatchResult, map, rules}
+use Rattle.std.proofs.Common.{map, inl, rules}
 use Rattle.arrow_values.specs.Texts.{text_of}
 use Rattle.arrow_columns.specs.Column.{column_tree}
-use Rattle.column_files.specs.declared.columns.FileFault.TheVariants.{OutOfMemory}
-use Rattle.file_reports.specs.Report.{IsReportIn}
+use Rattle.file_reports.specs.Report.{ReportsIn}
 use Rattle.file_reports.proofs.Whole.{whole}
 use Rattle.file_reports.proofs.report.report_file.Goals as goal
 
@@ -12,5 +11,5 @@ returns c =
     let read = c.in_ok-read.ensures in
     let form = c.in_ok-read.read.0 in
     let columns = c.in_ok-read.read.1 in
-    let done : MatchResult c.report_in.result (IsReportIn form file c.args.infer c.args.bytes.now (map column_tree columns.items)) (λ fault. fault ≡ OutOfMemory) = search rules in
-    whole file c.args.infer c.args.bytes.now form columns c.report_in.result read.0 read.1 done
+    let done : ReportsIn form file c.args.options c.args.bytes.now (map column_tree columns.items) c.report_in.result = search rules in
+    whole file c.args.options c.args.bytes.now form columns c.report_in.result read.0 read.1 done
