@@ -42,7 +42,7 @@ fn options_with(infer: bool, notes: bool) -> Options
 /// not read, with 0; 7 where more is to be read than eight times the message's bytes, and 16 to 30
 /// for the rules of Arrow's IPC format (docs/FORMAT.md, 3) in the order of `Rule`, with the byte of
 /// the message, or of the Arrow file; 10 where the report would have more bytes than its budget
-/// (docs/FORMAT.md, 2.7), with 0; 11 where there are no bytes, or blank lines alone, with 0.
+/// (docs/FORMAT.md, 2.5), with 0; 11 where there are no bytes, or blank lines alone, with 0.
 #[unsafe(no_mangle)]
 pub extern "C" fn geoarrow_check(
     alloc: Global,
