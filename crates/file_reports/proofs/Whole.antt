@@ -1,5 +1,5 @@
 -- The report of a file from that of its columns.
-use Rattle.std.proofs.Common.{◌≡◌, ◌⊎◌, ◌<◌, ◌≤◌, ℕ, List, map, Option, Result, Ok, Err, Vec, Global, inl, inr, sym, subst}
+use Rattle.std.proofs.Common.{ℕ, List, map, Option, Result, Ok, Err, Vec, Global, inl, inr, sym, subst}
 use Rattle.arrow_values.specs.Tree.{Text}
 use Rattle.arrow_columns.specs.Column.{ColumnTree, column_tree}
 use Rattle.arrow_columns.specs.declared.column.Column.{Column}
@@ -9,7 +9,7 @@ use Rattle.column_files.specs.declared.form.Form.{Form}
 use Rattle.column_files.specs.declared.columns.FileFault.{FileFault}
 use Rattle.parquet_schema.specs.declared.fault.SchemaError.{SchemaError}
 use Rattle.file_reports.specs.Checks.{AreChecked}
-use Rattle.file_reports.specs.Report.{size, ArePast, IsUnreported, IsWithin, IsParquetReport, IsParquetPast, ParquetReports, ReportsIn, Reports}
+use Rattle.file_reports.specs.Report.{ArePast, IsUnreported, IsWithin, IsParquetReport, IsParquetPast, ParquetReports, ReportsIn, Reports}
 use Rattle.file_reports.specs.declared.checks.Checked.{Checked}
 use Rattle.file_reports.specs.declared.report.Options.{Options}
 use Rattle.file_reports.specs.declared.report.Report.{Report}

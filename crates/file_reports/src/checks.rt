@@ -109,7 +109,8 @@ fn with_warning(alloc: Global, report: Report, file: Option<&str>) -> Result<Rep
     Ok(report)
 }
 
-/// The report of a Parquet file, whose footer is read, with these columns, within a limit of its bytes.
+/// The report of a Parquet file, whose footer is read, with these columns, within a limit of its
+/// bytes.
 pub(crate) fn parquet_report(
     alloc: Global,
     file: Option<&str>,

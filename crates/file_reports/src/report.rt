@@ -14,10 +14,11 @@ ghost use Rattle.file_reports.specs.Report.{line_feed, IsCrsOf, IsLineOf, IsWith
 use crate::checks::parquet_report;
 use arrow_columns::Column;
 use column_check::{Finding, check_column, warnings};
-use column_files::{FileFault, Form, columns_of, form_of, report_budget};
+use column_files::{FileFault, Form, columns_of, form_of};
 use column_reports::json_line;
 use crs_text::crs_text_with_scratch;
 use json::Scratch;
+use parquet_schema::report_budget;
 use std::alloc::{AllocError, Global};
 
 /// What is asked of a report.
@@ -43,12 +44,15 @@ pub struct Report {
     pub has_failed: bool,
 }
 
-/// Returns the report of a file, from its bytes: what each of its columns holds and what is doubtful of it, a line of JSON for each. A Parquet file
-/// has its columns by its GeoParquet metadata, as `checked_columns` answers them, and behind their lines a line for each check that does not hold; or,
-/// where it has no such metadata and a column holds geometries, the line of a warning. `file` is the name that the lines give the file, if any.
+/// Returns the report of a file, from its bytes: what each of its columns holds and what is
+/// doubtful of it, a line of JSON for each. A Parquet file has its columns by its GeoParquet
+/// metadata, as `checked_columns` answers them, and behind their lines a line for each check that
+/// does not hold; or, where it has no such metadata and a column holds geometries, the line of a
+/// warning. `file` is the name that the lines give the file, if any.
 ///
-/// Errs as `columns_in` of `column_files` does; and with `ReportTooLarge` where the lines have more bytes than `report_budget` of the length of the
-/// file (docs/FORMAT.md, 2.7), as soon as those of the first columns have.
+/// Errs as `columns_in` of `column_files` does; and with `ReportTooLarge` where the lines have more
+/// bytes than `report_budget` of the length of the file (docs/FORMAT.md, 2.5), as soon as those of
+/// the first columns have.
 ///
 /// ```rust
 /// let options = Options { infer: false, notes: false };
@@ -103,8 +107,9 @@ fn report_in(
     }
 }
 
-/// Returns the report of columns, as that of a file that is no Parquet file, whose lines have at most that many bytes. Errs with `ReportTooLarge`
-/// where they have more, as soon as those of the first columns have; and when out of memory.
+/// Returns the report of columns, as that of a file that is no Parquet file, whose lines have at
+/// most that many bytes. Errs with `ReportTooLarge` where they have more, as soon as those of the
+/// first columns have; and when out of memory.
 pub fn report_columns(
     alloc: Global,
     file: Option<&str>,
@@ -188,9 +193,10 @@ pub(crate) fn push_line(text: &mut String, line: &str) -> Result<(), AllocError>
     text.push_str("\n")
 }
 
-/// Returns the line of JSON of a column at that place, of which that is said (docs/FORMAT.md, 2.5), with what is doubtful of it and the text of its
-/// CRS, and without a line feed. `file` is the name that the line gives the file, if any; with `notes` the notes stand among the warnings. The scratch
-/// buffer is kept by the caller from column to column. Errs only when out of memory.
+/// Returns the line of JSON of a column at that place, of which that is said (docs/FORMAT.md, 2.5),
+/// with what is doubtful of it and the text of its CRS, and without a line feed. `file` is the name
+/// that the line gives the file, if any; with `notes` the notes stand among the warnings. The
+/// scratch buffer is kept by the caller from column to column. Errs only when out of memory.
 pub fn column_line_of(
     alloc: Global,
     scratch: &mut Scratch,

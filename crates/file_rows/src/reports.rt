@@ -1,5 +1,6 @@
-//! Rows of reports: calls of `file_reports`, and so of the crates that read files and say what columns hold. A row's text is lines of fields,
-//! with ` & ` between them in place of line feeds; under `report_file` and `report_size` it is the bytes of a file in hexadecimal digits, and under
+//! Rows of reports: calls of `file_reports`, and so of the crates that read files and say what
+//! columns hold. A row's text is lines of fields, with ` & ` between them in place of line feeds;
+//! under `report_file` and `report_size` it is the bytes of a file in hexadecimal digits, and under
 //! `columns_of_end` those of the end of an Arrow file, behind the number of bytes before it.
 use column_check::{Finding, check_column, warnings};
 use column_files::{FileFault, Form, columns_in, columns_of_end};

@@ -1,5 +1,5 @@
 -- What the check of a file means by its options, what it writes, and the numbers by which it refuses bytes.
-use Rattle.std.specs.Prelude.{◌≡◌, ℕ, ◌+◌, Bool, length, None, Ok, Err, string_bytes, if◌then◌else◌}
+use Rattle.std.specs.Prelude.{◌≡◌, ℕ, ◌+◌, length, None, Ok, Err, string_bytes, if◌then◌else◌}
 use Rattle.arrow_ipc.specs.declared.fault.Rule.{Rule}
 use Rattle.arrow_ipc.specs.declared.fault.Rule.TheVariants.{Envelope, Number, Offset, Vtable, Slot, Text, Utf8, Vector, Missing, Message, Tag, Parameter, Children, TypeIds, Depth}
 use Rattle.arrow_ipc.specs.declared.fault.IpcError.{IpcError}

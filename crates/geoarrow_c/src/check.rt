@@ -29,15 +29,20 @@ fn options_with(infer: bool, notes: bool) -> Options
     Options { infer, notes }
 }
 
-/// Writes the report of a file, from its bytes, to the front of `out`: what each of its columns holds, a line of JSON for each, with its line
-/// feed (docs/FORMAT.md, 2.5); and its length to `len`. The options are 0, or a sum of 1, by which a column without an extension name is taken for
-/// what is inferred from its data type, and 2, by which the notes stand among the warnings (docs/FORMAT.md, 2.6).
+/// Writes the report of a file, from its bytes, to the front of `out`: what each of its columns
+/// holds, a line of JSON for each, with its line feed (docs/FORMAT.md, 2.5); and its length to
+/// `len`. The options are 0, or a sum of 1, by which a column without an extension name is taken
+/// for what is inferred from its data type, and 2, by which the notes stand among the warnings
+/// (docs/FORMAT.md, 2.6).
 ///
-/// Returns 0; 1 where `out` is too small: it is then unchanged, and `len` says what is needed; 2 when out of memory, and 3 where the number is
-/// that of no options, with both unchanged; any other number where the bytes are refused, with `out` unchanged and the place in `len`: 5 for a line
-/// that is no field, with how many lines stand before it; 6 for a Parquet file whose columns are not read, with 0; 7 where more is to be read than eight times the
-/// message's bytes, and 16 to 30 for the rules of Arrow's IPC format (docs/FORMAT.md, 3) in the order of `Rule`, with the byte of the message, or of the Arrow
-/// file; 10 where the report would have more bytes than its budget (docs/FORMAT.md, 2.7), with 0; 11 where there are no bytes, or blank lines alone, with 0.
+/// Returns 0; 1 where `out` is too small: it is then unchanged, and `len` says what is needed; 2
+/// when out of memory, and 3 where the number is that of no options, with both unchanged; any other
+/// number where the bytes are refused, with `out` unchanged and the place in `len`: 5 for a line
+/// that is no field, with how many lines stand before it; 6 for a Parquet file whose columns are
+/// not read, with 0; 7 where more is to be read than eight times the message's bytes, and 16 to 30
+/// for the rules of Arrow's IPC format (docs/FORMAT.md, 3) in the order of `Rule`, with the byte of
+/// the message, or of the Arrow file; 10 where the report would have more bytes than its budget
+/// (docs/FORMAT.md, 2.5), with 0; 11 where there are no bytes, or blank lines alone, with 0.
 #[unsafe(no_mangle)]
 pub extern "C" fn geoarrow_check(
     alloc: Global,

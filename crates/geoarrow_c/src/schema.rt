@@ -24,8 +24,9 @@ fn unwritten_of(error: WriteError) -> (u8, usize)
     }
 }
 
-/// Writes an Arrow stream of the schema whose columns lines denote (docs/FORMAT.md, 2.7 and 3.6), one column a line, to the front of `out`,
-/// and its length to `len`. The schema has no metadata of its own. Blank lines are passed over, and no lines denote a schema without columns.
+/// Writes an Arrow stream of the schema whose columns lines denote (docs/FORMAT.md, 2.7 and 3.6),
+/// one column a line, to the front of `out`, and its length to `len`. The schema has no metadata of
+/// its own. Blank lines are passed over, and no lines denote a schema without columns.
 ///
 /// Returns 0; 1 where `out` is too small: it is then unchanged, and `len` says what is needed; 2 when out of memory, with both unchanged; any
 /// other number where no stream is written, with `out` unchanged and the place in `len`: 5 for a line that denotes no column, with how many lines

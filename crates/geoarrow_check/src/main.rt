@@ -36,7 +36,8 @@ Status: 0 if no column is invalid, each check holds and all that is expected is 
 141 if nobody reads the output any more.
 ";
 
-/// The status where nobody reads the output any more, as that of other tools: 128, and the number of the signal SIGPIPE.
+/// The status where nobody reads the output any more, as that of other tools: 128, and the number
+/// of the signal SIGPIPE.
 const UNREAD: u8 = 141;
 
 /// The version, as `--version` prints it.

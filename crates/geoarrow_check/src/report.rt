@@ -5,9 +5,9 @@ use arrow_columns::Column;
 use arrow_ipc::{Endianness, Schema, write_schema};
 use check_options::{Asked, Output};
 use column_check::{Finding, check_column};
-use column_files::{FileFault, Form, MAX_LINE_BYTES, column_line, report_budget};
+use column_files::{FileFault, Form, MAX_LINE_BYTES, column_line};
 use column_tables::{Row, table_text};
-use file_reports::column_line_of;
+use file_reports::{column_line_of, report_budget};
 use geoparquet::GeoFinding;
 use json::Scratch;
 use report_words::{Found, checked_lines, checked_text, has_failed, row_of, shown};
@@ -37,7 +37,8 @@ pub(crate) struct Report<'a> {
     count: usize,
     has_geometry: bool,
     status: u8,
-    /// How many bytes the lines of JSON or the rows may have: those of all columns of a schema, and of lines each.
+    /// How many bytes the lines of JSON or the rows may have: those of all columns of a schema, and
+    /// of lines each.
     limit: u128,
     /// How many they have.
     size: u128,
@@ -67,7 +68,8 @@ impl<'a> Report<'a> {
         })
     }
 
-    /// Takes what is added from here on for the columns of a schema of that format, of which so many bytes were read.
+    /// Takes what is added from here on for the columns of a schema of that format, of which so
+    /// many bytes were read.
     pub(crate) fn begin_schema(&mut self, form: Form, bytes: usize) {
         self.limit = report_budget(bytes);
         self.form = form;
@@ -86,7 +88,8 @@ impl<'a> Report<'a> {
         Ok(())
     }
 
-    /// Adds a column, and writes what is to be printed of it, but for a table, a stream, and the lines of JSON of a schema.
+    /// Adds a column, and writes what is to be printed of it, but for a table, a stream, and the
+    /// lines of JSON of a schema.
     pub(crate) fn add(&mut self, rt: &HostRuntime, column: Column) -> Reported {
         if matches!(self.form, Form::Lines) {
             self.size = 0;
@@ -100,12 +103,14 @@ impl<'a> Report<'a> {
         Ok(())
     }
 
-    /// Whether nothing is written before all is made: the lines of JSON of a schema, which may be more than they may.
+    /// Whether nothing is written before all is made: the lines of JSON of a schema, which may be
+    /// more than they may.
     fn is_held(&self) -> bool {
         !matches!(self.form, Form::Lines) && matches!(self.asked.flags.output(), Output::Json)
     }
 
-    /// Counts so many bytes of lines of JSON or of rows. Errs where there are more than there may be.
+    /// Counts so many bytes of lines of JSON or of rows. Errs where there are more than there may
+    /// be.
     fn count_bytes(&mut self, bytes: usize) -> Result<(), FileFault> {
         self.size = self.size.saturating_add(bytes as u128);
         if self.size > self.limit {
@@ -212,7 +217,8 @@ impl<'a> Report<'a> {
         Ok(self.text.push_str(said.as_str())?)
     }
 
-    /// Writes what was made before a fault: the lines before one that is refused, and nothing of a schema.
+    /// Writes what was made before a fault: the lines before one that is refused, and nothing of a
+    /// schema.
     pub(crate) fn write_before(&mut self, rt: &HostRuntime) -> io::Result<()> {
         if self.is_held() {
             return Ok(());
@@ -274,8 +280,8 @@ impl<'a> Report<'a> {
         Ok(status)
     }
 
-    /// Writes columns as an Arrow stream of its schema alone (docs/FORMAT.md, 3.6). Where no message can hold them, it says so on standard
-    /// error. Returns the status.
+    /// Writes columns as an Arrow stream of its schema alone (docs/FORMAT.md, 3.6). Where no
+    /// message can hold them, it says so on standard error. Returns the status.
     fn write_stream(&self, rt: &HostRuntime, columns: Vec<Column>) -> io::Result<u8> {
         let schema = Schema {
             columns,

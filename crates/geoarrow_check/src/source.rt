@@ -87,12 +87,7 @@ fn report_lines<R: Read + Drop>(
 }
 
 /// Reports the columns of a schema, and of a Parquet file what is said of its GeoParquet metadata.
-fn report_schema(
-    rt: &HostRuntime,
-    form: Form,
-    end: &FileEnd,
-    report: &mut Report<'_>,
-) -> Reported {
+fn report_schema(rt: &HostRuntime, form: Form, end: &FileEnd, report: &mut Report<'_>) -> Reported {
     let bytes = end.bytes.as_slice();
     report.begin_schema(form, bytes.len());
     let columns = columns_of_end(rt.alloc(), form, end.start, bytes)?;

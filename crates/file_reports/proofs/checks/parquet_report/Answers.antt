@@ -1,8 +1,7 @@
-use Rattle.std.proofs.Common.{◌≡◌, map, sym, ap, subst}
+use Rattle.std.proofs.Common.{map}
 use Rattle.arrow_values.specs.Texts.{text_of}
 use Rattle.arrow_columns.specs.Column.{column_tree}
 use Rattle.parquet_schema.specs.Reads.{footer_in}
-use Rattle.file_reports.specs.Report.{ReportsOf}
 use Rattle.file_reports.proofs.Whole.{unreported, finished}
 use Rattle.file_reports.proofs.checks.parquet_report.Goals as goal
 
