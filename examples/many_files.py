@@ -28,9 +28,10 @@ import concurrent.futures
 import json
 import os
 import pathlib
+import queue
 import sys
 import time
-from typing import Any, Dict, Iterable, Iterator, List, Optional, Sequence, Set, Tuple
+from typing import Any, Dict, Iterable, Iterator, List, Optional, Sequence, Tuple
 
 try:
     from geoarrow_fields.files import Report, failed, paths_of, report, reports
@@ -75,37 +76,37 @@ def dask_reports(paths: Sequence[str], infer: bool = False, client: Any = None, 
 
 def _ended(client: Any, futures: Iterable[Any], patience: float) -> Iterator[Tuple[Any, Any]]:
     """Each future as it ends, with its reports or what it failed by; those that nobody works on are given up."""
-    waiting, seen, why = set(futures), time.monotonic(), ""
-    while waiting and not why:
-        try:
-            done, is_worked_on = _done(client, waiting)
-        except Exception as error:  # whatever it is, the scheduler does not answer
-            done, is_worked_on, why = set(), False, f"the cluster is lost: {type(error).__name__}"
-        for future in done:
-            yield future, _outcome(future, patience)
-        waiting -= done
-        if is_worked_on:
-            seen = time.monotonic()
-        elif time.monotonic() - seen > patience:
-            why = why or "no worker is left"
+    waiting, seen = set(futures), time.monotonic()
+    ended: "queue.Queue[Any]" = queue.Queue()
     for future in waiting:
-        yield future, RuntimeError(why)
+        future.add_done_callback(ended.put)
+    while waiting and time.monotonic() - seen <= patience:
+        try:
+            future = ended.get(timeout=min(1.0, patience))
+        except queue.Empty:
+            if not _has_worker(client):
+                continue
+        else:
+            waiting.discard(future)
+            yield future, _outcome(future, patience)
+        seen = time.monotonic()
+    for future in waiting:
+        yield future, RuntimeError("no worker is left")
 
 
-def _done(client: Any, waiting: Set[Any]) -> Tuple[Set[Any], bool]:
-    """Which futures have ended within a second, and whether there is a worker."""
-    from distributed import TimeoutError, wait
-
+def _has_worker(client: Any) -> bool:
     try:
-        return wait(waiting, timeout=1, return_when="FIRST_COMPLETED").done, True
-    except TimeoutError:
-        return set(), bool(client.nthreads())
+        return bool(client.nthreads())
+    except Exception:  # whatever it is, the scheduler does not answer
+        return False
 
 
 def _outcome(future: Any, patience: float) -> Any:
     """The reports of a future that has ended, or what it failed by, as where its worker is lost before they are fetched."""
     try:
         return future.result(timeout=patience)
+    except concurrent.futures.CancelledError:
+        return RuntimeError("the cluster is lost")
     except Exception as error:
         return error
 

@@ -11,7 +11,6 @@ import subprocess
 import sys
 import tempfile
 import threading
-import types
 import unittest
 from unittest import mock
 
@@ -138,43 +137,47 @@ class Paths(unittest.TestCase):
 class WithoutDask(unittest.TestCase):
     """What is made of a cluster's answers, by a stand-in for it."""
 
-    def ran(self, client, wait, patience=0.0):
-        class Lost(Exception):
-            pass
+    def ran(self, client, patience=0.2):
+        return list(loaded().dask_reports(["x", "y", "z"], True, client, patience))
 
-        module = types.ModuleType("distributed")
-        module.wait, module.TimeoutError = wait, Lost
-        with mock.patch.dict(sys.modules, distributed=module):
-            return list(loaded().dask_reports(["x", "y", "z"], True, client, patience))
-
-    def client(self, *futures, workers=1):
-        client = mock.Mock(status="running")
+    def client(self, *ends, workers=1):
+        """A client whose tasks end so, in another order; those of which it is not known how do not end."""
+        client = mock.Mock()
         client.nthreads.return_value = dict.fromkeys(range(workers), 1)
+        futures = [mock.Mock(**{"result.side_effect": [end]}) for end in ends]
+        for future, end in zip(futures, ends):
+            if end is not None:
+                future.add_done_callback.side_effect = lambda call, future=future: call(future)
         client.map.return_value = futures
         return client
 
     def test_what_a_task_raises_is_an_error_of_its_files(self):
-        lacks = ModuleNotFoundError("No module named 'geoarrow_fields'")
-        client = self.client(*(mock.Mock(**{"result.side_effect": [end]}) for end in ([{"file": "x"}], lacks, [{"file": "z"}])))
-        found = self.ran(client, lambda futures, **_: mock.Mock(done=set(futures)))
+        client = self.client([{"file": "x"}], ModuleNotFoundError("No module named 'geoarrow_fields'"), [{"file": "z"}])
+        found = self.ran(client)
         self.assertEqual({one["file"]: one.get("error") for one in found}, {"x": None, "y": "No module named 'geoarrow_fields'", "z": None})
         call, texts, given = client.map.call_args[0]
         self.assertEqual((call, [one["paths"] for one in given], {one["infer"] for one in given}), (eval, [["x"], ["y"], ["z"]], {True}))
         with mock.patch.object(files, "reports", lambda paths, infer: (paths, infer)):
             self.assertEqual([call(text, dict(one)) for text, one in zip(texts, given)], [([one], True) for one in "xyz"])
 
-    def given_up(self, error, wanted):
-        def nothing(futures, **_):
-            raise error or sys.modules["distributed"].TimeoutError
-
-        found = self.ran(self.client(*(mock.Mock() for _ in "xyz"), workers=0), nothing)
-        self.assertEqual(sorted((one["file"], one["error"]) for one in found), [(one, wanted) for one in "xyz"])
+    def given_up(self, client, *wanted):
+        self.assertEqual(sorted((one["file"], one.get("error")) for one in self.ran(client)), list(zip("xyz", wanted)))
 
     def test_where_no_worker_is_left_the_files_are_given_up(self):
-        self.given_up(None, "no worker is left")
+        self.given_up(self.client([{"file": "x"}], None, None, workers=0), None, "no worker is left", "no worker is left")
 
     def test_where_the_scheduler_is_lost_the_files_are_given_up(self):
-        self.given_up(concurrent.futures.CancelledError(), "the cluster is lost: CancelledError")
+        client = self.client([{"file": "x"}], concurrent.futures.CancelledError(), None)
+        client.nthreads.side_effect = [{"a": 1}, OSError("nobody answers"), OSError("nobody answers"), OSError("nobody answers"), OSError("nobody answers")]
+        self.given_up(client, None, "the cluster is lost", "no worker is left")
+
+    def test_while_there_is_a_worker_its_task_is_waited_for(self):
+        client, calls = self.client([{"file": "x"}], None, [{"file": "z"}]), []
+        future = client.map.return_value[1]
+        future.result.side_effect = [[{"file": "y"}]]
+        future.add_done_callback.side_effect = calls.append
+        threading.Timer(0.8, lambda: calls[0](future)).start()
+        self.given_up(client, None, None, None)
 
 
 @unittest.skipUnless(HAS_DASK, "python3-dask and python3-distributed are not there")
@@ -283,7 +286,7 @@ class Cluster(unittest.TestCase):
         self.started[0].kill()
         rest = list(reports)
         self.assertEqual(sorted(one["file"] for one in [*found, *rest]), sorted([*self.paths, path]))
-        self.assertEqual({one["error"] for one in rest}, {"the cluster is lost: CancelledError"})
+        self.assertEqual({one["error"] for one in rest}, {"the cluster is lost"})
 
 
 if __name__ == "__main__":
