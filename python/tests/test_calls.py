@@ -176,7 +176,7 @@ class Refusals(unittest.TestCase):
         self.assertEqual(self.refused(check, f"\n{TEXT}\n\n[]".encode()), ("NoField", 3, "line 4 is no field"))
         self.assertEqual(self.refused(check, b"PAR1"), ("Parquet", 0, "the columns of the Parquet file are not read"))
         self.assertEqual(self.refused(check, b"ARROW1"), ("Envelope", 0, "byte 0: no whole message"))
-        self.assertEqual(self.refused(check, b"\xff\xff\xff\xff"), ("Envelope", 4, "byte 4 of the message: no whole message"))
+        self.assertEqual(self.refused(check, b"\xff\xff\xff\xff"), ("Number", 4, "byte 4 of the message: no aligned number before the end"))
         self.assertEqual(self.refused(check, [TEXT, "\ud800"])[:2], ("NoField", 1))
 
     def test_empty_sources(self):
