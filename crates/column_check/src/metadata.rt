@@ -38,8 +38,8 @@ pub enum MetadataFault {
     UnknownCrsTypeAndEdges,
 }
 
-/// The values that a metadata text denotes; a missing text and an empty one denote none of the three; or why it denotes no values
-/// (`docs/FORMAT.md`, 2.6). Errs only when out of memory.
+/// Reads the values that a metadata text denotes, or why it denotes no values (`docs/FORMAT.md`,
+/// 2.6). A missing text and an empty one denote none of the three. Errs only when out of memory.
 ///
 /// ```rust
 /// assert!(rt; matches!(read_metadata(alloc, Some(""))?, Ok(_)));

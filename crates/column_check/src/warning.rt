@@ -19,11 +19,12 @@ use std::alloc::{AllocError, Global};
 /// What a warning says.
 #[derive(Debug, Clone, Copy, PartialEq, Eq)]
 pub enum WarningCode {
-    /// The extension metadata are an empty text, which is read as none here; `from_extension_field` and `from_arrow_field` of
-    /// `geoarrow_schema` refuse the column.
+    /// The extension metadata are an empty text, which is read as none here;
+    /// `from_extension_field` and `from_arrow_field` of `geoarrow_schema` refuse the column.
     MetadataEmpty,
-    /// A number in the CRS is not whole, as GeoArrow allows: for that alone `from_extension_field` and `from_arrow_field` of
-    /// `geoarrow_schema` refuse the column. It is a note, which is said only where notes are asked for.
+    /// A number in the CRS is not whole, as GeoArrow allows: for that alone `from_extension_field`
+    /// and `from_arrow_field` of `geoarrow_schema` refuse the column. It is a note, which is said
+    /// only where notes are asked for.
     CrsNotWhole,
     /// There is a CRS, and no CRS type. An object needs none, as it can only be PROJJSON.
     CrsWithoutType,
@@ -46,9 +47,11 @@ pub struct Warning {
     pub path: Vec<String>,
 }
 
-/// What is doubtful of a column of which that is said, and leaves the finding as it is (`docs/FORMAT.md`, 2.6): in the order of `WarningCode`,
-/// and under one code from left to right, a field before those below it. Of the metadata text, of a CRS and of coordinates it speaks
-/// where the finding is of geometries; of fields below the column always. `notes` asks for the notes too. Errs only when out of memory.
+/// Returns what is doubtful of a column of which that is said, and leaves the finding as it is
+/// (`docs/FORMAT.md`, 2.6): in the order of `WarningCode`, and under one code from left to right, a
+/// field before those below it. Of the metadata text, of a CRS and of coordinates it speaks where
+/// the finding is of geometries; of fields below the column always. `notes` asks for the notes too.
+/// Errs only when out of memory.
 ///
 /// ```rust
 /// let finding = check_column(alloc, &column, false)?;
