@@ -1,14 +1,16 @@
 #!/usr/bin/env python3
 """Checks many files, a report for each as it comes, and one summary: examples/many_files.py [--with dask|threads|loop] [--infer] PATH..
 
-A PATH is a file, or a folder with all files in it; `-` is a list of paths on standard input. A report is a line of JSON: the `file`, its
-number of `columns`, its `geometries` and its `invalid` columns in words, the `checks` of its GeoParquet metadata that do not hold, the
-`warnings` of the file as a whole, and an `error` where it cannot be read, which never ends the run. The summary is the last line. The status is
-2 where a file cannot be read, 1 where a column is invalid or a check does not hold, otherwise 0.
+A PATH is a file, or a folder with all files in it but those whose names begin with `_` or `.`; `-` is a list of paths on standard input. A report is a
+line of JSON (geoarrow_fields.files): the `file`, its number of `columns`, its `geometries` and its `invalid` columns in words, the `checks` of its GeoParquet
+metadata that do not hold, the `warnings` of the file as a whole, and an `error` where it cannot be read, as one of 0 bytes, which never ends the run. The
+summary is the last line. How far the run is stands on standard error where that is a terminal, and standard output is not. The status is 2 where
+a file cannot be read, 1 where a column is invalid or a check does not hold, otherwise 0.
 
-`reports` is a function of paths, so that any engine that maps over paths takes it. With Dask it is `dask_reports` below. With Spark:
+`--scheduler ADDRESS` gives the files to the workers of a running Dask cluster. Each needs the package of `python/`, and the files under the same paths; a worker
+that lacks the package, or is lost, is an `error` of its files. With Spark, the package on each executor:
 
-    from many_files import reports
+    from geoarrow_fields.files import reports
     for one in spark.sparkContext.parallelize(paths, len(paths) // 100 + 1).mapPartitions(reports).toLocalIterator():
         print(one)
 
@@ -18,7 +20,7 @@ With Ray:
     for part in [task.remote(paths[at:at + 100]) for at in range(0, len(paths), 100)]:
         print(*ray.get(part), sep="\n")
 
-It needs the package of `python/`, installed or in this repository; with Dask, python3-dask and python3-distributed on each worker.
+With Dask it needs python3-dask and python3-distributed, here and on each worker.
 """
 import argparse
 import collections
@@ -28,40 +30,20 @@ import os
 import pathlib
 import sys
 import time
-from typing import Any, Dict, Iterable, Iterator, List, Optional, Sequence
+from typing import Any, Dict, Iterable, Iterator, List, Optional, Sequence, Set, Tuple
 
 try:
-    import geoarrow_fields
+    from geoarrow_fields.files import Report, failed, paths_of, report, reports
 except ImportError:
     sys.path.insert(0, str(pathlib.Path(__file__).resolve().parent.parent / "python"))
-    import geoarrow_fields
-
-Report = Dict[str, Any]
+    from geoarrow_fields.files import Report, failed, paths_of, report, reports
 
 MOST = 100  # paths of one task
+PATIENCE = 60.0  # seconds without any worker, behind which none is waited for
 
-
-def reports(paths: Iterable[str], infer: bool = False) -> List[Report]:
-    """A report for each path. Whatever is wrong with a file is said in its report."""
-    return [report(path, infer) for path in paths]
-
-
-def report(path: str, infer: bool = False) -> Report:
-    """What the columns of a file hold, or why it cannot be read."""
-    try:
-        columns = geoarrow_fields.check(path, infer)
-    except Exception as error:  # whatever it is, the next file is checked
-        return _failed(path, error)
-    geometries = [f"{one.name}: {one.type}" for one in columns if one.state in ("geometry", "inferred")]
-    invalid = [f"{one.name}: {', '.join(map(str, one.reasons))}" for one in columns if one.is_invalid]
-    return {
-        "file": path, "columns": len(columns), "geometries": geometries, "invalid": invalid, "checks": list(map(str, columns.checks)),
-        "warnings": list(map(str, columns.warnings)), "error": None}
-
-
-def _failed(path: str, error: BaseException) -> Report:
-    said = getattr(error, "strerror", None) or str(error) or type(error).__name__
-    return {"file": path, "columns": 0, "geometries": [], "invalid": [], "checks": [], "warnings": [], "error": said}
+# What a worker does with the paths of a task. It is a text, since a function is looked up when a worker unpacks the task, and where its module is
+# not there that breaks the worker's connection and not the task.
+TASK = "__import__('geoarrow_fields.files').files.reports(paths, infer)"
 
 
 def loop_reports(paths: Sequence[str], infer: bool = False) -> Iterator[Report]:
@@ -76,20 +58,56 @@ def thread_reports(paths: Sequence[str], infer: bool = False) -> Iterator[Report
             yield from some
 
 
-def dask_reports(paths: Sequence[str], infer: bool = False, client: Any = None) -> Iterator[Report]:
-    """The reports of Dask's workers, as they come: those of a client, or else of this machine's processors. Where a worker is lost, the reports
-    of its files say so."""
-    from distributed import Client, as_completed
-
+def dask_reports(paths: Sequence[str], infer: bool = False, client: Any = None, patience: float = PATIENCE) -> Iterator[Report]:
+    """The reports of Dask's workers, as they come: those of a client, or else of this machine's processors. What a lost worker had is done by another;
+    where that ends several workers, or none is left for so many seconds, the reports of the files say so."""
     if client is None:
+        from distributed import Client
+
         with Client(n_workers=os.cpu_count(), threads_per_worker=1, dashboard_address=None) as client:
-            yield from dask_reports(paths, infer, client)
+            yield from dask_reports(paths, infer, client, patience)
         return
     parts = _parts(paths, max(1, sum(client.nthreads().values())))
-    given = dict(zip(client.map(reports, parts, infer=infer, pure=False), parts))
-    for future in as_completed(given):
-        error: Optional[BaseException] = future.exception()
-        yield from future.result() if error is None else [_failed(path, error) for path in given[future]]
+    given = dict(zip(client.map(eval, [TASK] * len(parts), [{"paths": part, "infer": infer} for part in parts], pure=False), parts))
+    for future, found in _ended(client, given, patience):
+        yield from [failed(path, found) for path in given[future]] if isinstance(found, Exception) else found
+
+
+def _ended(client: Any, futures: Iterable[Any], patience: float) -> Iterator[Tuple[Any, Any]]:
+    """Each future as it ends, with its reports or what it failed by; those that nobody works on are given up."""
+    waiting, seen, why = set(futures), time.monotonic(), ""
+    while waiting and not why:
+        try:
+            done, is_worked_on = _done(client, waiting)
+        except Exception as error:  # whatever it is, the scheduler does not answer
+            done, is_worked_on, why = set(), False, f"the cluster is lost: {type(error).__name__}"
+        for future in done:
+            yield future, _outcome(future, patience)
+        waiting -= done
+        if is_worked_on:
+            seen = time.monotonic()
+        elif time.monotonic() - seen > patience:
+            why = why or "no worker is left"
+    for future in waiting:
+        yield future, RuntimeError(why)
+
+
+def _done(client: Any, waiting: Set[Any]) -> Tuple[Set[Any], bool]:
+    """Which futures have ended within a second, and whether there is a worker."""
+    from distributed import TimeoutError, wait
+
+    try:
+        return wait(waiting, timeout=1, return_when="FIRST_COMPLETED").done, True
+    except TimeoutError:
+        return set(), bool(client.nthreads())
+
+
+def _outcome(future: Any, patience: float) -> Any:
+    """The reports of a future that has ended, or what it failed by, as where its worker is lost before they are fetched."""
+    try:
+        return future.result(timeout=patience)
+    except Exception as error:
+        return error
 
 
 def _parts(paths: Sequence[str], workers: int) -> List[List[str]]:
@@ -98,20 +116,35 @@ def _parts(paths: Sequence[str], workers: int) -> List[List[str]]:
     return [list(paths[at:at + size]) for at in range(0, len(paths), size)]
 
 
-def paths_of(words: Iterable[str]) -> List[str]:
-    """The files that words name."""
-    found: List[str] = []
+def named(words: Sequence[str]) -> Iterator[str]:
+    """The words, with the lines of standard input in place of `-`."""
     for word in words:
         if word == "-":
-            found.extend(line.rstrip("\n") for line in sys.stdin)
-        elif os.path.isdir(word):
-            found.extend(sorted(os.path.join(folder, name) for folder, _, names in os.walk(word) for name in names))
+            yield from (line.rstrip("\n") for line in sys.stdin)
         else:
-            found.append(word)
-    return found
+            yield word
 
 
-def summary(counts: "collections.Counter[str]", seconds: float) -> str:
+class Progress:
+    """A line that says how far a run is, on standard error; none where that is no terminal, or standard output is one."""
+
+    def __init__(self, files: int) -> None:
+        self.files = files
+        self.is_shown = sys.stderr.isatty() and not sys.stdout.isatty()
+        self.next = 0.0
+
+    def show(self, counts: Dict[str, int]) -> None:
+        now = time.monotonic()
+        if self.is_shown and now >= self.next:
+            self.next = now + 0.2
+            print(f"\r{counts['files']:,} of {self.files:,} files, {counts['error']:,} not read", end="", file=sys.stderr, flush=True)
+
+    def end(self) -> None:
+        if self.is_shown:
+            print("\r\x1b[K", end="", file=sys.stderr, flush=True)
+
+
+def summary(counts: Dict[str, int], seconds: float) -> str:
     """The summary of a run."""
     return ("{files:,} files: {columns:,} columns, {geometries:,} of them geometries; {invalid:,} files with invalid columns, {checks:,} with checks "
             "that do not hold, {error:,} not read; ".format_map(counts) + f"{seconds:.1f} s")
@@ -120,19 +153,36 @@ def summary(counts: "collections.Counter[str]", seconds: float) -> str:
 WAYS = {"dask": dask_reports, "threads": thread_reports, "loop": loop_reports}
 
 
+def reports_by(asked: argparse.Namespace, paths: Sequence[str]) -> Iterator[Report]:
+    """The reports of the files, in the way that is asked for."""
+    if asked.scheduler is None:
+        yield from WAYS[asked.way](paths, asked.infer)
+        return
+    from distributed import Client
+
+    with Client(asked.scheduler) as client:
+        yield from dask_reports(paths, asked.infer, client, asked.patience)
+
+
 def main(words: Optional[Sequence[str]] = None) -> int:
     parser = argparse.ArgumentParser(description="Checks many files.")
     parser.add_argument("paths", metavar="PATH", nargs="+", help="a file, a folder, or - for a list of paths on standard input")
     parser.add_argument("--with", dest="way", choices=WAYS, default="dask")
+    parser.add_argument("--scheduler", metavar="ADDRESS", help="the scheduler of a running Dask cluster, as tcp://host:8786")
+    parser.add_argument("--patience", metavar="SECONDS", type=float, default=PATIENCE, help="how long to wait while a cluster has no worker (60)")
     parser.add_argument("--infer", action="store_true", help="infer a type for columns without an extension name")
     asked = parser.parse_args(words)
     counts: "collections.Counter[str]" = collections.Counter()
     begun = time.monotonic()
-    for one in WAYS[asked.way](paths_of(asked.paths), asked.infer):
+    paths = list(paths_of(named(asked.paths)))
+    progress = Progress(len(paths))
+    for one in reports_by(asked, paths):
         print(json.dumps(one, ensure_ascii=True), flush=True)
         counts.update(
             files=1, columns=one["columns"], geometries=len(one["geometries"]), invalid=bool(one["invalid"]), checks=bool(one["checks"]),
             error=one["error"] is not None)
+        progress.show(counts)
+    progress.end()
     print(summary(counts, time.monotonic() - begun))
     return 2 if counts["error"] else 1 if counts["invalid"] or counts["checks"] else 0
 

@@ -1,15 +1,14 @@
 """From Arrow schemas to the lines of geoarrow_fields, and back: a package that needs only Python 3.8 and its library, and the
 package in python/ beside it, which has `lines` and `Schema`.
 
-    lines(schema)           a line a column, of an object with `__arrow_c_schema__`, with pyarrow's older `_export_to_c`
-                            or with `__arrow_c_stream__` (whose rows are not read), or of the address of an
-                            `ArrowSchema`, which is then released
+    lines(schema)           a line a column, of an object with `__arrow_c_schema__` or with `__arrow_c_stream__` (whose
+                            rows are not read), and of the others that `c_schema.columns_of` names
     Schema(lines)           an object with `__arrow_c_schema__`, of such lines
     lines_of_file(path)     the lines of a file or of a layer of it, the name of that layer, and the names of all layers
     layers_of_file(path)    the layers of a file with their lines and geometry types, and the names of all layers
 
-Whatever is no schema, or no line, is a `SchemaError`, which is a `ValueError` and counts columns from 0; a file that
-cannot be read is a `FileError`. The same names stand in `interop.arrow_lines`, which is also the command;
+A schema or a line that is wrong is a `SchemaError`, which is a `ValueError` and counts columns from 0; an object that
+gives no schema is a `TypeError`, an address among them, and a file that cannot be read a `FileError`. The same names stand in `interop.arrow_lines`, which is also the command;
 `python3 -m interop` runs it too.
 """
 from .package import c_schema  # before the others, which import geoarrow_fields by its name

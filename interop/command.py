@@ -12,9 +12,9 @@ as lines of JSON, the last the answers of `geoarrow_fields` to one of its comman
 first; `--all-layers` takes all, in order: their lines or answers one after another, and each table behind a line `layer NAME`.
 
 Status 0; 1 where `--check` finds an invalid column; 2 where the file cannot be read, the program does not run or the
-output cannot be written, which one line on standard error then says. A pipe hands no status on, and its reader would
-take no lines for a schema without columns: so where the first form fails and prints to a pipe, it prints `error input`,
-which is no field.
+output cannot be written, which one line on standard error then says; 141, and nothing said, where nobody reads the
+output any more. A pipe hands no status on, and its reader may take no lines for a schema without columns: so where the
+first form fails and prints to a pipe, it prints `error input`, which is no field.
 """
 import argparse
 import os
@@ -31,6 +31,8 @@ from .files import FileError, Layer, layers_of_file
 BIN = pathlib.Path(__file__).resolve().parent.parent / "bin"
 FIELDS, CHECK = BIN / "geoarrow_fields", BIN / "geoarrow_check"
 INVALID, FAILED = 1, 2
+NO_READER = 128 + 13  # what a shell says of a command that the signal SIGPIPE ends
+NO_COLUMNS = "column  holds  CRS  edges\n"  # the table of geoarrow_check for a schema without columns, which it is not asked for
 
 
 class ProgramError(Exception):
@@ -52,8 +54,9 @@ def main(arguments: Optional[Sequence[str]] = None, name: str = "arrow_lines.py"
     except SystemExit as end:  # --help, or arguments that are refused
         return FAILED if end.code else 0
     except OutputError as error:
-        if str(error):
-            _tell(f"standard output: {error}")
+        if not str(error):
+            return NO_READER
+        _tell(f"standard output: {error}")
         return FAILED
 
 
@@ -117,9 +120,9 @@ def _lines_or_answers(layers: List[Layer], words: argparse.Namespace) -> str:
 def _checked(layers: List[Layer], words: argparse.Namespace) -> Tuple[str, int]:
     """What the program says of these layers, and the status."""
     program, options = words.program or str(CHECK), ["--infer", "--json", "-"] if words.json else ["--infer", "-"]
-    said, worst = [], 0
+    said, worst, none = [], 0, "" if words.json else NO_COLUMNS
     for layer in layers:
-        text, status = _answer(program, options, "".join(line + "\n" for line in layer.lines))
+        text, status = _answer(program, options, "".join(line + "\n" for line in layer.lines)) if layer.lines else (none, 0)
         if status not in (0, INVALID):
             raise ProgramError(f"{program}: status {status}")
         heads = words.all_layers and not words.json and layer.name is not None

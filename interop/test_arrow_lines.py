@@ -14,6 +14,7 @@ import unittest
 
 from . import arrow_lines, c_schema
 from geoarrow_fields.c_schema import ArrowArrayStream, ArrowSchema, SchemaError
+from geoarrow_fields.schema_lines import lines_of_columns
 from .testing import HERE, TOP
 
 # From the format's page "The Arrow C data interface", "Data type description".
@@ -40,6 +41,11 @@ def pairs(*texts):
         one = text if isinstance(text, bytes) else text.encode()
         parts += [struct.pack("=i", len(one)), one]
     return b"".join(parts)
+
+
+def lines_at(structure):
+    """The lines of a structure."""
+    return lines_of_columns(c_schema.columns_at(ctypes.addressof(structure)))
 
 
 class Producer:
@@ -83,7 +89,7 @@ class Producer:
         return made
 
     def lines(self, *children, **other):
-        return arrow_lines.lines(ctypes.addressof(self.root(*children, **other)))
+        return lines_at(self.root(*children, **other))
 
 
 def of_type(text, name="f", nullable="true"):
@@ -190,40 +196,45 @@ class OutOfStructures(unittest.TestCase):
 
     def test_released_once_by_the_root_alone(self):
         root = self.of.root(self.of.child("+l", children=[self.of.child("g")]))
-        arrow_lines.lines(ctypes.addressof(root))
+        lines_at(root)
         self.assertEqual((self.of.roots, self.of.children, root.release), (1, 0, None))
         with self.assertRaisesRegex(SchemaError, "released before"):
-            arrow_lines.lines(ctypes.addressof(root))
+            lines_at(root)
         self.assertEqual(self.of.roots, 1)
 
     def test_older_export_of_pyarrow(self):
         of, fault = self.of, None
 
-        class Exporter:
+        class Schema:
             def _export_to_c(self, address):
                 if fault is not AttributeError:
                     ctypes.memmove(address, ctypes.addressof(of.root(of.child("g"))), ctypes.sizeof(ArrowSchema))
                 if fault:
                     raise fault("half way")
 
-        self.assertEqual(arrow_lines.lines(Exporter()), [of_type('"float64"')])
+        with self.assertRaises(TypeError):  # as it is of no class of pyarrow
+            arrow_lines.lines(Schema())
+        Schema.__module__ = "pyarrow.lib"
+        self.assertEqual(arrow_lines.lines(Schema()), [of_type('"float64"')])
         self.assertEqual(of.roots, 1)
         fault = KeyError
         with self.assertRaises(KeyError):
-            arrow_lines.lines(Exporter())
+            arrow_lines.lines(Schema())
         self.assertEqual(of.roots, 2)
         fault = AttributeError
         with self.assertRaises(AttributeError):
-            arrow_lines.lines(Exporter())
+            arrow_lines.lines(Schema())
         self.assertEqual(of.roots, 2)
 
 
 class OutOfCapsules(unittest.TestCase):
     def test_released_once_between_us_and_the_destructor(self):
         of, ended = Producer(), []
+        # (as PyCapsule_GetPointer, for a capsule at its end, of which no Python object may be made)
+        of_ending_capsule = ctypes.PYFUNCTYPE(ctypes.c_void_p, ctypes.c_void_p, ctypes.c_void_p)(("PyCapsule_GetPointer", ctypes.pythonapi))
 
         def end(capsule):
-            address = c_schema._ending_capsule_address(capsule, ctypes.addressof(c_schema.SCHEMA_CAPSULE))
+            address = of_ending_capsule(capsule, ctypes.addressof(c_schema.SCHEMA_CAPSULE))
             ended.append(ArrowSchema.from_address(address).release)
 
         destructor = c_schema.RELEASE(end)
@@ -363,19 +374,28 @@ class Hostile(unittest.TestCase):
         for given in (pairs("k", b"\xff"), pairs(b"\xff", "v")):
             self.column_refused("a text in the metadata that is not UTF-8", self.of.child("n", metadata=given))
 
-    def test_what_is_no_schema_of_columns(self):
-        for text in ("g", "+l", "+m", ""):
-            self.refused("no struct of columns", self.of.child("g"), text=text)
-        self.refused("no struct of columns", dictionary=ctypes.addressof(self.of.child("u")))
+    def test_what_is_itself_a_column(self):
+        number = self.of.child("g", "xy", 0)
+        two = [self.of.child("n", "a"), self.of.child("b", "b", 0)]
+        a, b = of_type('"null"', "a"), of_type('"boolean"', "b", "false")
+        for column, children, wanted in (
+                ({"text": "g"}, [], '"float64"'), ({"text": "+l"}, [number], '{"list":%s}' % FLOAT), ({"text": "tsm:"}, [], '{"other":"timestamp[ms]"}')):
+            self.assertEqual(self.of.lines(*children, **column), [of_type(wanted, "", "false")])
         named = pairs("ARROW:extension:name", "geoarrow.point")
-        self.refused("itself a column", self.of.child("g", "x"), self.of.child("g", "y"), metadata=named)
+        line = '{"metadata":{"ARROW:extension:name":"geoarrow.point"},' + of_type('{"struct":[%s,%s]}' % (a, b), "", "false")[1:]
+        self.assertEqual(self.of.lines(*two, metadata=named), [line])
+        root = self.of.root(*two)
+        root.name = b"place"
+        self.assertEqual(lines_at(root), [of_type('{"struct":[%s,%s]}' % (a, b), "place", "false")])
+        self.refused("column 0 .*unknown format", dictionary=ctypes.addressof(self.of.child("u")))
+        self.refused("column 0 .*a list with 0 children", text="+l")
 
     def test_what_gives_no_schema(self):
-        for given in (None, "schema", 1.5, True, object()):
-            with self.assertRaisesRegex(SchemaError, "gives no Arrow schema"):
+        for given in (None, "schema", 1.5, True, object(), ctypes.addressof(self.of.root())):
+            with self.assertRaisesRegex(TypeError, "gives no Arrow schema"):
                 arrow_lines.lines(given)
         with self.assertRaisesRegex(SchemaError, "no address"):
-            arrow_lines.lines(0)
+            c_schema.columns_at(0)
         stream = Stream(self.of)
 
         class Mistaken:
@@ -409,9 +429,11 @@ class Hostile(unittest.TestCase):
 
 class IntoStructures(unittest.TestCase):
     def setUp(self):
+        c_schema.sweep()
         self.before = c_schema.held_count()
 
     def tearDown(self):
+        c_schema.sweep()
         self.assertEqual(c_schema.held_count(), self.before)
 
     def there_and_back(self, lines):
@@ -488,11 +510,12 @@ class IntoStructures(unittest.TestCase):
         del schema
         self.assertEqual(c_schema.held_count(), self.before + 3)
         del capsule
+        c_schema.sweep()
         self.assertEqual(c_schema.held_count(), self.before)
         schema = arrow_lines.Schema([of_type('"null"')])
-        schema.__arrow_c_schema__()
-        schema.__arrow_c_schema__()
-        self.assertEqual(c_schema.held_count(), self.before + 4)
+        for _ in range(3):  # each when the next one is given out
+            schema.__arrow_c_schema__()
+            self.assertEqual(c_schema.held_count(), self.before + 2)
 
     def test_capsule_is_consumed_once(self):
         schema = arrow_lines.Schema([of_type('"null"')])
@@ -527,11 +550,12 @@ class IntoStructures(unittest.TestCase):
         sys.unraisablehook, hook = lambda one: told.append(one.exc_type), sys.unraisablehook
         try:
             for _ in range(50):  # by then Python has specialized the code
-                with self.assertRaises(SystemError):
+                with self.assertRaises(TypeError):
                     int(arrow_lines.Schema([of_type('"null"')]).__arrow_c_schema__())
         finally:
             sys.unraisablehook = hook
-        self.assertEqual(told, [TypeError] * 50)
+        self.assertEqual(told, [])
+        c_schema.sweep()
 
     def test_lines_that_are_refused(self):
         deep = FLOAT

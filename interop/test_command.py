@@ -61,6 +61,12 @@ class Check(InAFolder):
         self.assertEqual(self.ran(file, "--all-layers"), (0, line("null", "n") + "\n", ""))
         self.assertEqual(self.ran(file, "--check", "--all-layers", "--program", program), (0, "said\n", ""))
 
+    def test_a_schema_without_columns(self):
+        self.with_pyarrow()
+        file = self.file("none.parquet")
+        self.assertEqual(self.ran("--check", "--program", "./asked-for-nothing", file), (0, "column  holds  CRS  edges\n", ""))
+        self.assertEqual(self.ran("--check", "--json", "--program", "./asked-for-nothing", file), (0, "", ""))
+
     def test_programs_that_fail(self):
         status, text, told = self.checked([line("null")], [], status=2)
         self.assertEqual((status, text), (2, ""))

@@ -50,7 +50,7 @@ class Output(InAFolder):
             with self.subTest(words):
                 status, text, told = self.shell(f"{{ run {words}; echo $? > status; }} | true")
                 self.assertEqual((status, text), (0, ""))
-                self.assertEqual((self.folder / "status").read_text(), "2\n")
+                self.assertEqual((self.folder / "status").read_text(), "2\n" if words == "missing" else "141\n")
                 self.assertEqual(told, MISSING if words == "missing" else "")
 
     def test_failure_is_seen_in_a_pipe(self):

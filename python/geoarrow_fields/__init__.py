@@ -15,7 +15,7 @@ from . import library, sources
 from .c_schema import SchemaError
 from .columns import Check, Column, Columns, FileWarning, Reason, columns_of
 from .library import Command
-from .refusals import InvalidColumns, RefusedSource
+from .refusals import InvalidColumns, RefusedSource, is_at_a_byte
 from .schema_lines import Schema, lines
 
 __all__ = [
@@ -23,25 +23,33 @@ __all__ = [
 
 __version__ = "1.0.0"
 
-_ENVELOPE = 16  # the status of bytes that are no whole message, whose place is counted from the first that are given
 
-
-def check(source: Any, infer: bool = False, strict: bool = False) -> Columns:
+def check(source: Any, infer: bool = False, strict: bool = False, notes: bool = False) -> Columns:
     """What each column of a source holds.
 
-    `source` is the path of an Arrow file (Feather), an Arrow stream, a Parquet file or lines; the bytes of one; lines in a list or a tuple;
-    or an object that gives a schema over Arrow's C data interface, such as one of pyarrow or polars (`lines`). Of a file only the bytes that say
-    what its columns are are read. `checks` of what is answered are the checks of a Parquet file's GeoParquet metadata that do not hold, and
-    `warnings` are what is doubtful of the file as a whole. With `infer`, a column without an extension name is taken for what is inferred from
-    its data type. With `strict`, `InvalidColumns` is raised where one is invalid.
+    `source` is
+    - the path of an Arrow file (Feather), an Arrow stream, a Parquet file or lines, as a str or an `os.PathLike`;
+    - such a file that is open in binary mode: an object with `read`. One that can seek is read as a whole, wherever it stands, and then stands there again;
+      any other is read from where it stands;
+    - the bytes of one, or an object whose buffer they are, as an array of bytes;
+    - lines in a list or a tuple;
+    - an object that gives a schema, a field or an array over Arrow's C data interface, such as one of pyarrow or polars (`lines`).
+    Of a file only the bytes that say what its columns are are read. `checks` of what is answered are the checks of a Parquet file's GeoParquet metadata that do
+    not hold, and `warnings` are what is doubtful of the file as a whole. With `infer`, a column without an extension name is taken for what is inferred from
+    its data type. With `strict`, `InvalidColumns` is raised where one is invalid. With `notes`, what is only to be noted of a column is among its warnings.
 
-    Raises `RefusedSource`, a `ValueError` with a code and an offset, where the bytes are not read; `SchemaError`, which is one too, where the
-    object gives no schema; `OSError` for the path; and `MemoryError`.
+    A list without lines and a schema without columns have no columns; a file or bytes that are empty, or blank lines alone, are refused.
+
+    Raises `TypeError` where the source is none of these; `RefusedSource`, a `ValueError` with a code and an offset, where the bytes are not read; `SchemaError`,
+    which is one too, where the schema of the object is wrong; `OSError` for the file; and `MemoryError`.
     """
-    given, left_out = sources.bytes_of(source)
-    status, report, place = library.report(given, infer)
+    given = sources.given_of(source)
+    if given.is_schema and not given.content:
+        return Columns()
+    status, report, place = library.report(given.content, infer, notes)
     if status != library.DONE:
-        raise RefusedSource(status, place + left_out if status == _ENVELOPE else place)
+        of_file = given.is_arrow_file and is_at_a_byte(status)
+        raise RefusedSource(status, place + given.left_out if of_file else place, of_file)
     columns = columns_of(report)
     invalid = [one for one in columns if one.is_invalid] if strict else []
     if invalid:

@@ -1,17 +1,21 @@
-"""The command: python -m geoarrow_fields check [--infer] [--json] FILE..
+"""The command: python -m geoarrow_fields check [--infer] [--notes] [--json] FILE..
 
 Prints what each column of each file holds, as `geoarrow_check` does with these options; the others are that program's alone. The status is 1 where a
-column is invalid or a check of GeoParquet metadata does not hold, and 2 where a file or the words cannot be read, or the output fails.
+column is invalid or a check of GeoParquet metadata does not hold, and 2 where a file is empty, a file or the words cannot be read, or the output fails.
+Where nobody reads the output any more, the command ends without a word, with the status 141.
 """
 import argparse
+import io
 import json
 import os
 import sys
 from typing import Any, List, NoReturn, Optional
 
 from . import RefusedSource, check
+from .tables import shown
 
 INVALID, FAILED = 1, 2
+NO_READER = 128 + 13  # what a shell says of a command that the signal SIGPIPE ends
 OF_THE_PROGRAM = ("--all-checks", "--expect", "--ipc", "--lines", "--quiet", "--require-geometry")
 
 
@@ -31,29 +35,40 @@ def main(words: Optional[List[str]] = None) -> int:
     of_check.add_argument(
         "files", metavar="FILE", nargs="+", help="an Arrow file (Feather), an Arrow stream, a Parquet file, or lines of fields; - is standard input")
     of_check.add_argument("--infer", action="store_true", help="infer a type for columns without an extension name")
+    of_check.add_argument("--notes", action="store_true", help="say also what is only to be noted of a column")
     of_check.add_argument("--json", action="store_true", help="a line of JSON for each column, in place of a table")
     for word in OF_THE_PROGRAM:
         of_check.add_argument(word, action=_OfTheProgram, nargs="?", help=argparse.SUPPRESS)
     asked = parser.parse_args(words)
+    if sys.stdout is None:
+        _say("standard output: it is closed")
+        return FAILED
     try:
         status = max(_checked(file, asked) for file in asked.files)
         sys.stdout.flush()
     except OSError as error:  # of the output: that of a file is said, and the next one is checked
         os.dup2(os.open(os.devnull, os.O_WRONLY), sys.stdout.fileno())  # where Python writes once more, at its end
-        if not isinstance(error, BrokenPipeError):
-            print(f"standard output: {error.strerror or error}", file=sys.stderr)
+        if isinstance(error, BrokenPipeError):
+            return NO_READER
+        _say(f"standard output: {error.strerror or error}")
         return FAILED
     return status
+
+
+def _say(text: str) -> None:
+    """Writes a line on standard error, where there is one."""
+    if sys.stderr is not None:
+        print(text, file=sys.stderr)
 
 
 def _checked(file: str, asked: argparse.Namespace) -> int:
     """Prints what the columns of a file hold, or why it cannot be read. The status."""
     name = os.fsencode(file).decode("utf-8", "replace")
     try:
-        columns = check(sys.stdin.buffer.read() if file == "-" else file, infer=asked.infer)
+        columns = check(_input() if file == "-" else file, infer=asked.infer, notes=asked.notes)
     except (OSError, RefusedSource, MemoryError) as error:
         said = "out of memory" if isinstance(error, MemoryError) else getattr(error, "strerror", None) or error
-        print(f"{name}: {said}", file=sys.stderr)
+        _say(f"{shown(name)}: {said}")
         return FAILED
     if asked.json:
         named = "" if file == "-" else f'"file":{json.dumps(name, ensure_ascii=False)},'
@@ -64,8 +79,15 @@ def _checked(file: str, asked: argparse.Namespace) -> int:
         for warning in columns.warnings:
             print(_with(named, warning.json, 1))
     else:
-        print(*([f"{name}:"] if len(asked.files) > 1 else []), repr(columns), sep="\n")
+        print(*([f"{shown(name)}:"] if len(asked.files) > 1 else []), repr(columns), sep="\n")
     return INVALID if columns.checks or any(one.is_invalid for one in columns) else 0
+
+
+def _input() -> bytes:
+    """All of standard input."""
+    if sys.stdin is None:
+        raise OSError("it is closed")
+    return bytes(sys.stdin.buffer.read())
 
 
 def _with(named: str, line: str, at: int) -> str:
@@ -76,4 +98,7 @@ def _with(named: str, line: str, at: int) -> str:
 
 
 if __name__ == "__main__":
+    for stream in (sys.stdout, sys.stderr):
+        if isinstance(stream, io.TextIOWrapper):
+            stream.reconfigure(encoding="utf-8", errors="backslashreplace")  # whatever the locale is, as the program does
     sys.exit(main())

@@ -6,14 +6,17 @@ else made, and `export` makes a structure of ours in a capsule. Nothing but Pyth
 
 Releasing. What is taken from others is moved into a structure of ours first, which marks theirs as released, and is
 released from there, once, however the reading ends. Of ours each structure of a tree holds what it points at by
-itself, until its release callback is called, so that a consumer may move a child out of its parent. The capsule's
-destructor releases what nobody took.
+itself, until its release callback is called, so that a consumer may move a child out of its parent. What stands in a
+capsule that nobody else holds any more is released by `sweep`.
 """
+import collections
 import ctypes
 import itertools
 import re
 import struct
-from typing import Any, Callable, Dict, List, Optional, Tuple
+import sys
+import threading
+from typing import Any, Callable, Deque, Dict, List, NamedTuple, Optional, Tuple
 
 from . import notation
 
@@ -25,6 +28,7 @@ LEVELS = 64  # of fields in one another; more brackets than a line may nest stan
 FIELD_BYTES = len('{"name":"","nullable":true,"type":"null"}')  # the least that a field takes in a line
 
 SCHEMA_CAPSULE = ctypes.create_string_buffer(b"arrow_schema")
+ARRAY_CAPSULE = ctypes.create_string_buffer(b"arrow_array")
 STREAM_CAPSULE = ctypes.create_string_buffer(b"arrow_array_stream")
 EXTENSION_NAME = "ARROW:extension:name"
 ORDERED, NULLABLE = 1, 2  # the flags
@@ -64,6 +68,23 @@ class ArrowSchema(ctypes.Structure):
     ]
 
 
+class ArrowArray(ctypes.Structure):
+    """The structure of an array, which is released and never read."""
+
+    _fields_ = [
+        ("length", ctypes.c_int64),
+        ("null_count", ctypes.c_int64),
+        ("offset", ctypes.c_int64),
+        ("n_buffers", ctypes.c_int64),
+        ("n_children", ctypes.c_int64),
+        ("buffers", ctypes.c_void_p),
+        ("children", ctypes.c_void_p),
+        ("dictionary", ctypes.c_void_p),
+        ("release", ctypes.c_void_p),
+        ("private_data", ctypes.c_void_p),
+    ]
+
+
 class ArrowArrayStream(ctypes.Structure):
     """The structure of Arrow's C stream interface."""
 
@@ -87,9 +108,6 @@ _capsule_new = ctypes.PYFUNCTYPE(ctypes.py_object, ctypes.c_void_p, ctypes.c_voi
 _capsule_address = ctypes.PYFUNCTYPE(ctypes.c_void_p, ctypes.py_object, ctypes.c_void_p)(
     ("PyCapsule_GetPointer", _api))
 _capsule_is_valid = ctypes.PYFUNCTYPE(ctypes.c_int, ctypes.py_object, ctypes.c_void_p)(("PyCapsule_IsValid", _api))
-# The same for a capsule at its end, of which no Python object may be made.
-_ending_capsule_address = ctypes.PYFUNCTYPE(ctypes.c_void_p, ctypes.c_void_p, ctypes.c_void_p)(
-    ("PyCapsule_GetPointer", _api))
 _error_occurred = ctypes.PYFUNCTYPE(ctypes.c_void_p)(("PyErr_Occurred", _api))
 
 
@@ -121,49 +139,110 @@ def release(structure: Any) -> None:
 
 
 def columns_at(address: int) -> List[Field]:
-    """The columns of the schema at an address, which is released, however this ends."""
-    ours = moved(ArrowSchema, address)
-    try:
-        return _columns(ours)
-    finally:
-        release(ours)
+    """The columns of the schema, or the one column of the field or data type, at an address. What stands there is released, however this ends.
+
+    A wrong address cannot be noticed. So this call is for who has the address from code of C that is trusted, and nothing that a caller of the package
+    gives to it is taken for an address.
+    """
+    return _taken(address, False)
 
 
 def columns_of_stream_at(address: int) -> List[Field]:
     """The columns of the stream of arrays at an address, which is released, however this ends. No array is read."""
     ours = moved(ArrowArrayStream, address)
     try:
+        if not ours.get_schema:
+            raise SchemaError("the stream has no call that gives its schema")
         schema = ArrowSchema()
         status = GET_SCHEMA(ours.get_schema)(ctypes.addressof(ours), ctypes.addressof(schema))
         if status != 0:
             said = GET_LAST_ERROR(ours.get_last_error)(ctypes.addressof(ours)) if ours.get_last_error else None
             why = shown(said.decode("utf-8", "replace"), 200) if said else f"error {status}"
             raise SchemaError(f"the stream gives no schema: {why}")
-        return columns_at(ctypes.addressof(schema))
+        return _taken(ctypes.addressof(schema), True)
     finally:
         release(ours)
 
 
-def columns_of(schema: Any) -> List[Field]:
-    """The columns of an object that gives a schema, or of the schema at an address."""
+def columns_of(given: Any) -> List[Field]:
+    """The columns of an object that gives an Arrow schema; the one column of one that gives a field, a data type or an array. `TypeError` where it gives
+    neither, and `SchemaError` where what it gives is wrong.
+
+    It is asked for the first of these that it has: `__arrow_c_schema__`; `__arrow_c_stream__`, whose batches are not read; a `schema` that has the first
+    or is one of pyarrow; `_export_to_c`, if it is a schema, a field or a data type of pyarrow; `__arrow_c_array__`, whose array is not read.
+
+    The interface has one structure for a schema, a field and a data type, so the structure decides: one of the format `+s` without a name, without the name of
+    an extension type and without a dictionary is a schema, whose columns are its children; any other is one column. So a data type that is a struct is taken
+    for a schema, as is a field of a struct without a name, and a schema with a name for a column. The structure of a stream may have a name, since its arrays are
+    rows of a table, and some libraries give them one.
+    """
+    way = _way_of(given)
+    if way is None:
+        raise TypeError(f"{shown(type(given).__name__)} gives no Arrow schema")
+    try:
+        return way(given)
+    finally:
+        sweep()
+
+
+def gives_columns(given: Any) -> bool:
+    """Whether `columns_of` takes an object. Nothing is exported."""
+    return _way_of(given) is not None
+
+
+def _way_of(given: Any) -> Optional[Callable[[Any], List[Field]]]:
+    if hasattr(given, "__arrow_c_schema__"):
+        return _of_schema
+    if hasattr(given, "__arrow_c_stream__"):
+        return _of_stream
+    schema = getattr(given, "schema", None)
     if hasattr(schema, "__arrow_c_schema__"):
-        capsule = schema.__arrow_c_schema__()
-        return columns_at(_address_in(capsule, SCHEMA_CAPSULE))
-    if hasattr(schema, "_export_to_c"):
-        return _columns_exported(schema)
-    if hasattr(schema, "__arrow_c_stream__"):
-        capsule = schema.__arrow_c_stream__()
-        return columns_of_stream_at(_address_in(capsule, STREAM_CAPSULE))
-    if isinstance(schema, int) and not isinstance(schema, bool):
-        return columns_at(schema)
-    raise SchemaError(f"{shown(type(schema).__name__)} gives no Arrow schema")
+        return lambda one: _of_schema(schema)
+    if _is_of_pyarrow(schema):
+        return lambda one: _of_pyarrow(schema)
+    if _is_of_pyarrow(given):
+        return _of_pyarrow
+    return _of_array if hasattr(given, "__arrow_c_array__") else None
 
 
-def _columns_exported(schema: Any) -> List[Field]:
-    """The columns of an object with the older export of pyarrow; where it fails half way, what it left is released."""
+def _of_schema(given: Any) -> List[Field]:
+    capsule = given.__arrow_c_schema__()
+    return columns_at(_address_in(capsule, SCHEMA_CAPSULE))
+
+
+def _of_stream(given: Any) -> List[Field]:
+    capsule = given.__arrow_c_stream__()
+    return columns_of_stream_at(_address_in(capsule, STREAM_CAPSULE))
+
+
+def _of_array(given: Any) -> List[Field]:
+    """The column of an array, which is released, as the schema is."""
+    pair = given.__arrow_c_array__()
+    if not isinstance(pair, tuple) or len(pair) != 2:
+        raise SchemaError("no pair of a schema and an array")
+    schema, array = pair
+    ours = moved(ArrowArray, _address_in(array, ARRAY_CAPSULE))
+    try:
+        return columns_at(_address_in(schema, SCHEMA_CAPSULE))
+    finally:
+        release(ours)
+
+
+OF_PYARROW = frozenset(["Schema", "Field", "DataType"])
+
+
+def _is_of_pyarrow(given: Any) -> bool:
+    """Whether an object is a schema, a field or a data type of pyarrow, whose `_export_to_c` writes one `ArrowSchema` to an address. That of an array, of a
+    batch and of a reader writes another structure, which is larger. The classes tell, so that pyarrow need not be there."""
+    return hasattr(given, "_export_to_c") and any(
+        one.__name__ in OF_PYARROW and str(one.__module__).partition(".")[0] == "pyarrow" for one in type(given).__mro__)
+
+
+def _of_pyarrow(given: Any) -> List[Field]:
+    """The columns by the older export of pyarrow; where it fails half way, what it left is released."""
     ours = ArrowSchema()
     try:
-        schema._export_to_c(ctypes.addressof(ours))
+        given._export_to_c(ctypes.addressof(ours))
         return columns_at(ctypes.addressof(ours))
     finally:
         if ours.release:
@@ -177,15 +256,23 @@ def _address_in(capsule: Any, name: Any) -> int:
     return _capsule_address(capsule, ctypes.addressof(name))
 
 
-def _columns(schema: ArrowSchema) -> List[Field]:
-    """The columns of a schema, which is a structure of fields; a structure that is itself a column is refused."""
-    where = "the schema"
-    if _text(schema.format, "format string", where) != "+s" or schema.dictionary:
-        raise SchemaError("the schema is no struct of columns")
-    if EXTENSION_NAME in _metadata(schema.metadata, where):
-        raise SchemaError("the schema is itself a column, since it has the name of an extension type")
-    children = _children(schema, LINES, where)
-    return [_Column(f"column {at}").field(child, 1) for at, child in enumerate(children)]
+def _taken(address: int, may_have_name: bool) -> List[Field]:
+    """What `columns_at` says, of a schema that may have a name or of one that may not."""
+    ours = moved(ArrowSchema, address)
+    try:
+        if not _is_schema(ours, may_have_name):
+            return [_Column("column 0").field(ours, 1)]
+        children = _children(ours, LINES, "the schema")
+        return [_Column(f"column {at}").field(child, 1) for at, child in enumerate(children)]
+    finally:
+        release(ours)
+
+
+def _is_schema(schema: ArrowSchema, may_have_name: bool) -> bool:
+    """Whether a structure is a schema, whose columns are its children, and not itself a column."""
+    if schema.format != b"+s" or schema.dictionary or schema.name and not may_have_name:
+        return False
+    return EXTENSION_NAME not in _metadata(schema.metadata, "the schema")
 
 
 class _Column:
@@ -321,7 +408,6 @@ class _Held:
 
 _numbers = itertools.count(1)
 _held: Dict[int, _Held] = {}  # by the number in private_data, until the structure is released
-_capsules: Dict[int, ArrowSchema] = {}  # by address: what the capsules that we made hold, until they end
 
 
 def _fill(schema: ArrowSchema, field: Any, level: int, where: str) -> None:
@@ -446,32 +532,79 @@ def _on_release(address: int) -> None:
             release(child)
 
 
-def _on_capsule_end(capsule: int) -> None:
-    """The destructor of each capsule of ours: it releases what nobody has taken."""
-    schema = _capsules.pop(_ending_capsule_address(capsule, ctypes.addressof(SCHEMA_CAPSULE)))
-    if schema.release:
-        release(schema)
-
-
 _released, _released_address = _callback(_on_release)
-_capsule_ended, _capsule_ended_address = _callback(_on_capsule_end)
 
 
-def export(columns: List[Any]) -> Any:
-    """A capsule with the schema of these columns. Its consumer may move the schema out of it, or release it there."""
+class _Given(NamedTuple):
+    """A capsule of ours, and the structure that stands in it."""
+
+    capsule: Any
+    schema: ArrowSchema
+
+
+# The capsules that were given out. They have no destructor: one in Python would lose an exception under which a consumer drops its capsule. So each is held
+# here, until nobody else holds it. (The list itself is never freed: at the end of a process others may still hold capsules.)
+_given: Deque[_Given] = collections.deque()
+ctypes.pythonapi.Py_IncRef(ctypes.py_object(_given))
+_sweeping = threading.Lock()
+_AT_ONCE = 16  # capsules that one sweep looks at, the next one at the next; so a sweep costs the same, however many others hold
+
+
+def _capsule_of(schema: ArrowSchema) -> _Given:
+    return _Given(_capsule_new(ctypes.addressof(schema), ctypes.addressof(SCHEMA_CAPSULE), None), schema)
+
+
+_ALONE = _capsule_of(ArrowSchema())  # which nobody else holds
+
+
+def _holders(one: _Given) -> int:
+    """How often a capsule is held, and by this call."""
+    return sys.getrefcount(one.capsule)
+
+
+def sweep() -> None:
+    """Releases what stands in capsules of ours that nobody else holds, and drops them. It is made when a capsule is given out, when a schema has been read,
+    and when a `Schema` ends; so no more are kept than others hold, but for the last ones."""
+    if not _sweeping.acquire(blocking=False):
+        return  # another thread is at it, or this one is, which made the garbage collector run
+    try:
+        alone = _holders(_ALONE)
+        for _ in range(min(_AT_ONCE, len(_given))):
+            if _holders(_given[0]) != alone:
+                _given.rotate(-1)
+                continue
+            if _given[0].schema.release:
+                release(_given[0].schema)
+            _given.popleft()
+    finally:
+        _sweeping.release()
+
+
+def _schema_of(columns: List[Any]) -> ArrowSchema:
+    """The schema of these columns, in a structure of ours that is to be released."""
     schema = ArrowSchema()
     held = _Held(b"+s", b"", None, len(columns))
     _hold(schema, held, 0)
     try:
         for at, (child, field) in enumerate(zip(held.children, columns)):
             _fill(child, field, 1, f"column {at}")
-        address = ctypes.addressof(schema)
-        capsule = _capsule_new(address, ctypes.addressof(SCHEMA_CAPSULE), _capsule_ended_address)
     except BaseException:
         release(schema)
         raise
-    _capsules[address] = schema
-    return capsule
+    return schema
+
+
+def refuse(columns: List[Any]) -> None:
+    """Raises `SchemaError` where no schema has these columns."""
+    release(_schema_of(columns))
+
+
+def export(columns: List[Any]) -> Any:
+    """A capsule with the schema of these columns. Its consumer may move the schema out of it, or release it there."""
+    sweep()
+    one = _capsule_of(_schema_of(columns))
+    _given.append(one)
+    return one.capsule
 
 
 def held_count() -> int:

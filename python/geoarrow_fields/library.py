@@ -16,7 +16,7 @@ NAME = "libgeoarrow_c.so"
 VERSION = 10000
 
 DONE, SHORT, MEMORY = range(3)
-INFER_TYPES = 1
+INFER_TYPES, NOTES = 1, 2
 _ROOM_OF_ANSWERS = 4096  # at first
 _ROOM_OF_REPORTS = 65536  # at first, and twice the bytes of the source, up to 64 MiB: enough for nearly all
 _MOST_ROOM = 1 << 26
@@ -106,9 +106,10 @@ def answer(command: Command, line: bytes) -> str:
     return str(_called("geoarrow_answer", (command,), line, _ROOM_OF_ANSWERS)[1], "utf-8")
 
 
-def report(given: bytes, infer: bool) -> Tuple[int, str, int]:
+def report(given: bytes, infer: bool, notes: bool) -> Tuple[int, str, int]:
     """The status of a check, the report, and the place where the bytes are refused."""
-    status, text, place = _called("geoarrow_check", (INFER_TYPES if infer else 0,), given, _first_room(given))
+    options = (INFER_TYPES if infer else 0) | (NOTES if notes else 0)
+    status, text, place = _called("geoarrow_check", (options,), given, _first_room(given))
     return status, str(text, "utf-8"), place
 
 

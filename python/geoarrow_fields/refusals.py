@@ -7,9 +7,11 @@ from .columns import Column
 _REFUSALS = {
     5: ("NoField", "line {} is no field"),
     6: ("Parquet", "the columns of the Parquet file are not read"),
-    7: ("Budget", "byte {} of the message: more is to be read than eight times its bytes"),
+    7: ("Budget", "byte {}{behind}: more is to be read than eight times its bytes"),
     8: ("Column", "column {} has a type that no message can hold"),
     9: ("TooLarge", "the schema takes 2^31 bytes or more"),
+    10: ("ReportTooLarge", "the report would have more than 1048576 bytes and 32 for each byte read"),
+    11: ("EmptyFile", "is empty"),
 }
 _FIRST_RULE = 16
 # The rules of Arrow's IPC format (docs/FORMAT.md, 3), from the status 16 on.
@@ -21,26 +23,32 @@ RULES = (
     ("Children", "a type with a wrong number of children"), ("TypeIds", "a union with wrong type ids"),
     ("Depth", "columns that are nested too deep"),
 )
-_REFUSALS.update({_FIRST_RULE + at: (code, f"byte {{}} of the message: {text}") for at, (code, text) in enumerate(RULES)})
-_NO_FIELD = 5
+_REFUSALS.update({_FIRST_RULE + at: (code, f"byte {{}}{{behind}}: {text}") for at, (code, text) in enumerate(RULES)})
+_NO_FIELD, _BUDGET = 5, 7
+
+
+def is_at_a_byte(status: int) -> bool:
+    """Whether the place of a status is a byte of a message, or of an Arrow file."""
+    return status == _BUDGET or _FIRST_RULE <= status < _FIRST_RULE + len(RULES)
 
 
 class RefusedSource(ValueError):
     """A source that is not read, or a schema that is not written.
 
-    `code` says why: `NoField`, `Parquet`, `Budget`, `Column`, `TooLarge`, or the rule of docs/FORMAT.md, 3, that is broken. `offset` says where:
-    how many lines stand before the one that is no field, the byte of the message, or the index of the column. `status` is the number of
-    include/geoarrow.h.
+    `code` says why: `NoField`, `Parquet`, `Budget`, `ReportTooLarge`, `EmptyFile`, `Column`, `TooLarge`, or the rule of docs/FORMAT.md, 3, that is broken.
+    `offset` says where: how many lines stand before the one that is no field, the byte of an Arrow file (`of_file`) or of the message of a stream, or the index of
+    the column. `status` is the number of include/geoarrow.h.
     """
 
-    def __init__(self, status: int, offset: int) -> None:
+    def __init__(self, status: int, offset: int, of_file: bool = False) -> None:
         self.status = status
         self.offset = offset
+        self.of_file = of_file
         self.code, words = _REFUSALS.get(status, (f"Status{status}", f"status {status} at {{}}"))
-        super().__init__(words.format(offset + 1 if status == _NO_FIELD else offset))
+        super().__init__(words.format(offset + 1 if status == _NO_FIELD else offset, behind="" if of_file else " of the message"))
 
     def __reduce__(self) -> Tuple[Any, ...]:
-        return RefusedSource, (self.status, self.offset)
+        return RefusedSource, (self.status, self.offset, self.of_file)
 
 
 class InvalidColumns(ValueError):

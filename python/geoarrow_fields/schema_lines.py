@@ -1,13 +1,18 @@
 """Lines of a schema, and a schema of lines."""
 import json
-from typing import Any, Iterable, List, NoReturn, Union
+import sys
+from typing import Any, Callable, Iterable, List, NoReturn, Union
 
 from . import c_schema
 from .c_schema import SchemaError
 
 
 def lines(schema: Any) -> List[str]:
-    """The line of each column of a schema, in order, as the program prints such a line."""
+    """The line of each column of an object that gives an Arrow schema, in order, as the program prints such a line; one that gives a field, a data type or an
+    array has one column. `c_schema.columns_of` says which objects do, and what each is asked for.
+
+    Raises `TypeError` for an object that gives neither, an integer among them, and `SchemaError`, a `ValueError`, where what it gives is wrong.
+    """
     return lines_of_columns(c_schema.columns_of(schema))
 
 
@@ -25,26 +30,22 @@ def lines_of_columns(columns: List[c_schema.Field]) -> List[str]:
 class Schema:
     """The schema whose columns stand on lines, for any library that imports Arrow's C data interface.
 
-    It takes the lines one by one, or a text with a line feed after each. What it gives out it keeps, until it goes
-    itself: a consumer that fails may drop a capsule with an exception under way, and no destructor that is written in
-    Python can leave that exception standing.
+    It takes the lines one by one, or a text with a line feed after each. It keeps nothing of what it gives out.
     """
 
     def __init__(self, given: Union[str, Iterable[str]]) -> None:
         if isinstance(given, str):
             given = given[:-1].split("\n") if given.endswith("\n") else given.split("\n") if given else []
         self._columns = [_parsed(line, at) for at, line in enumerate(given)]
-        c_schema.export(self._columns)  # refuses what is no schema; nobody takes this one
-        self._given: List[Any] = []
+        c_schema.refuse(self._columns)
 
     def __arrow_c_schema__(self) -> Any:
         """A capsule with the schema, which is the taker's to consume."""
-        self._given.append(c_schema.export(self._columns))
-        return self._given[-1]
+        return c_schema.export(self._columns)
 
-    def __del__(self) -> None:
-        # Here no exception is under way, and so none where a capsule ends that no one else holds.
-        getattr(self, "_given", []).clear()
+    def __del__(self, is_ending: Callable[[], bool] = sys.is_finalizing, sweep: Callable[[], None] = c_schema.sweep) -> None:
+        if not is_ending():
+            sweep()
 
 
 def _parsed(line: str, at: int) -> Any:

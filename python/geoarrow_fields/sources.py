@@ -1,25 +1,43 @@
 """The bytes of a source that say what its columns are: of an Arrow or Parquet file its end, of a stream its first message, and all of
 lines (docs/FORMAT.md, 2.7)."""
 import os
-from typing import Any, BinaryIO, Iterable, Tuple, Union
+from typing import Any, Iterable, List, NamedTuple, Optional, Union
 
+from . import c_schema
 from .schema_lines import lines
 
 _HEAD = 8  # bytes that tell the format; of a stream they have the size of its first message
+_ARROW_FILE = b"ARROW1"
 # How many bytes stand behind the footer: its size in four bytes, and the magic.
-_TAILS = {b"ARROW1": 10, b"PAR1": 8}
+_TAILS = {_ARROW_FILE: 10, b"PAR1": 8, b"PARE": 8}
 _CONTINUATION = b"\xff\xff\xff\xff"
+_AT_ONCE = 1 << 20  # bytes that are asked for at once: a size that a file tells is not believed
 
 
-def bytes_of(source: Any) -> Tuple[bytes, int]:
-    """The bytes of a source, as `geoarrow_check` of the library takes them; and how many bytes of a file it is not given between its head
-    and its end."""
+class Given(NamedTuple):
+    """What is given to `geoarrow_check` of the library for a source."""
+
+    content: bytes
+    left_out: int = 0  # bytes of a file between its head and its end
+    is_schema: bool = False  # whether these are the lines of a schema, which may have no columns
+
+    @property
+    def is_arrow_file(self) -> bool:
+        return self.content.startswith(_ARROW_FILE)
+
+
+def given_of(source: Any) -> Given:
+    """What is given to the library for a source; `TypeError` where it is none."""
     if isinstance(source, (str, os.PathLike)):
         with open(source, "rb") as file:
-            return _of_file(file)
+            return _of_file(file, file.seekable())
     if isinstance(source, (bytes, bytearray, memoryview)):
-        return bytes(source), 0
-    return of_lines(source if isinstance(source, (list, tuple)) else lines(source)), 0
+        return Given(bytes(source))
+    if isinstance(source, (list, tuple)):
+        return Given(of_lines(source), is_schema=True)
+    if c_schema.gives_columns(source):
+        return Given(of_lines(lines(source)), is_schema=True)
+    return _of_open_file(source) if callable(getattr(source, "read", None)) else Given(_of_buffer(source))
 
 
 def of_lines(given: Iterable[Union[str, bytes]]) -> bytes:
@@ -29,21 +47,79 @@ def of_lines(given: Iterable[Union[str, bytes]]) -> bytes:
 
 def line_bytes(line: Union[str, bytes]) -> bytes:
     """A line as bytes. A lone surrogate, which UTF-8 cannot hold, becomes bytes that are no UTF-8, and so no line."""
-    return line.encode("utf-8", "surrogatepass") if isinstance(line, str) else bytes(line)
+    if isinstance(line, str):
+        return line.encode("utf-8", "surrogatepass")
+    if isinstance(line, (bytes, bytearray, memoryview)):
+        return bytes(line)
+    raise TypeError(f"a line is a str or bytes, not {_kind(line)}")
 
 
-def _of_file(file: BinaryIO) -> Tuple[bytes, int]:
-    head = file.read(_HEAD)
+def _of_buffer(source: Any) -> bytes:
+    try:
+        view = memoryview(source)
+    except TypeError:
+        raise TypeError(
+            f"{_kind(source)} is no source: a path, bytes, a list of lines, a binary file that is open, or an object that gives an Arrow schema") from None
+    if not view.c_contiguous:
+        raise TypeError(f"{_kind(source)} is no source: its buffer is not contiguous")
+    return view.tobytes()
+
+
+def _of_open_file(file: Any) -> Given:
+    """A file that can seek is read as a whole, and then stands where it stood; any other is read from where it stands."""
+    if not _can_seek(file):
+        return _of_file(file, False)
+    place = file.tell()
+    try:
+        file.seek(0)
+        return _of_file(file, True)
+    finally:
+        file.seek(place)
+
+
+def _can_seek(file: Any) -> bool:
+    if hasattr(file, "seekable"):
+        return bool(file.seekable())
+    return hasattr(file, "seek") and hasattr(file, "tell")  # as mmap before Python 3.13
+
+
+def _of_file(file: Any, can_seek: bool) -> Given:
+    head = _read(file, _HEAD)
     if head.startswith(_CONTINUATION):
-        return head + file.read(int.from_bytes(head[4:], "little")), 0
+        return Given(head + _read(file, int.from_bytes(head[4:], "little")))
     tail = next((size for magic, size in _TAILS.items() if head.startswith(magic)), 0)
-    if not tail or not file.seekable():
-        return head + file.read(), 0
-    length = file.seek(0, os.SEEK_END)
+    if not tail or not can_seek:
+        return Given(head + _read(file))
+    file.seek(0, os.SEEK_END)
+    length = file.tell()
     file.seek(max(length - tail, 0))
-    wanted = int.from_bytes(file.read(4), "little") + tail
+    wanted = int.from_bytes(_read(file, 4), "little") + tail
     if wanted > length:  # no whole footer, whatever the rest is
         wanted = tail
     start = max(length - wanted, _HEAD)
     file.seek(start)
-    return head + file.read(), start - _HEAD
+    return Given(head + _read(file), start - _HEAD)
+
+
+def _read(file: Any, size: Optional[int] = None) -> bytes:
+    """So many bytes of a file, or fewer where it ends before; all that are left where no number is given."""
+    if size is None:
+        return _bytes_read(file.read())
+    parts: List[bytes] = []
+    while size > 0:
+        part = _bytes_read(file.read(min(size, _AT_ONCE)))
+        if not part:
+            break
+        parts.append(part)
+        size -= len(part)
+    return b"".join(parts)
+
+
+def _bytes_read(part: Any) -> bytes:
+    if isinstance(part, (bytes, bytearray, memoryview)):
+        return bytes(part)
+    raise TypeError(f"a file whose read gives {_kind(part)} is no source: it is to be open in binary mode, and to wait for its bytes")
+
+
+def _kind(given: Any) -> str:
+    return c_schema.shown(type(given).__name__)

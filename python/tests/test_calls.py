@@ -1,6 +1,8 @@
 """Tests of the calls: what they answer, and what they raise."""
 import copy
 import dataclasses
+import io
+import mmap
 import pathlib
 import pickle
 import re
@@ -56,8 +58,45 @@ class Checks(unittest.TestCase):
                 path.write_bytes(found)
                 self.assertEqual(check(path), wanted)
                 self.assertEqual(check(str(path)), wanted)
-        self.assertEqual(check(b""), [])
+        self.assertEqual(check(f"\n{TEXT}\n \t\r\n\n{POINT}\n\n".encode()), wanted)  # blank lines are passed over
         self.assertEqual(check([]), [])
+        self.assertEqual(check(Schema([])), [])
+
+    def test_large_sources(self):
+        given = f"{TEXT}\n{POINT}\n".encode() * 20_000
+        few = check([TEXT, POINT])
+        stream = write_schema([given[:-1]])
+        self.assertGreater(min(len(given), len(stream)), 2 << 20)
+        with tempfile.TemporaryDirectory() as folder:
+            path = pathlib.Path(folder, "large")
+            for whole in (given, stream):
+                path.write_bytes(whole)
+                for source in (whole, path, io.BytesIO(whole)):
+                    found = check(source)
+                    self.assertEqual(len(found), 40_000)
+                    for at in (0, 1, 20_001, 39_998, 39_999):
+                        self.assertEqual(found[at], dataclasses.replace(few[at % 2], index=at))
+        long = TEXT.replace('"t"', '"%s"' % ("é" * 500_000))
+        self.assertEqual((lines(Schema([long])), [one.name for one in check([long])]), ([long], ["é" * 500_000]))
+
+    def test_files_that_are_open(self):
+        for name in ("file.arrow", "stream.arrows", "stored.parquet", "plain.parquet", "geo.parquet", "columns.jsonl"):
+            wanted = check(DATA / name)
+            with open(DATA / name, "rb") as file, mmap.mmap(file.fileno(), 0, access=mmap.ACCESS_READ) as mapped:
+                for source in (file, io.BytesIO(file.read()), mapped):
+                    found = check(source)
+                    self.assertEqual((found, found.checks, found.warnings), (wanted, wanted.checks, wanted.warnings))
+
+    def test_notes(self):
+        self.assertEqual([one.code for one in check([CRS])[0].warnings], [])
+        self.assertEqual([one.code for one in check([CRS], notes=True)[0].warnings], ["CrsNotWhole"])
+        self.assertEqual([one.code for one in check([TEXT], infer=True, notes=True)[0].warnings], [])
+
+    def test_empty_metadata(self):
+        line = CANON.replace('{"ARROW', '{"ARROW:extension:metadata":"","ARROW')
+        (column,) = check([line])
+        self.assertEqual((column.state, [one.code for one in column.warnings]), ("geometry", ["MetadataEmpty"]))
+        self.assertEqual(read(line), "error arrow")
 
     def test_what_is_inferred(self):
         self.assertEqual(check([TEXT], infer=True), [Column("t", 0, "inferred", "wkt - -", None, "planar")])
@@ -133,10 +172,58 @@ class Refusals(unittest.TestCase):
         return caught.exception.code, caught.exception.offset, str(caught.exception)
 
     def test_bytes(self):
-        self.assertEqual(self.refused(check, f"{TEXT}\n\n".encode()), ("NoField", 1, "line 2 is no field"))
+        self.assertEqual(self.refused(check, f"{TEXT}\n{{}}\n".encode()), ("NoField", 1, "line 2 is no field"))
+        self.assertEqual(self.refused(check, f"\n{TEXT}\n\n[]".encode()), ("NoField", 3, "line 4 is no field"))
         self.assertEqual(self.refused(check, b"PAR1"), ("Parquet", 0, "the columns of the Parquet file are not read"))
-        self.assertEqual(self.refused(check, b"ARROW1"), ("Envelope", 0, "byte 0 of the message: no whole message"))
+        self.assertEqual(self.refused(check, b"ARROW1"), ("Envelope", 0, "byte 0: no whole message"))
+        self.assertEqual(self.refused(check, b"\xff\xff\xff\xff"), ("Envelope", 4, "byte 4 of the message: no whole message"))
         self.assertEqual(self.refused(check, [TEXT, "\ud800"])[:2], ("NoField", 1))
+
+    def test_empty_sources(self):
+        wanted = ("EmptyFile", 0, "is empty")
+        for given in (b"", bytearray(), b"\n", b" \t\r\n\n  ", [""], ["", " "], io.BytesIO(), io.BytesIO(b"\n")):
+            self.assertEqual(self.refused(check, given), wanted)
+        with tempfile.TemporaryDirectory() as folder:
+            path = pathlib.Path(folder, "empty")
+            for given in (b"", b"\n\n"):
+                path.write_bytes(given)
+                self.assertEqual(self.refused(check, path), wanted)
+        self.assertEqual(write_schema([]), write_schema([""]))
+
+    def test_a_report_that_is_too_large(self):
+        long = "a" * 60_000
+        inside = ",".join(['{"metadata":{"ARROW:extension:name":"geoarrow.wkb"},"name":"k","nullable":true,"type":"binary"}'] * 100)
+        struct = '{"struct":[{"name":"%s","nullable":true,"type":{"struct":[%s]}}]}' % (long, inside)
+        line = TEXT.replace('"utf8"', struct)  # each of its hundred warnings has the long name in its path
+        wanted = ("ReportTooLarge", 0, "the report would have more than 1048576 bytes and 32 for each byte read")
+        self.assertEqual(self.refused(check, [line]), wanted)
+
+    def test_an_encrypted_file(self):
+        footer = bytes(20)
+        found = b"PARE" + bytes(100) + footer + len(footer).to_bytes(4, "little") + b"PARE"
+        self.assertEqual(self.refused(check, found)[0], "Parquet")
+        self.assertEqual(self.refused(check, io.BytesIO(found))[0], "Parquet")
+
+    def test_the_place_in_an_arrow_file_is_that_in_the_file(self):
+        """With each of its last bytes turned, however it is opened: the same place, and one that was found by turning is behind what was turned."""
+        with tempfile.TemporaryDirectory() as folder:
+            path = pathlib.Path(folder, "file")
+            whole = bytearray((DATA / "file.arrow").read_bytes())
+            refused = 0
+            for at in range(len(whole) - 200, len(whole)):
+                whole[at] ^= 0x81
+                path.write_bytes(whole)
+                said = []
+                for source in (path, bytes(whole), io.BytesIO(whole)):
+                    try:
+                        said.append([one.json for one in check(source)])
+                    except RefusedSource as error:
+                        said.append((error.code, error.offset, str(error)))
+                        self.assertRegex(str(error), r"^byte \d+: ")
+                        refused += 1
+                self.assertEqual(said[1:], said[:1] * 2, at)
+                whole[at] ^= 0x81
+            self.assertGreater(refused, 60)
 
     def test_a_stream_with_an_offset_that_leads_nowhere(self):
         stream = bytearray(write_schema([TEXT]))
@@ -154,7 +241,7 @@ class Refusals(unittest.TestCase):
                 self.assertEqual(self.refused(check, whole[:length])[:2], (code, offset))
 
     def test_no_schema_and_no_file(self):
-        with self.assertRaises(SchemaError):
+        with self.assertRaises(TypeError):
             check(object())
         with self.assertRaises(FileNotFoundError):
             check("/nowhere/at/all")
@@ -164,7 +251,8 @@ class Refusals(unittest.TestCase):
     def test_each_status_of_the_header_has_its_words(self):
         header = (TOP / "include/geoarrow.h").read_text()
         found = {int(number): name for name, number in re.findall(r"GEOARROW_(\w+) = (\d+),? *(?=/\*|\n)", header) if int(number) > 4}
-        self.assertTrue({5, 6, 7, 16, 30} <= found.keys())
+        self.assertTrue({5, 6, 7, 10, 11, 16, 30} <= found.keys())
+        found[11] += "_FILE"  # (GEOARROW_EMPTY)
         for number, name in found.items():
             with self.subTest(name):
                 self.assertEqual(RefusedSource(number, 0).code.lower(), re.sub("^RULE_", "", name).replace("_", "").lower())
@@ -174,7 +262,7 @@ class Refusals(unittest.TestCase):
         self.assertEqual(list(RULES), [(code, text) for text, code in re.findall(r'#\[error\("(.*)"\)\]\n +(\w+),', source)])
 
     def test_errors_cross_processes(self):
-        for error in (RefusedSource(5, 1), RefusedSource(18, 7), RefusedSource(200, 3), InvalidColumns(check([BROKEN]))):
+        for error in (RefusedSource(5, 1), RefusedSource(18, 7), RefusedSource(18, 7, True), RefusedSource(200, 3), InvalidColumns(check([BROKEN]))):
             other = pickle.loads(pickle.dumps(error))
             self.assertEqual((type(other), str(other), vars(other)), (type(error), str(error), vars(error)))
 
@@ -193,7 +281,7 @@ class Streams(unittest.TestCase):
         self.assertGreater(compared, 6)
 
     def test_refused(self):
-        for given, code, offset in (([TEXT, "{}"], "NoField", 1), ([TEXT, POINT, OTHER], "Column", 2), ([""], "NoField", 0)):
+        for given, code, offset in (([TEXT, "{}"], "NoField", 1), ([TEXT, POINT, OTHER], "Column", 2), (["1"], "NoField", 0)):
             with self.assertRaises(RefusedSource) as caught:
                 write_schema(given)
             self.assertEqual((caught.exception.code, caught.exception.offset), (code, offset))

@@ -13,7 +13,7 @@ from geoarrow_fields import check
 from geoarrow_fields.__main__ import OF_THE_PROGRAM, main
 from geoarrow_fields.columns import columns_of
 
-from .shared import BROKEN, DATA, TEXT, TOP
+from .shared import BROKEN, CRS, DATA, TEXT, TOP
 
 PROGRAM = TOP / "crates/geoarrow_check/out/geoarrow_check"
 
@@ -32,7 +32,7 @@ class Command(unittest.TestCase):
             good, bad, none = (str(pathlib.Path(folder, name)) for name in ("good", "bad", "none"))
             pathlib.Path(good).write_text(f"{TEXT}\n")
             pathlib.Path(bad).write_text(f"{BROKEN}\n")
-            pathlib.Path(none).write_text("\n")
+            pathlib.Path(none).write_text("{}\n")
             self.assertEqual(printed(["check", good]), ("column  holds  CRS  edges\nt       utf8\n", "", 0))
             self.assertEqual(printed(["check", good, bad])[2], 1)
             self.assertEqual(printed(["check", none, bad])[1:], (f"{none}: line 1 is no field\n", 2))
@@ -44,10 +44,64 @@ class Command(unittest.TestCase):
         self.assertEqual(found.stdout.decode(), (DATA.parent / "stdout").read_text())
         self.assertEqual(found.returncode, int((DATA.parent / "status").read_text()))
 
+    def test_files_that_are_empty(self):
+        with tempfile.TemporaryDirectory() as folder:
+            empty, blank, good = (str(pathlib.Path(folder, name)) for name in ("empty", "blank", "good"))
+            for path, text in ((empty, ""), (blank, "\n \t\r\n"), (good, f"{TEXT}\n\n")):
+                pathlib.Path(path).write_text(text, newline="")
+            for options in ([], ["--json"], ["--infer", "--notes"]):
+                out, err, status = printed(["check", *options, empty, blank, good])
+                self.assertEqual((err, status), (f"{empty}: is empty\n{blank}: is empty\n", 2))
+                self.assertEqual(out.count("\n"), 1 if options == ["--json"] else 3)
+        for text in (b"", b"\n"):
+            found = self.run_in_data(sys.executable, "-m", "geoarrow_fields", "check", "-", given=text)
+            self.assertEqual((found.stdout, found.stderr, found.returncode), (b"", b"-: is empty\n", 2))
+
+    def test_notes(self):
+        with tempfile.TemporaryDirectory() as folder:
+            path = pathlib.Path(folder, "crs")
+            path.write_text(CRS + "\n")
+            note = "    CRS has a number that is not whole\n"
+            self.assertEqual([note in printed(["check", *options, str(path)])[0] for options in ([], ["--notes"])], [False, True])
+
+    def test_names_of_files_are_escaped(self):
+        with tempfile.TemporaryDirectory() as folder:
+            names = [str(pathlib.Path(folder, name)) for name in ("a\u001b[2J\nb", "c\x7f\x85d")]
+            for name in names:
+                pathlib.Path(name).write_text(f"{TEXT}\n")
+            shown = [f"{folder}/a?[2J?b", f"{folder}/c??d"]
+            table = "column  holds  CRS  edges\nt       utf8\n"
+            self.assertEqual(printed(["check", *names]), ("".join(f"{name}:\n{table}" for name in shown), "", 0))
+            for name in names:
+                pathlib.Path(name).write_text("{}\n")
+            self.assertEqual(printed(["check", *names]), ("", "".join(f"{name}: line 1 is no field\n" for name in shown), 2))
+            self.assertEqual(printed(["check", names[0] + "\t"]), ("", f"{shown[0]}?: No such file or directory\n", 2))
+
     def test_an_output_that_nobody_reads(self):
-        command = f'"{sys.executable}" -m geoarrow_fields check "{TOP}/examples/schema.jsonl"; echo $? >&2'
-        found = self.run_in_data("sh", "-c", "{ " + command + "; } | true")
-        self.assertIn(found.stderr.decode(), ("2\n", "1\n"))  # (it may have written all before the reader ends)
+        with tempfile.TemporaryDirectory() as folder:
+            large = pathlib.Path(folder, "large")
+            large.write_text(f"{TEXT}\n" * 20_000)
+            for option in ("", "--json"):
+                command = f'"{sys.executable}" -m geoarrow_fields check {option} "{large}" "{large}"; echo $? >&2'
+                found = self.run_in_data("sh", "-c", "{ " + command + "; } | head -1")
+                self.assertEqual((found.stdout.count(b"\n"), found.stderr), (1, b"141\n"))
+
+    def test_an_output_that_is_closed(self):
+        command = f'"{sys.executable}" -m geoarrow_fields check "{TOP}/examples/schema.jsonl"'
+        found = self.run_in_data("sh", "-c", command + " >&-")
+        self.assertEqual((found.stderr, found.returncode), (b"standard output: it is closed\n", 2))
+        found = self.run_in_data("sh", "-c", command + ' nowhere 2>&-')
+        self.assertEqual((b"nowhere" in found.stdout, found.returncode), (False, 2))
+        found = self.run_in_data("sh", "-c", f'"{sys.executable}" -m geoarrow_fields check - <&-')
+        self.assertEqual((found.stderr, found.returncode), (b"-: it is closed\n", 2))
+
+    def test_an_output_in_another_encoding(self):
+        with tempfile.TemporaryDirectory() as folder:
+            path = pathlib.Path(folder, "line")
+            path.write_text(TEXT.replace('"t"', '"\u65e5"'), encoding="utf-8")
+            command = [sys.executable, "-m", "geoarrow_fields", "check", str(path)]
+            found = self.run_in_data(*command, encoding="latin-1")
+            self.assertEqual((found.stdout.decode(), found.stderr, found.returncode), ("column  holds  CRS  edges\n\u65e5       utf8\n", b"", 0))
 
     @unittest.skipUnless(os.path.exists("/dev/full"), "there is no /dev/full")
     def test_an_output_that_is_full(self):
@@ -70,7 +124,7 @@ class Command(unittest.TestCase):
     def test_beside_the_program(self):
         files = ["columns.jsonl", "stream.arrows", "file.arrow", "other.arrows", "stored.parquet", "plain.parquet", "geo.parquet", str(TOP / "examples/schema.jsonl")]
         for words in [[file] for file in files] + [files, ["nowhere", "file.arrow"]]:
-            for options in ([], ["--infer"], ["--json"], ["--json", "--infer"]):
+            for options in ([], ["--infer"], ["--json"], ["--json", "--infer"], ["--notes"], ["--json", "--notes"]):
                 with self.subTest(words=words, options=options):
                     ours = self.run_in_data(sys.executable, "-m", "geoarrow_fields", "check", *options, *words)
                     wanted = self.run_in_data(str(PROGRAM), *options, *words)
@@ -93,8 +147,8 @@ class Command(unittest.TestCase):
                 if b"of the message" in wanted.stderr:
                     self.assertEqual(ours.stderr, wanted.stderr)
 
-    def run_in_data(self, *words, given=b""):
-        environment = {**os.environ, "PYTHONPATH": str(TOP / "python"), "PYTHONIOENCODING": "utf-8", "PYTHONDONTWRITEBYTECODE": "1"}
+    def run_in_data(self, *words, given=b"", encoding="utf-8"):
+        environment = {**os.environ, "PYTHONPATH": str(TOP / "python"), "PYTHONIOENCODING": encoding, "PYTHONDONTWRITEBYTECODE": "1"}
         return subprocess.run(words, cwd=DATA, input=given, env=environment, stdout=subprocess.PIPE, stderr=subprocess.PIPE)
 
 

@@ -1,14 +1,21 @@
-"""Tests of examples/many_files.py: that each way gives the same reports, and that a broken file ends nothing."""
+"""Tests of examples/many_files.py and geoarrow_fields.files: that each way gives the same reports, and that neither a broken file nor a lost worker ends a run."""
+import concurrent.futures
 import importlib.util
+import io
 import json
 import os
 import pathlib
 import shutil
+import signal
 import subprocess
 import sys
 import tempfile
+import threading
+import types
 import unittest
 from unittest import mock
+
+from geoarrow_fields import files
 
 from .shared import BROKEN, CRS, DATA, TEXT, TOP
 
@@ -38,8 +45,8 @@ class ManyFiles(unittest.TestCase):
         shutil.copy(DATA / "geo.parquet", self.folder / "h")
         self.wanted = [
             self.report("a", 2, ["g: wkb - -"]), self.report("b", 1, invalid=["b: unexpected number of fields at v, unknown edges"]),
-            self.report("below/c", error="line 1 is no field"), self.report("d\n", 1), self.report("e", 1, ["g: linestring interleaved XYM"]),
-            self.report("f", error=f"byte {(DATA / 'file.arrow').stat().st_size - 11} of the message: no whole message"),
+            self.report("below/c", error="is empty"), self.report("d\n", 1), self.report("e", 1, ["g: linestring interleaved XYM"]),
+            self.report("f", error=f"byte {(DATA / 'file.arrow').stat().st_size - 11}: no whole message"),
             self.report("g", error="No such file or directory"),
             self.report("h", 3, ["geom: wkb - -", "place: wkb - -", "region: wkb - -"], checks=[
                 "GeoTypes of geom does not hold: geometry_types are different names of geometry types that fit the encoding",
@@ -84,9 +91,199 @@ class ManyFiles(unittest.TestCase):
 
     def test_whatever_is_wrong_is_said(self):
         with mock.patch("geoarrow_fields.check", side_effect=RuntimeError("odd")):
-            self.assertEqual([one["error"] for one in loaded().reports(["x", "y"])], ["odd", "odd"])
+            self.assertEqual([one["error"] for one in files.reports(["x", "y"])], ["odd", "odd"])
         with mock.patch("geoarrow_fields.check", side_effect=MemoryError):
-            self.assertEqual(loaded().report("x")["error"], "MemoryError")
+            self.assertEqual(files.report("x")["error"], "MemoryError")
+
+    def test_a_file_of_no_bytes_is_an_error_by_name(self):
+        (self.folder / "none.parquet").touch()
+        found, last, status = self.ran("--with", "loop", self.folder / "a", self.folder / "none.parquet")
+        self.assertEqual([one["error"] for one in found], [None, "is empty"])
+        self.assertIn(" 1 not read; ", last)
+        self.assertEqual(status, 2)
+
+
+class Paths(unittest.TestCase):
+    """Which files are named, and how far a run is; without the library."""
+
+    def setUp(self):
+        there = tempfile.TemporaryDirectory()
+        self.addCleanup(there.cleanup)
+        self.folder = pathlib.Path(there.name)
+        for name in ("year=1/b", "year=1/a", "_delta_log/0.json", "year=1/_SUCCESS", "year=1/.a.crc", ".git/c", "year=1/a_b.c", "year=0"):
+            (self.folder / name).parent.mkdir(parents=True, exist_ok=True)
+            (self.folder / name).touch()
+
+    def test_marks_and_checksums_in_a_folder_are_left_out(self):
+        wanted = [str(self.folder / name) for name in ("year=0", "year=1/a", "year=1/a_b.c", "year=1/b")]
+        self.assertEqual(list(files.paths_of([str(self.folder)])), wanted)
+
+    def test_what_is_named_is_not_left_out(self):
+        named = [str(self.folder / "year=1/_SUCCESS"), "nowhere/.x", str(self.folder / "_delta_log")]
+        self.assertEqual(list(files.paths_of(named)), [*named[:2], str(self.folder / "_delta_log/0.json")])
+
+    def test_a_line_of_progress_on_a_terminal_alone(self):
+        example = loaded()
+        for of_errors, of_output, wanted in ((True, False, "\r1 of 1,200 files, 1 not read\r\x1b[K"), (False, False, ""), (True, True, ""), (False, True, "")):
+            shown = io.StringIO()
+            with mock.patch.object(example.sys, "stderr", shown), mock.patch.object(example.sys, "stdout", io.StringIO()):
+                example.sys.stderr.isatty, example.sys.stdout.isatty = lambda: of_errors, lambda: of_output
+                progress = example.Progress(1200)
+                progress.show({"files": 1, "error": 1})
+                progress.show({"files": 2, "error": 2})  # (too soon)
+                progress.end()
+            self.assertEqual(shown.getvalue(), wanted)
+
+
+class WithoutDask(unittest.TestCase):
+    """What is made of a cluster's answers, by a stand-in for it."""
+
+    def ran(self, client, wait, patience=0.0):
+        class Lost(Exception):
+            pass
+
+        module = types.ModuleType("distributed")
+        module.wait, module.TimeoutError = wait, Lost
+        with mock.patch.dict(sys.modules, distributed=module):
+            return list(loaded().dask_reports(["x", "y", "z"], True, client, patience))
+
+    def client(self, *futures, workers=1):
+        client = mock.Mock(status="running")
+        client.nthreads.return_value = dict.fromkeys(range(workers), 1)
+        client.map.return_value = futures
+        return client
+
+    def test_what_a_task_raises_is_an_error_of_its_files(self):
+        lacks = ModuleNotFoundError("No module named 'geoarrow_fields'")
+        client = self.client(*(mock.Mock(**{"result.side_effect": [end]}) for end in ([{"file": "x"}], lacks, [{"file": "z"}])))
+        found = self.ran(client, lambda futures, **_: mock.Mock(done=set(futures)))
+        self.assertEqual({one["file"]: one.get("error") for one in found}, {"x": None, "y": "No module named 'geoarrow_fields'", "z": None})
+        call, texts, given = client.map.call_args[0]
+        self.assertEqual((call, [one["paths"] for one in given], {one["infer"] for one in given}), (eval, [["x"], ["y"], ["z"]], {True}))
+        with mock.patch.object(files, "reports", lambda paths, infer: (paths, infer)):
+            self.assertEqual([call(text, dict(one)) for text, one in zip(texts, given)], [([one], True) for one in "xyz"])
+
+    def given_up(self, error, wanted):
+        def nothing(futures, **_):
+            raise error or sys.modules["distributed"].TimeoutError
+
+        found = self.ran(self.client(*(mock.Mock() for _ in "xyz"), workers=0), nothing)
+        self.assertEqual(sorted((one["file"], one["error"]) for one in found), [(one, wanted) for one in "xyz"])
+
+    def test_where_no_worker_is_left_the_files_are_given_up(self):
+        self.given_up(None, "no worker is left")
+
+    def test_where_the_scheduler_is_lost_the_files_are_given_up(self):
+        self.given_up(concurrent.futures.CancelledError(), "the cluster is lost: CancelledError")
+
+
+@unittest.skipUnless(HAS_DASK, "python3-dask and python3-distributed are not there")
+class Cluster(unittest.TestCase):
+    """A scheduler and two workers, as processes of their own that are started elsewhere."""
+
+    def setUp(self):
+        there = tempfile.TemporaryDirectory()
+        self.addCleanup(there.cleanup)
+        self.folder = pathlib.Path(there.name)
+        self.started = []
+        self.addCleanup(self.stop)
+        self.addCleanup(signal.signal, signal.SIGALRM, signal.signal(signal.SIGALRM, self.late))
+        self.addCleanup(signal.alarm, 0)
+        signal.alarm(180)
+        self.address = self.folder / "scheduler.json"
+        self.start("distributed.cli.dask_scheduler", "--port", "0", "--no-dashboard", "--scheduler-file", self.address)
+        for number in range(60):
+            (self.folder / f"{number:02}.jsonl").write_text(f"{TEXT}\n" if number % 7 else "no field\n")
+        self.paths = sorted(map(str, self.folder.glob("*.jsonl")))
+
+    def start(self, module, *words, **environment):
+        given = {"PATH": os.environ["PATH"], "HOME": str(self.folder), "PYTHONDONTWRITEBYTECODE": "1", **environment}
+        if "GEOARROW_C_LIBRARY" in os.environ:
+            given["GEOARROW_C_LIBRARY"] = os.environ["GEOARROW_C_LIBRARY"]
+        log = open(self.folder / "log", "ab")
+        self.addCleanup(log.close)
+        self.started.append(subprocess.Popen([sys.executable, "-m", module, *map(str, words)], cwd=self.folder, env=given, stdout=log, stderr=log))
+
+    def late(self, *_):
+        raise AssertionError("no end in time")
+
+    def stop(self):
+        for one in self.started:
+            one.kill()
+            one.wait()
+
+    def client(self, **environment):
+        """A client of two workers, each with this environment."""
+        from distributed import Client
+
+        for _ in range(2):
+            self.start(
+                "distributed.cli.dask_worker", "--scheduler-file", self.address, "--nthreads", "1", "--no-nanny", "--no-dashboard", "--local-directory",
+                self.folder, **environment)
+        client = Client(scheduler_file=str(self.address), timeout=60)
+        self.addCleanup(client.close)
+        client.wait_for_workers(2, timeout=60)
+        return client
+
+    def has_package(self):
+        return self.client(PYTHONPATH=str(TOP / "python"))
+
+    def reports(self, client, paths=None, patience=3.0):
+        """The reports as they come; what loads the example has it under no name that a worker finds."""
+        return loaded().dask_reports(self.paths if paths is None else paths, False, client, patience)
+
+    def test_the_reports_are_those_of_a_loop(self):
+        found = sorted(self.reports(self.has_package()), key=lambda one: one["file"])
+        self.assertEqual(found, files.reports(self.paths))
+        self.assertEqual({one["error"] for one in found}, {None, "line 1 is no field"})
+
+    def test_the_command_with_a_scheduler(self):
+        client = self.has_package()
+        command = [sys.executable, str(SCRIPT), "--scheduler", client.scheduler.address, *self.paths]
+        ran = subprocess.run(command, stdout=subprocess.PIPE, timeout=100, cwd=self.folder)
+        self.assertEqual(sorted(map(json.loads, ran.stdout.decode().splitlines()[:-1]), key=lambda one: one["file"]), files.reports(self.paths))
+        self.assertEqual(ran.returncode, 2)
+
+    def test_workers_without_the_package(self):
+        found = list(self.reports(self.client()))
+        self.assertEqual(sorted(one["file"] for one in found), self.paths)
+        self.assertEqual({one["error"] for one in found}, {"No module named 'geoarrow_fields'"})
+
+    def begun(self):
+        """A run over two workers, of which one waits at the last file until something is written there: its path, the reports so far, those that
+        are to come, and the processes, first that of the worker that waits."""
+        client, path = self.has_package(), self.folder / "waits.jsonl"
+        os.mkfifo(path)
+        processes = client.run(os.getpid)
+        reports = self.reports(client, [*self.paths, str(path)])
+        found = [next(reports) for _ in range(56)]  # (all but those of its part)
+        busy = next(address for address, tasks in client.processing().items() if tasks)
+        return str(path), found, reports, sorted(processes.values(), key=lambda one: one != processes[busy])
+
+    def test_what_a_killed_worker_had_is_done_by_the_other(self):
+        path, found, reports, processes = self.begun()
+        waits = next(one for one in self.started if one.pid == processes[0])
+        waits.kill()
+        waits.wait()  # (until then it could be what reads what is written)
+        threading.Thread(target=lambda: pathlib.Path(path).write_text(f"{TEXT}\n"), daemon=True).start()
+        found += reports
+        self.assertEqual(sorted(one["file"] for one in found), sorted([*self.paths, path]))
+        self.assertEqual({one["error"] for one in found}, {None, "line 1 is no field"})
+
+    def test_where_all_workers_are_killed_the_run_ends(self):
+        path, found, reports, processes = self.begun()
+        for one in processes:
+            os.kill(one, signal.SIGKILL)
+        rest = list(reports)
+        self.assertEqual(sorted(one["file"] for one in [*found, *rest]), sorted([*self.paths, path]))
+        self.assertEqual([one["error"] for one in rest], ["no worker is left"] * 5)
+
+    def test_where_the_scheduler_is_killed_the_run_ends(self):
+        path, found, reports, _ = self.begun()
+        self.started[0].kill()
+        rest = list(reports)
+        self.assertEqual(sorted(one["file"] for one in [*found, *rest]), sorted([*self.paths, path]))
+        self.assertEqual({one["error"] for one in rest}, {"the cluster is lost: CancelledError"})
 
 
 if __name__ == "__main__":

@@ -33,7 +33,7 @@ class Cells(html.parser.HTMLParser):
 
 class Tables(unittest.TestCase):
     def test_a_table(self):
-        self.assertEqual(repr(check([CRS, BROKEN, TEXT], infer=True)), """\
+        self.assertEqual(repr(check([CRS, BROKEN, TEXT], infer=True, notes=True)), """\
 column  holds                        CRS        edges
 g       wkb - -                      OGC:CRS84  spherical
     CRS has a number that is not whole
@@ -49,13 +49,26 @@ t       taken for wkt - -                       planar""")
 
     def test_what_a_crs_is_called(self):
         for crs, name in (
-                ('"EPSG:4326"', "EPSG:4326"), ('"%s"' % ("a" * 41), "a" * 40), ('"a\\tb"', "a b"), ('{"id":{"authority":"EPSG","code":4326}}', "EPSG:4326"),
+                ('"EPSG:4326"', "EPSG:4326"), ('"%s"' % ("a" * 40), "a" * 40), ('"%s"' % ("a" * 41), "a" * 38 + ".."),
+                ('{"name":"%s"}' % ("é" * 50), "é" * 38 + ".."), ('{"id":{"authority":"%s","code":1}}' % ("b" * 39), "b" * 38 + ".."), ('"a\\tb"', "a b"), ('{"id":{"authority":"EPSG","code":4326}}', "EPSG:4326"),
                 ('{"id":{"authority":"EPSG","code":1.5}}', "EPSG:?"), ('{"id":{"authority":"EPSG","code":true}}', "EPSG:?"),
                 ('{"id":{"authority":"EPSG","code":-1}}', "EPSG:?"), ('{"id":{"authority":"OGC"}}', "OGC"), ('{"id":{"code":1},"name":"n"}', "n"),
                 ('{"id":[1],"name":"n"}', "n"), ('{"name":7}', "a CRS"), ("[1]", "a CRS"), ("4326", "a CRS"), ("null", "")):
             with self.subTest(crs):
                 row = repr(check([with_crs(crs)])).split("\n")[1]
                 self.assertEqual(re.fullmatch(r"g +wkb - - +(.*?) *planar", row)[1], name)
+
+    def test_cells_that_are_cut(self):
+        name = "n" * 1_000_000
+        columns = check([TEXT.replace('"t"', f'"{name}"'), *[TEXT] * 1000, TEXT.replace('"t"', '"%s"' % ("é" * 41)), TEXT.replace('"t"', '"%s"' % ("é" * 40))])
+        self.assertEqual(columns[0].name, name)
+        lines = repr(columns).split("\n")
+        self.assertEqual([lines[1], lines[2], lines[-2], lines[-1]], [
+            "n" * 38 + "..  utf8", "t" + " " * 41 + "utf8", "é" * 38 + "..  utf8", "é" * 40 + "  utf8"])
+        self.assertLess(len(repr(columns)), 60_000)
+        other = '{"name":"o","nullable":true,"type":{"other":"%s"}}' % ("x" * 41)
+        self.assertEqual(repr(check([other])).split("\n")[1], "o       " + "x" * 38 + "..")
+        self.assertEqual(Cells(check([other])._repr_html_()).cells[4:], ["o", "x" * 38 + "..", "", ""])
 
     def test_control_characters(self):
         table = repr(check([TEXT.replace('"t"', '"a\\u001b[2J\\u0085\\nb"')]))
@@ -85,7 +98,7 @@ class Behind(unittest.TestCase):
 
 class Html(unittest.TestCase):
     def test_cells(self):
-        found = Cells(check([CRS, BROKEN, TEXT], infer=True)._repr_html_())
+        found = Cells(check([CRS, BROKEN, TEXT], infer=True, notes=True)._repr_html_())
         self.assertEqual(found.tags, {"table", "thead", "tbody", "tr", "th", "td"})
         self.assertEqual(found.cells, [
             "column", "holds", "CRS", "edges",

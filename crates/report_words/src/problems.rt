@@ -21,7 +21,7 @@ const TOO_LARGE: &str = "the report would have more than 1048576 bytes and 32 fo
 ///
 /// ```rust
 /// let fault = FileFault::NoField(1, LineFault::NotObject);
-/// let text = problem_text(alloc, Form::Lines, &fault)?;
+/// let text = problem_text(alloc, column_files::Form::Lines, &fault)?;
 /// assert_eq!(rt; text.as_str(), "line 2: is JSON, but no object");
 /// ```
 pub fn problem_text(alloc: Global, form: Form, fault: &FileFault) -> Result<String, AllocError>

@@ -1,7 +1,7 @@
 //! Checks the fields of a schema of arrow-rs: cargo run --example arrow_fields --features arrow-schema
 use arrow_schema::{DataType, Field, TimeUnit};
 use geoarrow_checked::arrow::check_fields;
-use geoarrow_checked::Error;
+use geoarrow_checked::{Error, Options};
 
 fn main() -> Result<(), Error> {
     let extension = |name: &str| [("ARROW:extension:name".to_owned(), name.to_owned())].into();
@@ -19,6 +19,6 @@ fn main() -> Result<(), Error> {
             .with_metadata(extension("geoarrow.point")),
         Field::new("shape", DataType::Utf8, true).with_metadata(extension("geoarrow.wkb")),
     ];
-    print!("{}", check_fields(&fields, false)?);
+    print!("{}", check_fields(&fields, Options::default())?);
     Ok(())
 }

@@ -4,6 +4,10 @@ use std::{env, fs};
 
 fn main() -> Result<(), Box<dyn Error>> {
     let path = env::args_os().nth(1).ok_or("usage: check_file FILE")?;
-    print!("{}", geoarrow_checked::check(&fs::read(path)?, true)?);
+    let options = geoarrow_checked::Options {
+        infer: true,
+        ..Default::default()
+    };
+    print!("{}", geoarrow_checked::check(&fs::read(path)?, options)?);
     Ok(())
 }

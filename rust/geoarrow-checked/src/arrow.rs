@@ -1,24 +1,28 @@
 //! The fields of arrow-rs as lines (docs/FORMAT.md, 2.1 and 2.7), and the report of them.
-use crate::{check, Error};
+use crate::{check, Error, Options};
 use arrow_schema::{DataType, Field, IntervalUnit, TimeUnit, UnionMode};
 use std::collections::BTreeMap;
 use std::fmt::Write;
 
-/// What each of these fields holds: [`check`] of their lines.
+/// What each of these fields holds: [`check`] of their lines; nothing of no fields.
 ///
 /// # Errors
 ///
-/// [`Error::NoField`] for a field whose line is refused, as where it nests too deep, with its index; [`Error::OutOfMemory`].
+/// [`Error::NoField`] for a field whose line is refused, as where it nests too deep, with its index; [`Error::ReportTooLarge`];
+/// [`Error::OutOfMemory`].
 pub fn check_fields<'a>(
     fields: impl IntoIterator<Item = &'a Field>,
-    infer: bool,
+    options: Options,
 ) -> Result<String, Error> {
     let mut lines = String::new();
     for field in fields {
         lines.push_str(&field_line(field));
         lines.push('\n');
     }
-    check(lines.as_bytes(), infer)
+    if lines.is_empty() {
+        return Ok(lines);
+    }
+    check(lines.as_bytes(), options)
 }
 
 /// The line of a field. A type that is none of the 26 of docs/FORMAT.md, 1.1, or has one anywhere below, is there the notation of the type (3.4); of

@@ -13,13 +13,17 @@ pub enum Error {
     NoField(usize),
     /// The columns of the Parquet file are not read.
     Parquet,
-    /// More is to be read than eight times the message's bytes; the byte of the message.
+    /// More is to be read than eight times the message's bytes, at this byte of an Arrow file or of the message of a stream.
     Budget(usize),
     /// No message can hold the type of the column of this index.
     Column(usize),
     /// The message would take 2^31 bytes or more.
     TooLarge,
-    /// A rule of Arrow's IPC format is broken at this byte of the message.
+    /// The report would have more than 1,048,576 bytes and 32 for each byte that is read.
+    ReportTooLarge,
+    /// The file is empty, or has blank lines alone.
+    EmptyFile,
+    /// A rule of Arrow's IPC format is broken at this byte of an Arrow file or of the message of a stream.
     Broken(Rule, usize),
     /// A status that this crate does not know, with the place.
     Other(u8, usize),
@@ -83,6 +87,8 @@ pub(crate) fn error_of(status: u8, place: usize) -> Error {
         (7, None) => Error::Budget(place),
         (8, None) => Error::Column(place),
         (9, None) => Error::TooLarge,
+        (10, None) => Error::ReportTooLarge,
+        (11, None) => Error::EmptyFile,
         (other, None) => Error::Other(other, place),
     }
 }
@@ -104,11 +110,15 @@ impl Display for Error {
             Error::Parquet => f.write_str("the columns of the Parquet file are not read"),
             Error::Budget(at) => write!(
                 f,
-                "byte {at} of the message: more is to be read than eight times its bytes"
+                "byte {at}: more is to be read than eight times the bytes of the message"
             ),
             Error::Column(index) => write!(f, "column {index} has a type that no message can hold"),
             Error::TooLarge => f.write_str("the schema takes 2^31 bytes or more"),
-            Error::Broken(rule, at) => write!(f, "byte {at} of the message: {rule}"),
+            Error::ReportTooLarge => f.write_str(
+                "the report would have more than 1048576 bytes and 32 for each byte read",
+            ),
+            Error::EmptyFile => f.write_str("is empty"),
+            Error::Broken(rule, at) => write!(f, "byte {at}: {rule}"),
             Error::Other(status, place) => write!(f, "status {status} at {place}"),
         }
     }
@@ -129,5 +139,44 @@ mod tests {
         }
         assert_eq!(error_of(31, 7), Error::Other(31, 7));
         assert_eq!(error_of(15, 7), Error::Other(15, 7));
+    }
+
+    #[test]
+    fn each_other_status_has_its_words() {
+        for (status, error, text) in [
+            (2, Error::OutOfMemory, "out of memory"),
+            (
+                4,
+                Error::Limit,
+                "more than 1,000,000 lines, or a line of more than 1,048,576 bytes",
+            ),
+            (5, Error::NoField(7), "line 8 is no field"),
+            (
+                6,
+                Error::Parquet,
+                "the columns of the Parquet file are not read",
+            ),
+            (
+                7,
+                Error::Budget(7),
+                "byte 7: more is to be read than eight times the bytes of the message",
+            ),
+            (
+                8,
+                Error::Column(7),
+                "column 7 has a type that no message can hold",
+            ),
+            (9, Error::TooLarge, "the schema takes 2^31 bytes or more"),
+            (
+                10,
+                Error::ReportTooLarge,
+                "the report would have more than 1048576 bytes and 32 for each byte read",
+            ),
+            (11, Error::EmptyFile, "is empty"),
+            (12, Error::Other(12, 7), "status 12 at 7"),
+        ] {
+            assert_eq!(error_of(status, 7), error);
+            assert_eq!(error.to_string(), text);
+        }
     }
 }

@@ -2,11 +2,11 @@
 //! `include/geoarrow.h` declares, whose code is proved. `docs/FORMAT.md` has the lines, answers and reports.
 //!
 //! ```
-//! use geoarrow_checked::{answer, check, Command};
+//! use geoarrow_checked::{answer, check, Command, Options};
 //!
 //! let line = br#"{"metadata":{"ARROW:extension:name":"geoarrow.wkb"},"name":"g","nullable":true,"type":"binary"}"#;
 //! assert_eq!(answer(Command::Read, line)?, "wkb - - -");
-//! let report = check(line, false)?;
+//! let report = check(line, Options::default())?;
 //! assert!(report.contains(r#""state":"geometry","type":"wkb - -""#));
 //! # Ok::<(), geoarrow_checked::Error>(())
 //! ```
@@ -59,15 +59,29 @@ pub fn run(command: Command, input: &[u8]) -> Result<String, Error> {
     calls::run(command as u8, input).map(text)
 }
 
+/// What a report says beside what is wrong.
+#[derive(Debug, Clone, Copy, PartialEq, Eq, Hash, Default)]
+pub struct Options {
+    /// A column without an extension name is taken for what is inferred from its data type.
+    pub infer: bool,
+    /// What is only to be noted of a column is said among its warnings.
+    pub notes: bool,
+}
+
 /// The report of a file, from its bytes: a line of JSON for each of its columns, each with a line feed behind it (docs/FORMAT.md, 2.5 to
-/// 2.7). An Arrow file (Feather), an Arrow stream, a Parquet file and lines are told apart by their first bytes. With `infer`, a column
-/// without an extension name is taken for what is inferred from its data type.
+/// 2.7). An Arrow file (Feather), an Arrow stream, a Parquet file and lines are told apart by their first bytes.
 ///
 /// # Errors
 ///
-/// [`Error::NoField`], [`Error::Parquet`], [`Error::Budget`] or [`Error::Broken`] where the bytes are refused; [`Error::OutOfMemory`].
-pub fn check(bytes: &[u8], infer: bool) -> Result<String, Error> {
-    calls::check(u8::from(infer), bytes).map(text)
+/// [`Error::EmptyFile`], [`Error::NoField`], [`Error::Parquet`], [`Error::Budget`] or [`Error::Broken`] where the bytes are refused;
+/// [`Error::ReportTooLarge`]; [`Error::OutOfMemory`].
+pub fn check(bytes: &[u8], options: Options) -> Result<String, Error> {
+    calls::check(number_of(options), bytes).map(text)
+}
+
+/// The number of options (include/geoarrow.h).
+fn number_of(options: Options) -> u8 {
+    u8::from(options.infer) | u8::from(options.notes) << 1
 }
 
 /// An Arrow stream of the schema whose columns the lines denote, one a line (docs/FORMAT.md, 2.7 and 3.6). It has the schema alone: no

@@ -2,11 +2,19 @@
 mod common;
 
 use common::{read, rows, rows_of};
-use geoarrow_checked::{answer, check, run, version, write_schema, Command, Error, Rule};
+use geoarrow_checked::{answer, run, version, write_schema, Command, Error, Options, Rule};
 use std::thread;
 
 const TEXT: &str = r#"{"name":"t","nullable":true,"type":"utf8"}"#;
 const OTHER: &str = r#"{"name":"at","nullable":true,"type":{"other":"timestamp[ms]"}}"#;
+
+fn check(bytes: &[u8], infer: bool) -> Result<String, Error> {
+    let options = Options {
+        infer,
+        ..Options::default()
+    };
+    geoarrow_checked::check(bytes, options)
+}
 
 fn command_of(word: &str) -> Option<Command> {
     Some(match word {
@@ -133,6 +141,23 @@ fn reports_of_files() {
 }
 
 #[test]
+fn large_inputs() {
+    let few = [TEXT, OTHER].join("\n");
+    let lines = format!("{few}\n").repeat(20_000);
+    assert!(lines.len() > 2 << 20);
+    let report = check(lines.as_bytes(), false).unwrap();
+    assert_eq!(report.lines().count(), 40_000);
+    let last = report.lines().last().unwrap();
+    assert_eq!(
+        last,
+        r#"{"column":"at","index":39999,"state":"plain","type":"timestamp[ms]"}"#
+    );
+    let stream = write_schema(format!("{TEXT}\n").repeat(40_000).as_bytes()).unwrap();
+    assert!(stream.len() > 2 << 20);
+    assert_eq!(check(&stream, false).unwrap().lines().count(), 40_000);
+}
+
+#[test]
 fn types_that_are_inferred() {
     assert_eq!(
         check(TEXT.as_bytes(), false).unwrap(),
@@ -146,9 +171,8 @@ fn types_that_are_inferred() {
 
 #[test]
 fn refused_bytes() {
-    assert_eq!(check(b"", true).unwrap(), "");
     assert_eq!(
-        check(format!("{TEXT}\n\n").as_bytes(), false),
+        check(format!("{TEXT}\n{{}}\n").as_bytes(), false),
         Err(Error::NoField(1))
     );
     assert_eq!(check(b"PAR1", false), Err(Error::Parquet));
@@ -162,8 +186,76 @@ fn refused_bytes() {
     assert_eq!(Error::NoField(1).to_string(), "line 2 is no field");
     assert_eq!(
         Error::Broken(Rule::Offset, 0).to_string(),
-        "byte 0 of the message: an offset that leads nowhere"
+        "byte 0: an offset that leads nowhere"
     );
+}
+
+#[test]
+fn empty_input() {
+    for empty in [&b""[..], b"\n", b" \t\r\n\n  "] {
+        assert_eq!(check(empty, true), Err(Error::EmptyFile));
+    }
+    assert_eq!(
+        check(format!("\n{TEXT}\n \n").as_bytes(), false),
+        check(TEXT.as_bytes(), false)
+    );
+    assert_eq!(write_schema(b""), write_schema(b"\n"));
+}
+
+#[test]
+fn a_report_that_is_too_large() {
+    let inside = r#"{"metadata":{"ARROW:extension:name":"geoarrow.wkb"},"name":"k","nullable":true,"type":"binary"}"#;
+    let long = "a".repeat(60_000);
+    let line = format!(
+        r#"{{"name":"t","nullable":true,"type":{{"struct":[{{"name":"{long}","nullable":true,"type":{{"struct":[{}]}}}}]}}}}"#,
+        [inside; 100].join(",") // each of their warnings has the long name in its path
+    );
+    assert_eq!(check(line.as_bytes(), false), Err(Error::ReportTooLarge));
+}
+
+#[test]
+fn options_and_their_numbers() {
+    let crs = r#"{"metadata":{"ARROW:extension:metadata":"{\"crs\":{\"a\":0.5}}","ARROW:extension:name":"geoarrow.wkb"},"name":"g","nullable":true,"type":"binary"}"#;
+    for (infer, notes) in [(false, false), (true, false), (false, true), (true, true)] {
+        let report = geoarrow_checked::check(
+            format!("{TEXT}\n{crs}").as_bytes(),
+            Options { infer, notes },
+        )
+        .unwrap();
+        assert_eq!(report.contains(r#""state":"inferred""#), infer);
+        assert_eq!(report.contains(r#""code":"CrsNotWhole""#), notes);
+    }
+}
+
+#[test]
+fn an_encrypted_file() {
+    let end = [&[0; 20][..], &20_u32.to_le_bytes(), b"PARE"].concat();
+    assert_eq!(
+        check(&[b"PARE", &end[..]].concat(), false),
+        Err(Error::Parquet)
+    );
+}
+
+#[test]
+fn the_place_in_an_arrow_file() {
+    let whole = read("crates/geoarrow_check/data/file.arrow");
+    for length in 6..whole.len() {
+        assert_eq!(
+            check(&whole[..length], false),
+            Err(Error::Broken(Rule::Envelope, length.saturating_sub(10)))
+        );
+    }
+    let (mut inside, size) = (0, whole.len() - 10);
+    let footer = u32::from_le_bytes(whole[size..size + 4].try_into().unwrap()) as usize;
+    for at in size - footer..size {
+        let mut turned = whole.clone();
+        turned[at] ^= 0x81;
+        if let Err(Error::Broken(_, place) | Error::Budget(place)) = check(&turned, false) {
+            assert!((size - footer..=whole.len()).contains(&place)); // in the footer, where all of it stands
+            inside += 1;
+        }
+    }
+    assert!(inside > 50);
 }
 
 #[test]

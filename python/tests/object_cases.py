@@ -1,0 +1,192 @@
+"""What is asked of each object that gives a schema, a field or an array. Each case runs in a process of its own, whose allocator finds what is written past a
+block or used after its end: `test_objects` runs them."""
+import gc
+import unittest
+
+from geoarrow_fields import Schema, SchemaError, c_schema, lines
+
+from . import stand_ins
+from .stand_ins import FLOAT, POINT, SCHEMA, XY, Newer, Older, Other, Type
+
+
+def line(kind, name="", metadata=""):
+    return '{%s"name":"%s","nullable":true,"type":%s}' % (metadata, name, kind)
+
+
+ID = Type("l", "id")
+TEXT = Type("u", "t")
+TWO = Type("+s", "", ID, TEXT)
+TWO_LINES = [line('"int64"', "id"), line('"utf8"', "t")]
+X_AND_Y = '{"name":"x","nullable":false,"type":"float64"},{"name":"y","nullable":false,"type":"float64"}'
+OF_POINT = '"metadata":{"ARROW:extension:name":"geoarrow.point"},'
+DICTIONARY = Type("i", "", dictionary=Type("u"))
+DICTIONARY_LINE = line('{"other":"dictionary<values=utf8, indices=int32, ordered=0>"}')
+
+
+class Cases(unittest.TestCase):
+    def tearDown(self):
+        """What was made is released, each once, and nothing of ours is held."""
+        gc.collect()
+        c_schema.sweep()
+        self.assertEqual(stand_ins.released, stand_ins.made)
+        self.assertEqual(c_schema.held_count(), 0)
+
+    def refused(self, given, error, message):
+        with self.assertRaisesRegex(error, message) as caught:
+            lines(given)
+        self.assertIs(type(caught.exception), error)
+
+    # --- schemas ---
+
+    def test_schemas(self):
+        for given in (Newer.Schema(TWO), Older.Schema(TWO), Other.Schema(TWO)):
+            self.assertEqual(lines(given), TWO_LINES)
+
+    def test_schemas_without_columns(self):
+        for given in (Newer.Schema(Type("+s")), Older.Schema(Type("+s")), Other.Stream(Type("+s", "result"))):
+            self.assertEqual(lines(given), [])
+
+    def test_a_schema_without_a_name_at_all(self):
+        self.assertEqual(lines(Other.Schema(Type("+s", None, ID))), TWO_LINES[:1])
+
+    # --- batches, tables, readers ---
+
+    def test_record_batches(self):
+        self.assertEqual(lines(Newer.RecordBatch(TWO)), TWO_LINES)
+
+    def test_older_record_batches(self):
+        self.assertEqual(lines(Older.RecordBatch(TWO)), TWO_LINES)
+
+    def test_readers(self):
+        self.assertEqual(lines(Newer.RecordBatchReader(TWO)), TWO_LINES)
+
+    def test_older_readers(self):
+        self.assertEqual(lines(Older.RecordBatchReader(TWO)), TWO_LINES)
+
+    def test_tables_and_datasets(self):
+        for given in (Newer.Table(TWO), Older.Table(TWO), Newer.Dataset(TWO)):
+            self.assertEqual(lines(given), TWO_LINES)
+
+    def test_a_stream_whose_rows_have_a_name(self):
+        self.assertEqual(lines(Other.Stream(Type("+s", "query_result", ID, TEXT))), TWO_LINES)
+
+    def test_a_stream_of_a_column(self):
+        self.assertEqual(lines(Newer.ChunkedArray(Type("g"))), [line('"float64"')])
+        self.assertEqual(lines(Newer.ChunkedArray(Type("+s", "", *XY, metadata=POINT))), [line('{"struct":[%s]}' % X_AND_Y, metadata=OF_POINT)])
+
+    def test_a_stream_that_fails(self):
+        class Stream:
+            def __arrow_c_stream__(self, requested_schema=None):
+                return stand_ins.capsule(stand_ins.STREAM, stand_ins.stream_bytes(TWO, 5))
+
+        self.refused(Stream(), SchemaError, "gives no schema: error 5")
+
+    # --- fields and data types ---
+
+    def test_fields(self):
+        for kind, text in (
+                (Type("g", "f"), line('"float64"', "f")), (Type("z", "f", metadata=POINT), line('"binary"', "f", OF_POINT)),
+                (Type("+w:2", "f", FLOAT), line('{"fixed_size_list":{"name":"xy","nullable":false,"type":"float64"},"size":2}', "f")),
+                (Type("+s", "f", *XY), line('{"struct":[%s]}' % X_AND_Y, "f")), (Type("+s", "f"), line('{"struct":[]}', "f")),
+                (Type("+s", "f", *XY, metadata=POINT), line('{"struct":[%s]}' % X_AND_Y, "f", OF_POINT)),
+                (Type("+s", "", *XY, metadata=POINT), line('{"struct":[%s]}' % X_AND_Y, "", OF_POINT))):
+            for of in (Newer.Field, Older.Field, Other.Schema):
+                with self.subTest(text=text, of=of):
+                    self.assertEqual(lines(of(kind)), [text])
+
+    def test_data_types(self):
+        for of in (Newer.DataType, Older.DataType, stand_ins.OfAnExtension):
+            self.assertEqual(lines(of(Type("g"))), [line('"float64"')])
+            self.assertEqual(lines(of(DICTIONARY)), [DICTIONARY_LINE])
+        self.assertEqual(lines(Newer.StructType(TWO)), TWO_LINES)  # as a schema
+
+    # --- arrays ---
+
+    def test_arrays(self):
+        for of in (Newer.Array, Other.Array):
+            self.assertEqual(lines(of(Type("g"))), [line('"float64"')])
+            self.assertEqual(lines(of(Type("+s", "", *XY, metadata=POINT))), [line('{"struct":[%s]}' % X_AND_Y, metadata=OF_POINT)])
+        self.assertEqual(lines(Other.Array(TWO)), TWO_LINES)
+
+    def test_dictionary_arrays(self):
+        self.assertEqual(lines(Newer.DictionaryArray(DICTIONARY)), [DICTIONARY_LINE])
+
+    def test_older_arrays(self):
+        self.refused(Older.Array(Type("g")), TypeError, "^Array gives no Arrow schema$")
+
+    def test_older_dictionary_arrays(self):
+        self.refused(Older.DictionaryArray(DICTIONARY), TypeError, "^DictionaryArray gives no Arrow schema$")
+
+    def test_an_array_whose_schema_is_wrong(self):
+        self.refused(Other.Array(Type("nonsense")), SchemaError, "unknown format nonsense")
+
+    def test_an_export_of_that_name_that_is_not_of_pyarrow(self):
+        self.refused(Other.Exporter(TWO), TypeError, "gives no Arrow schema")
+
+    def test_pairs_that_are_none(self):
+        for pair in (None, (), (1,), "ab", (1, 2), [1, 2]):
+            self.refused(type("Array", (), {"__arrow_c_array__": lambda self: pair})(), SchemaError, "no pair|no capsule")
+
+    # --- none of these ---
+
+    def test_integers_are_no_addresses(self):
+        for given in (3, 0, -1, True, 2**70):
+            self.refused(given, TypeError, "gives no Arrow schema")
+
+    def test_objects_that_give_no_schema(self):
+        class OfAText:
+            schema = "a text"
+
+        class OfItself:
+            @property
+            def schema(self):
+                return self
+
+        for given in (None, object(), 1.5, "", b"", [], {"a": 1}, OfAText(), OfItself(), Newer.Schema, lambda: 1):
+            with self.assertRaises(TypeError):
+                lines(given)
+
+    def test_capsules_that_are_none(self):
+        class Gives:
+            def __init__(self, found):
+                self.found = found
+
+            def __arrow_c_schema__(self):
+                return self.found
+
+        for found in (None, 3, "a text", stand_ins.capsule(SCHEMA, bytes(SCHEMA), stand_ins.ARRAY)):
+            self.refused(Gives(found), SchemaError, "no capsule of the name arrow_schema")
+        self.refused(Gives(stand_ins.capsule(SCHEMA, bytes(SCHEMA))), SchemaError, "released before")
+
+    # --- what the package gives out ---
+
+    def test_what_is_given_out_and_taken(self):
+        schema = Schema(TWO_LINES)
+        for _ in range(1000):
+            self.assertEqual(lines(schema), TWO_LINES)
+            self.assertEqual(c_schema.held_count(), 0)
+        self.assertLessEqual(len(c_schema._given), 1)
+
+    def test_what_is_given_out_and_dropped(self):
+        schema = Schema(TWO_LINES)
+        for _ in range(1000):
+            schema.__arrow_c_schema__()
+            self.assertLessEqual(c_schema.held_count(), 3)  # the last one
+        del schema
+        self.assertEqual((c_schema.held_count(), len(c_schema._given)), (0, 0))
+
+    def test_what_others_hold(self):
+        held = [Schema(TWO_LINES).__arrow_c_schema__() for _ in range(1000)]
+        self.assertEqual(c_schema.held_count(), 3000)
+        for one in held[::2]:
+            self.assertEqual(lines(type("Gives", (), {"__arrow_c_schema__": lambda self: one})()), TWO_LINES)
+        self.assertEqual(c_schema.held_count(), 1500)
+        del held, one
+        for _ in range(1000 // 16 + 2):
+            c_schema.sweep()
+        self.assertEqual((c_schema.held_count(), len(c_schema._given)), (0, 0))
+
+    def test_a_consumer_that_fails(self):
+        for _ in range(100):
+            with self.assertRaises(TypeError):
+                int(Schema(TWO_LINES).__arrow_c_schema__())  # the capsule is dropped under the exception

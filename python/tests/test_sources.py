@@ -1,0 +1,250 @@
+"""Tests of sources: which bytes of each kind are given to the library, and what is no source. They need no library."""
+import array
+import io
+import mmap
+import os
+import pathlib
+import tempfile
+import threading
+import unittest
+
+from geoarrow_fields import Schema, SchemaError, canon, check, read, sources, write_schema
+from geoarrow_fields.sources import given_of
+
+from .shared import DATA, POINT, TEXT
+
+LINES = f"{TEXT}\n{POINT}\n".encode()
+MESSAGE = b"\xff\xff\xff\xff" + (24).to_bytes(4, "little") + bytes(range(24))
+
+
+def arrow_file(footer, before=b""):
+    return b"ARROW1\0\0" + before + footer + len(footer).to_bytes(4, "little") + b"ARROW1"
+
+
+def parquet_file(footer, before=b"", magic=b"PAR1"):
+    return magic + before + footer + len(footer).to_bytes(4, "little") + magic
+
+
+class InAFolder(unittest.TestCase):
+    def setUp(self):
+        there = tempfile.TemporaryDirectory()
+        self.addCleanup(there.cleanup)
+        self.path = pathlib.Path(there.name, "file")
+
+    def file(self, found):
+        self.path.write_bytes(found)
+        return self.path
+
+
+class ReadsAlone:
+    """An object with `read` and nothing else, as of a network; it may give fewer bytes than it is asked for."""
+
+    def __init__(self, found, most=5):
+        self.file, self.most = io.BytesIO(found), most
+
+    def read(self, size=-1):
+        return self.file.read(size if size < 0 else min(size, self.most))
+
+
+class SeeksToo(ReadsAlone):
+    """One with `seek` and `tell` too, as mmap before Python 3.13."""
+
+    def seek(self, place, whence=0):
+        self.file.seek(place, whence)
+
+    def tell(self):
+        return self.file.tell()
+
+
+# Each content, what is given to the library of it, and how many bytes are left out.
+LARGE = bytes(3_000_000)
+CONTENTS = {
+    "empty": (b"", b"", 0),
+    "short": (b"{}", b"{}", 0),
+    "lines": (LINES, LINES, 0),
+    "large lines": (LINES * 20_000, LINES * 20_000, 0),
+    "stream": (MESSAGE, MESSAGE, 0),
+    "stream and batches": (MESSAGE + LARGE, MESSAGE, 0),
+    "stream that is cut": (MESSAGE[:-1], MESSAGE[:-1], 0),
+    "stream that tells a size of 4 GiB": (b"\xff" * 8 + b"rest", b"\xff" * 8 + b"rest", 0),
+    "large message": (b"\xff" * 4 + len(LARGE).to_bytes(4, "little") + LARGE + b"rest", b"\xff" * 4 + len(LARGE).to_bytes(4, "little") + LARGE, 0),
+    "Arrow file": (arrow_file(b"footer"), arrow_file(b"footer"), 0),
+    "large Arrow file": (arrow_file(b"footer", LARGE), arrow_file(b"footer"), len(LARGE)),
+    "Arrow file with a footer of 3 MB": (arrow_file(LARGE, b"12345"), arrow_file(LARGE), 5),
+    "Arrow file with a footer that is too large": (b"ARROW1\0\0" + b"f" * 100 + b"\xff\xff\xff\x7fARROW1", b"ARROW1\0\0\xff\xff\xff\x7fARROW1", 100),
+    "Parquet file": (parquet_file(b"footer", b"12345678"), b"PAR11234" + parquet_file(b"footer")[4:], 4),
+    "encrypted Parquet file": (parquet_file(b"footer", LARGE, b"PARE"), b"PARE\0\0\0\0" + parquet_file(b"footer", b"", b"PARE")[4:], len(LARGE) - 4),
+}
+
+
+class Files(InAFolder):
+    def judge(self, name, found, content, seeks=True):
+        """What is given for a source: of one that cannot seek, the whole, but for what stands behind a message."""
+        whole, wanted, left_out = CONTENTS[name]
+        if not seeks and left_out:
+            wanted, left_out = whole, 0
+        self.assertEqual((found.content == wanted, found.left_out, found.is_schema), (True, left_out, False), content)
+
+    def test_paths(self):
+        for name, (whole, _, _) in CONTENTS.items():
+            path = self.file(whole)
+            for given in (path, str(path)):
+                self.judge(name, given_of(given), name)
+        with self.assertRaises(FileNotFoundError):
+            check(TEXT)  # a str is a path
+        with self.assertRaises(IsADirectoryError):
+            check(DATA)
+
+    def test_files_that_are_open(self):
+        for name, (whole, _, _) in CONTENTS.items():
+            path = self.file(whole)
+            for buffering in (-1, 0):
+                with open(path, "rb", buffering) as file:
+                    for place in (0, min(3, len(whole)), len(whole)):  # wherever it stands
+                        file.seek(place)
+                        self.judge(name, given_of(file), name)
+                        self.assertEqual(file.tell(), place)
+                    self.assertFalse(file.closed)
+
+    def test_other_objects_that_read(self):
+        for name, (whole, _, _) in CONTENTS.items():
+            with self.subTest(name):
+                buffer = io.BytesIO(whole)
+                buffer.seek(0, os.SEEK_END)
+                self.judge(name, given_of(buffer), name)
+                self.assertEqual(buffer.tell(), len(whole))
+                for most in (1 << 30, 5 if len(whole) < 10_000 else 1 << 20):
+                    self.judge(name, given_of(SeeksToo(whole, most)), name)
+                    self.judge(name, given_of(ReadsAlone(whole, most)), name, seeks=False)
+                with tempfile.SpooledTemporaryFile() as file:
+                    file.write(whole)
+                    self.judge(name, given_of(file), name)
+                if whole:
+                    with open(self.file(whole), "rb") as file, mmap.mmap(file.fileno(), 0, access=mmap.ACCESS_READ) as mapped:
+                        mapped.seek(1)
+                        self.judge(name, given_of(mapped), name)
+                        self.assertEqual(mapped.tell(), 1)
+
+    def test_a_reader_that_cannot_seek_is_read_from_where_it_stands(self):
+        reader = ReadsAlone(b"passed" + LINES, 1 << 20)
+        reader.read(6)
+        self.assertEqual(given_of(reader).content, LINES)
+        self.assertEqual(reader.read(), b"")
+
+    @unittest.skipUnless(hasattr(os, "mkfifo"), "there are no FIFOs")
+    def test_a_path_that_is_a_fifo(self):
+        os.mkfifo(self.path)
+        for name, (whole, _, _) in CONTENTS.items():
+            for is_open in (False, True):
+                def write():
+                    try:
+                        with open(self.path, "wb") as fifo:
+                            fifo.write(whole)
+                    except BrokenPipeError:
+                        pass  # (of a stream the first message is read)
+
+                writer = threading.Thread(target=write, daemon=True)
+                writer.start()
+                if is_open:
+                    with open(self.path, "rb") as file:
+                        found = given_of(file)
+                else:
+                    found = given_of(self.path)
+                writer.join()
+                self.judge(name, found, name, seeks=False)
+
+    def test_a_size_that_is_told_is_not_believed(self):
+        asked = []
+
+        class Told(ReadsAlone):
+            def read(self, size=-1):
+                asked.append(size)
+                return super().read(size)
+
+        given_of(Told(b"\xff" * 8 + b"rest"))
+        self.assertLessEqual(max(asked), sources._AT_ONCE)
+
+    def test_files_of_text(self):
+        with open(self.file(LINES), encoding="utf-8") as file:
+            file.read(3)
+            for source in (file, io.StringIO(TEXT)):
+                with self.assertRaisesRegex(TypeError, "a file whose read gives str is no source: it is to be open in binary mode"):
+                    check(source)
+        nothing = type("Waits", (), {"read": lambda self, size=-1: None})()
+        with self.assertRaisesRegex(TypeError, "read gives NoneType"):
+            check(nothing)
+
+    def test_a_file_that_fails_stands_where_it_stood(self):
+        class Fails(io.BytesIO):
+            def read(self, size=-1):
+                if self.tell() > 20:
+                    raise OSError("no more")
+                return super().read(size)
+
+        file = Fails(arrow_file(b"f" * 100, LARGE))
+        file.seek(7)
+        with self.assertRaisesRegex(OSError, "no more"):
+            check(file)
+        self.assertEqual(file.tell(), 7)
+
+
+class Buffers(unittest.TestCase):
+    def test_buffers(self):
+        every_other = memoryview(b"".join(bytes([one, 0]) for one in LINES))[::2]
+        for source in (LINES, bytearray(LINES), memoryview(LINES), every_other, array.array("B", LINES), (type("Bytes", (bytes,), {})(LINES))):
+            self.assertEqual(given_of(source), (LINES, 0, False))
+        whole = arrow_file(b"footer", b"12345")
+        self.assertEqual(given_of(whole), (whole, 0, False))
+
+    def test_a_buffer_that_is_not_contiguous(self):
+        class Strided:  # (as an array of numpy; in Python itself a class may give a buffer from 3.12 on)
+            def __buffer__(self, flags):
+                return memoryview(b"abcd")[::2]
+
+        with self.assertRaises(TypeError):
+            given_of(Strided())
+
+
+class Lines(unittest.TestCase):
+    def test_lines(self):
+        for source in ([TEXT, POINT], (TEXT.encode(), POINT), [bytearray(TEXT.encode()), memoryview(POINT.encode())], Schema(LINES.decode())):
+            found = given_of(source)
+            self.assertEqual((found.content, found.is_schema), (LINES, True))
+
+    def test_no_lines_are_no_columns(self):
+        for source in ([], (), Schema([])):
+            found = check(source, infer=True, strict=True)
+            self.assertEqual((found, found.checks, found.warnings), ([], (), ()))
+            self.assertEqual(repr(found), "column  holds  CRS  edges")
+
+    def test_what_is_no_line(self):
+        for line in (3, 10**9, None, 1.5, {"name": "t"}, [TEXT], object(), array.array("B", b"{}")):
+            for call in (read, canon, lambda one: check([one]), lambda one: write_schema([one])):
+                with self.assertRaisesRegex(TypeError, f"a line is a str or bytes, not {type(line).__name__}"):
+                    call(line)
+
+
+class Others(unittest.TestCase):
+    def test_what_is_no_source(self):
+        for source in (3, 0, -1, True, None, 1.5, {}, {TEXT}, object(), iter([TEXT]), (line for line in [TEXT]), str, Schema):
+            with self.subTest(source):
+                with self.assertRaises(TypeError):
+                    check(source)
+        with self.assertRaisesRegex(TypeError, "^int is no source: a path, bytes, a list of lines, a binary file that is open, or an object that gives an Arrow schema$"):
+            check(3)
+
+    def test_a_schema_that_is_wrong(self):
+        wrong = type("Wrong", (), {"__arrow_c_schema__": lambda self: None})()
+        with self.assertRaises(SchemaError):
+            check(wrong)
+
+    def test_an_object_that_reads_and_gives_a_schema(self):
+        class Reader(Schema):
+            def read(self, size=-1):
+                raise AssertionError("it is not read")
+
+        self.assertTrue(given_of(Reader([TEXT])).is_schema)
+
+
+if __name__ == "__main__":
+    unittest.main()
