@@ -1,8 +1,10 @@
 //! The columns of lines, and the bytes of a schema, from sources that are slow, that fail, that signals interrupt and that do not seek.
 use crate::reading::{OneByte, Repeated};
+use arrow_columns::Column;
+use arrow_ipc::IpcError;
 use column_files::{
-    FileFault, Form, LineColumns, LineFault, MAX_LINE_BYTES, ReadFault, column_line, form_of,
-    read_head, read_schema_bytes, read_schema_end,
+    FileEnd, FileFault, Form, LineColumns, LineFault, MAX_LINE_BYTES, ReadFault, column_line,
+    columns_of, columns_of_end, form_of, read_head, read_schema_bytes, read_schema_end,
 };
 use std::alloc::{AllocError, Global};
 use std::io;
@@ -119,10 +121,38 @@ fn of_lines_give_columns_in_order(rt: HostRuntime) -> Result<(), Fail> {
             "one byte a call"
         );
     }
-    assert!(rt;
-        are_columns(alloc, Vec::new(alloc), b"".as_slice(), b"")?,
-        "nothing"
-    );
+    Ok(())
+}
+
+/// Lines that end in a fault, and it: without a column, blank lines alone or none; or behind blank lines, which count.
+const FAULTY: &[(&[u8], FileFault)] = &[
+    (b"", FileFault::Empty),
+    (b" \n\t\r\n\n \t", FileFault::Empty),
+    (b"\n \r\n[]\n", FileFault::NoField(2, LineFault::NotObject)),
+    (
+        b"\n{\"name\":\"c\",\"nullable\":false,\"type\":\"null\"}\n\t\n\n{}",
+        FileFault::NoField(4, LineFault::Name),
+    ),
+    (b"\n\x0c\n", FileFault::NoField(1, LineFault::NotJson(1))),
+];
+
+/// Whether the columns of a source end in that fault.
+fn end_in<R: Read + Drop>(alloc: Global, source: R, wanted: FileFault) -> Result<bool, AllocError> {
+    let found = ManuallyDrop::new(columns_of_source(alloc, Vec::new(alloc), source)?);
+    let wanted = ManuallyDrop::new(ReadFault::File(wanted));
+    is_same(alloc, &found.1, &wanted)
+}
+
+#[test]
+fn of_lines_count_blank_ones(rt: HostRuntime) -> Result<(), Fail> {
+    let alloc = rt.alloc();
+    for &(text, fault) in FAULTY.iter() {
+        assert!(rt; end_in(alloc, text, fault)?, "{fault:?} at once");
+        assert!(rt;
+            end_in(alloc, OneByte::new(text), fault)?,
+            "{fault:?} slowly"
+        );
+    }
     Ok(())
 }
 
@@ -139,6 +169,31 @@ fn begin_with_head(alloc: Global) -> Result<bool, AllocError> {
 #[test]
 fn of_lines_begin_with_their_head(rt: HostRuntime) -> Result<(), Fail> {
     assert!(rt; begin_with_head(rt.alloc())?);
+    Ok(())
+}
+
+/// The lines of `LINES` with blank ones before, between and behind them.
+const SPACED: &[u8] =
+    b"\n \t\r\n{\"name\":\"a\",\"nullable\":true,\"type\":\"binary\"}\n\n\r\n{\"name\":\"b\",\"nullable\":true,\"type\":{\"other\":\"time32[s]\"}}\n  \n{\"name\":\"c\",\"nullable\":false,\"type\":\"null\"}\r\n\n\t";
+
+/// Whether a read that fails once at a call over lines gives the columns of `LINES` in two parts, between which it fails.
+fn stumbles_over(alloc: Global, lines: &[u8], call: usize) -> Result<bool, AllocError> {
+    let source = Stumbling::new(lines, call, ErrorKind::Other);
+    let mut lines = ManuallyDrop::new(LineColumns::new(alloc, Vec::new(alloc), source));
+    let mut text = ManuallyDrop::new(Vec::new(alloc));
+    let fault = ManuallyDrop::new(add_columns(alloc, &mut lines, &mut text)?);
+    let is_input = matches!(&*fault, Some(ReadFault::Input(_)));
+    let fault = ManuallyDrop::new(add_columns(alloc, &mut lines, &mut text)?);
+    Ok(is_input && text.as_slice() == LINES && fault.is_none())
+}
+
+#[test]
+fn of_spaced_lines_fail_at_each_call(rt: HostRuntime) -> Result<(), Fail> {
+    let alloc = rt.alloc();
+    assert!(rt; are_columns(alloc, Vec::new(alloc), SPACED, LINES)?);
+    for call in 0..SPACED.len() + 1 {
+        assert!(rt; stumbles_over(alloc, SPACED, call)?, "at {call}");
+    }
     Ok(())
 }
 
@@ -236,12 +291,29 @@ fn is_limited(alloc: Global, end: &[u8]) -> Result<bool, AllocError> {
     Ok(is_read && is_too_long(alloc, longer.as_slice())?)
 }
 
-/// As many bytes as a line may have, at the end and before a line feed; one more; and a line without an end.
+/// The first column, and behind it a blank line of so many bytes.
+fn blank(alloc: Global, len: usize) -> Result<Vec<u8>, AllocError> {
+    let mut text = Vec::new(alloc);
+    text.extend_from_slice(&LINES[..FIRST])?;
+    text.resize(FIRST.saturating_add(len), b' ')?;
+    Ok(text)
+}
+
+/// Whether a blank line may have as many bytes as a line may have, and not one more.
+fn is_blank_limited(alloc: Global) -> Result<bool, AllocError> {
+    let longest = ManuallyDrop::new(blank(alloc, MAX_LINE_BYTES)?);
+    let longer = ManuallyDrop::new(blank(alloc, MAX_LINE_BYTES + 1)?);
+    let is_read = are_columns(alloc, Vec::new(alloc), longest.as_slice(), &LINES[..FIRST])?;
+    Ok(is_read && is_too_long(alloc, longer.as_slice())?)
+}
+
+/// As many bytes as a line may have, at the end and before a line feed; one more; a blank line alike; and a line without an end.
 #[test]
 fn of_lines_are_limited(rt: HostRuntime) -> Result<(), Fail> {
     for &end in [b"".as_slice(), b"\n"].iter() {
         assert!(rt; is_limited(rt.alloc(), end)?, "before {end:?}");
     }
+    assert!(rt; is_blank_limited(rt.alloc())?, "blank");
     let endless = LINES[..FIRST].chain(Repeated { left: usize::MAX });
     assert!(rt; is_too_long(rt.alloc(), endless)?, "no end");
     Ok(())
@@ -281,7 +353,7 @@ fn read_end<S: Read + Seek>(
     alloc: Global,
     form: Form,
     source: &mut S,
-) -> Result<Vec<u8>, ReadFault> {
+) -> Result<FileEnd, ReadFault> {
     let head = read_head(alloc, source)?;
     read_schema_end(alloc, form, head, source)
 }
@@ -294,16 +366,28 @@ fn are_read(read: Result<Vec<u8>, ReadFault>, wanted: &[u8]) -> bool {
     }
 }
 
+/// Whether these bytes were read of an end, before which so many stand.
+fn is_end(read: Result<FileEnd, ReadFault>, start: usize, wanted: &[u8]) -> bool {
+    match &*ManuallyDrop::new(read) {
+        Ok(end) => end.start == start as u64 && end.bytes.as_slice() == wanted,
+        Err(_) => false,
+    }
+}
+
 /// Whether the last bytes of a source are read where it seeks, and the first ones where it does not, at once, slowly or in a pipe.
 fn are_given(alloc: Global, form: Form, bytes: &[u8], front: &[u8], end: &[u8]) -> bool {
+    let start = match form {
+        Form::ArrowFile | Form::Parquet => bytes.len() - end.len(),
+        Form::ArrowStream | Form::Lines => 0,
+    };
     let mut whole = bytes;
     let mut slow = OneByte::new(bytes);
     let mut seeking = Cursor::new(bytes);
     let mut piped = Stumbling::new(bytes, usize::MAX, ErrorKind::Other);
     are_read(read_whole(alloc, form, &mut whole), front)
         && are_read(read_whole(alloc, form, &mut slow), front)
-        && are_read(read_end(alloc, form, &mut seeking), end)
-        && are_read(read_end(alloc, form, &mut piped), front)
+        && is_end(read_end(alloc, form, &mut seeking), start, end)
+        && is_end(read_end(alloc, form, &mut piped), 0, front)
 }
 
 #[test]
@@ -339,6 +423,48 @@ fn of_schemas_fail_at_each_call(rt: HostRuntime) -> Result<(), Fail> {
                 "{form:?} at {call}"
             );
         }
+    }
+    Ok(())
+}
+
+/// Arrow files with a fault, and the byte at which it is: an offset that leads nowhere, the place of a table, no magic, sizes of 0 and of more than there is.
+const ARROW_FILES: &[(&[u8], usize)] = &[
+    (b"ARROW1\0\0blocks..\xff\0\0\0rest\x08\0\0\0ARROW1", 16),
+    (b"ARROW1\0\0blocks..\x08\0\0\0rest\x08\0\0\0ARROW1", 24),
+    (b"ARROW1\0\0blocks..rest\x04\0\0\0ARROW2", 20),
+    (b"ARROW1\0\0blocks..rest\0\0\0\0ARROW1", 20),
+    (b"ARROW1\0\0blocks..rest\x15\0\0\0ARROW1", 20),
+    (b"ARROW1\0\0", 0),
+];
+
+/// Whether columns are refused at a byte.
+fn are_refused_at(read: Result<Vec<Column>, FileFault>, at: usize) -> bool {
+    match &*ManuallyDrop::new(read) {
+        Err(FileFault::Ipc(IpcError::Broken(fault))) => fault.at == at,
+        _ => false,
+    }
+}
+
+/// Whether the end of an Arrow file is refused at that byte of the file.
+fn is_end_refused_at(alloc: Global, bytes: &[u8], at: usize) -> bool {
+    let mut source = Cursor::new(bytes);
+    match &*ManuallyDrop::new(read_end(alloc, Form::ArrowFile, &mut source)) {
+        Ok(end) => {
+            let end_bytes = end.bytes.as_slice();
+            let read = columns_of_end(alloc, Form::ArrowFile, end.start, end_bytes);
+            are_refused_at(read, at)
+        }
+        Err(_) => false,
+    }
+}
+
+#[test]
+fn of_arrow_files_name_the_byte_of_the_file(rt: HostRuntime) -> Result<(), Fail> {
+    let alloc = rt.alloc();
+    for &(bytes, at) in ARROW_FILES.iter() {
+        let whole = columns_of(alloc, Form::ArrowFile, bytes);
+        assert!(rt; are_refused_at(whole, at), "whole, at {at}");
+        assert!(rt; is_end_refused_at(alloc, bytes, at), "by the end, at {at}");
     }
     Ok(())
 }
