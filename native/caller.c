@@ -1,9 +1,10 @@
 /* A caller of geoarrow.h, which native/test compiles: caller answers|faults|threads|stack|leaks < REQUESTS
  *
  * A request is a byte for the call (0 geoarrow_answer, 1 geoarrow_run, 2 geoarrow_check, 3 geoarrow_write_schema), one for the number that
- * the call takes, if it does, the length of its bytes in four bytes, the lowest first, and the bytes.
+ * the call takes, if it does, the length of its bytes in four bytes, the lowest first, and the bytes. A command, options and a status are
+ * told by their place in the lists of the header's names below; a number past a list is sent as it is.
  *   answers  calls with room, with each size of buffer that is too small (of long texts some), and between guards; writes for each
- *            request its status in a byte, `*len` in eight, and the text
+ *            request its status in a byte (255 for a number that the header does not name), `*len` in eight, and the text
  *   faults   over the library of bin/faults: each request for memory refused, one at a time
  *   threads  all calls from eight threads at once
  *   stack    all calls from a thread with GEOARROW_STACK bytes of stack
@@ -37,6 +38,28 @@ static uint8_t write_schema(uint8_t number, const uint8_t *lines, size_t lines_l
 }
 
 static const call_t CALLS[] = {geoarrow_answer, geoarrow_run, geoarrow_check, write_schema};
+
+/* The numbers of the header by their names, in the order of native/test. */
+static const uint8_t COMMANDS[] = {GEOARROW_READ, GEOARROW_INFER, GEOARROW_CANON, GEOARROW_COLUMNS};
+static const uint8_t OPTIONS[] = {0, GEOARROW_INFER_TYPES, GEOARROW_NOTES, GEOARROW_INFER_TYPES | GEOARROW_NOTES};
+static const uint8_t STATUSES[] = {
+    GEOARROW_DONE, GEOARROW_SHORT, GEOARROW_MEMORY, GEOARROW_UNKNOWN, GEOARROW_LIMIT, GEOARROW_NO_FIELD, GEOARROW_PARQUET, GEOARROW_BUDGET,
+    GEOARROW_COLUMN, GEOARROW_TOO_LARGE, GEOARROW_REPORT_TOO_LARGE, GEOARROW_EMPTY, GEOARROW_RULE_ENVELOPE, GEOARROW_RULE_NUMBER,
+    GEOARROW_RULE_OFFSET, GEOARROW_RULE_VTABLE, GEOARROW_RULE_SLOT, GEOARROW_RULE_TEXT, GEOARROW_RULE_UTF8, GEOARROW_RULE_VECTOR,
+    GEOARROW_RULE_MISSING, GEOARROW_RULE_MESSAGE, GEOARROW_RULE_TAG, GEOARROW_RULE_PARAMETER, GEOARROW_RULE_CHILDREN, GEOARROW_RULE_TYPE_IDS,
+    GEOARROW_RULE_DEPTH};
+
+static uint8_t number_of(size_t call, uint8_t place) {
+    const uint8_t *list = call < 2 ? COMMANDS : OPTIONS;
+    return call < 3 && place < 4 ? list[place] : place;
+}
+
+static int place_of(uint8_t status) {
+    for (size_t i = 0; i < sizeof STATUSES; i++) {
+        if (STATUSES[i] == status) return (int)i;
+    }
+    return 255;
+}
 
 static request_t *requests;
 static size_t count, passed, failed;
@@ -98,7 +121,7 @@ static void answers(request_t *of) {
     for (size_t size = 0; size < least; size = size + step < least ? size + step : size + 1 < least ? least - 1 : least) {
         judge(is_kept(of, size, &status, &len) && status == GEOARROW_SHORT && len == of->len, of, "a buffer that is too small");
     }
-    fputc(of->status, stdout);
+    fputc(place_of(of->status), stdout);
     for (int i = 0; i < 8; i++) fputc((int)((of->len >> (8 * i)) & 255), stdout);
     if (of->status == GEOARROW_DONE) fwrite(of->text, 1, of->len, stdout);
 }
@@ -165,7 +188,7 @@ static void read_requests(void) {
         if (count == room) requests = realloc(requests, (room = 2 * room + 64) * sizeof *requests);
         request_t *of = &requests[count++];
         of->call = CALLS[head[0]];
-        of->number = head[1];
+        of->number = number_of(head[0], head[1]);
         of->size = head[2] | (size_t)head[3] << 8 | (size_t)head[4] << 16 | (size_t)head[5] << 24;
         of->bytes = room_for(of->size);
         if (fread(of->bytes, 1, of->size, stdin) != of->size) exit(5);
