@@ -437,7 +437,7 @@ Words that are answered at once
 
 Words that are refused
 
-  $ for word in --jsno --line --infre --all-check --quite --require-geometri --expct --hlep --versoin
+  $ for word in --jsno --line --infre --all-check --quite --require-geometri --expct --hlep --versoin --note -q -json
   > do
   >     geoarrow_check $word x 2>&1 | head -n 1
   > done
@@ -450,6 +450,15 @@ Words that are refused
   geoarrow_check: --expct is unknown; --expect is near it
   geoarrow_check: --hlep is unknown; --help is near it
   geoarrow_check: --versoin is unknown; --version is near it
+  geoarrow_check: --note is unknown; --notes is near it
+  geoarrow_check: -q is unknown; -h is near it
+  geoarrow_check: -json is unknown; --json is near it
+
+A file whose name begins with a hyphen
+
+  $ cd "$TMPDIR" && echo '{"name":"a","nullable":true,"type":"null"}' > -f && geoarrow_check ./-f
+  column  holds  CRS  edges
+  a       null
 
   $ geoarrow_check --line x 2> /dev/null
   [2]
