@@ -435,6 +435,12 @@ Words that are answered at once
 
   $ geoarrow_check -h > "$TMPDIR/h" && geoarrow_check --help | cmp - "$TMPDIR/h"
 
+A file whose name begins with a hyphen
+
+  $ cd "$TMPDIR" && echo '{"name":"a","nullable":true,"type":"null"}' > -f && geoarrow_check ./-f
+  column  holds  CRS  edges
+  a       null
+
 Words that are refused
 
   $ for word in --jsno --line --infre --all-check --quite --require-geometri --expct --hlep --versoin --note -q -json
@@ -453,12 +459,6 @@ Words that are refused
   geoarrow_check: --note is unknown; --notes is near it
   geoarrow_check: -q is unknown; -h is near it
   geoarrow_check: -json is unknown; --json is near it
-
-A file whose name begins with a hyphen
-
-  $ cd "$TMPDIR" && echo '{"name":"a","nullable":true,"type":"null"}' > -f && geoarrow_check ./-f
-  column  holds  CRS  edges
-  a       null
 
   $ geoarrow_check --line x 2> /dev/null
   [2]
