@@ -377,7 +377,7 @@ fn is_end(read: Result<FileEnd, ReadFault>, start: usize, wanted: &[u8]) -> bool
 /// Whether the last bytes of a source are read where it seeks, and the first ones where it does not, at once, slowly or in a pipe.
 fn are_given(alloc: Global, form: Form, bytes: &[u8], front: &[u8], end: &[u8]) -> bool {
     let start = match form {
-        Form::ArrowFile | Form::Parquet => bytes.len() - end.len(),
+        Form::ArrowFile | Form::Parquet => bytes.len().saturating_sub(end.len()),
         Form::ArrowStream | Form::Lines => 0,
     };
     let mut whole = bytes;
