@@ -195,8 +195,9 @@ class Refusals(unittest.TestCase):
         inside = ",".join(['{"metadata":{"ARROW:extension:name":"geoarrow.wkb"},"name":"k","nullable":true,"type":"binary"}'] * 100)
         struct = '{"struct":[{"name":"%s","nullable":true,"type":{"struct":[%s]}}]}' % (long, inside)
         line = TEXT.replace('"utf8"', struct)  # each of its hundred warnings has the long name in its path
-        wanted = ("ReportTooLarge", 0, "the report would have more than 1048576 bytes and 32 for each byte read")
-        self.assertEqual(self.refused(check, [line]), wanted)
+        words = re.search(r'TOO_LARGE: &str = "(.*)"', (TOP / "crates/report_words/src/problems.rt").read_text())[1]  # those of the program
+        self.assertEqual(self.refused(check, [line]), ("ReportTooLarge", 0, words))
+        self.assertIn(f'"{words}"', (TOP / "rust/geoarrow-checked/src/error.rs").read_text())
 
     def test_an_encrypted_file(self):
         footer = bytes(20)
