@@ -365,6 +365,29 @@ The library of C, of a crate that has a second word in crates.txt
   libgeoarrow_c.so.1
   native: built
 
+A first build by the kit itself, of three small crates: a program, and a library of C behind it; what a proof refuses is not built, and what is there does not run
+
+  $ . ./three_crates.sh
+  > bin/geoarrow_fields read 2>&1 | sed 's/; what rt says.*//; /: proved /d'
+  > bin/geoarrow_fields read
+  > sed -i 's/^    7$/    8/' crates/low/src/lib.rt
+  > bin/geoarrow_fields read 2>&1 | grep 'NOT PROVED\|seven$'
+  > bin/native out > /dev/null 2>&1 || ls out 2> /dev/null
+  > sed -i 's/^    8$/    7/' crates/low/src/lib.rt
+  > bin/native out 2>&1 | sed 's/; what rt says.*//; /: proved /d'
+  > cc -Iinclude caller.c out/libgeoarrow_c.a -o linked && ./linked
+  > cc -Iinclude caller.c -Lout -lgeoarrow_c -o shared && LD_LIBRARY_PATH=out ./shared
+  geoarrow_fields: proving and building the program
+  geoarrow_fields: built
+  seven
+  seven
+  rt: low NOT PROVED
+  rt: fields_program NOT PROVED: its library low failed
+  native: proving and building libgeoarrow_c.a
+  native: built
+  7
+  7
+
 The script of the library of C where there is no compiler
 
   $ CC=no_compiler "$top/bin/native" "$TMPDIR/out"

@@ -10,15 +10,17 @@ from . import tables
 
 @dataclasses.dataclass(frozen=True)
 class Reason:
-    """Why a column is invalid or doubtful: a code, what it says, and the names of the child fields from the column down to the data type at
-    fault (docs/FORMAT.md, 2.5)."""
+    """Why a column is invalid or doubtful: a code, what it says, the names of the child fields from the column down to the data type at
+    fault, and how many more there are of its code that are not told one by one (docs/FORMAT.md, 2.5)."""
 
     code: str
     message: str
     path: Tuple[str, ...] = ()
+    more: int = 0
 
     def __str__(self) -> str:
-        return f"{self.message} at {'.'.join(self.path)}" if self.path else self.message
+        place = f" at {'.'.join(self.path)}" if self.path else ""
+        return f"{self.message}{place}" + (f", and {self.more} more" if self.more else "")
 
 
 @dataclasses.dataclass(frozen=True)
@@ -161,7 +163,7 @@ def _file_warning(line: str) -> FileWarning:
 
 
 def _reasons(said: List[Dict[str, Any]]) -> Tuple[Reason, ...]:
-    return tuple(Reason(one["code"], one["message"], tuple(one["path"])) for one in said)
+    return tuple(Reason(one["code"], one["message"], tuple(one["path"]), one.get("more", 0)) for one in said)
 
 
 def _row(column: Column) -> tables.Row:

@@ -2,6 +2,7 @@
 import copy
 import dataclasses
 import io
+import json
 import mmap
 import pathlib
 import pickle
@@ -118,6 +119,13 @@ class Checks(unittest.TestCase):
         self.assertEqual(column.reasons[0], Reason("BadFieldCount", "unexpected number of fields", ("v",)))
         self.assertTrue(column.is_invalid and not column.is_geometry)
 
+    def test_a_warning_that_stands_for_more(self):
+        (column,) = check([TEXT.replace('"utf8"', '{"struct":[%s]}' % ",".join([CANON] * 20))])
+        message, path = "child field has a GeoArrow extension name", (json.loads(CANON)["name"],)
+        nested = Reason("NestedGeometry", message, path)
+        self.assertEqual(column.warnings, (nested,) * 15 + (Reason("NestedGeometry", message, path, 4),))
+        self.assertEqual([str(one) for one in column.warnings[14:]], [f"{message} at {path[0]}", f"{message} at {path[0]}, and 4 more"])
+
     def test_strict(self):
         self.assertEqual(check([TEXT], strict=True), check([TEXT]))
         with self.assertRaises(InvalidColumns) as caught:
@@ -191,12 +199,12 @@ class Refusals(unittest.TestCase):
         self.assertEqual(write_schema([]), write_schema([""]))
 
     def test_a_report_that_is_too_large(self):
-        long = "a" * 60_000
-        inside = ",".join(['{"metadata":{"ARROW:extension:name":"geoarrow.wkb"},"name":"k","nullable":true,"type":"binary"}'] * 100)
+        long = r"\u0001" * 30_000
+        inside = ",".join(['{"metadata":{"ARROW:extension:name":"geoarrow.wkb"},"name":"k","nullable":true,"type":"binary"}'] * 16)
         struct = '{"struct":[{"name":"%s","nullable":true,"type":{"struct":[%s]}}]}' % (long, inside)
-        line = TEXT.replace('"utf8"', struct)  # each of its hundred warnings has the long name in its path
+        stream = write_schema([TEXT.replace('"utf8"', struct)])  # each of its sixteen warnings has the long name in its path
         words = re.search(r'TOO_LARGE: &str = "(.*)"', (TOP / "crates/report_words/src/problems.rt").read_text())[1]  # those of the program
-        self.assertEqual(self.refused(check, [line]), ("ReportTooLarge", 0, words))
+        self.assertEqual(self.refused(check, stream), ("ReportTooLarge", 0, words))
         self.assertIn(f'"{words}"', (TOP / "rust/geoarrow-checked/src/error.rs").read_text())
 
     def test_an_encrypted_file(self):

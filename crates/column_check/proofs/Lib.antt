@@ -5,3 +5,4 @@ pub mod Agreement
 pub mod Findings
 pub mod Paths
 pub mod Ways
+pub mod Telling

@@ -1,5 +1,5 @@
 -- What is doubtful of a column that is not invalid for it.
-use Rattle.std.specs.Prelude.{◌≡◌, ◌&&◌, not, List, [], ◌∷◌, ◌++◌, map, Bool, true, false, Option, None, Some, if◌then◌else◌, string_bytes}
+use Rattle.std.specs.Prelude.{◌≡◌, ℕ, zero, suc, ◌-◌, ◌^◌, min, ◌&&◌, not, List, [], ◌∷◌, ◌++◌, length, map, Bool, true, false, Option, None, Some, if◌then◌else◌, string_bytes}
 use Rattle.std.specs.Cmp.Lexicographic.{pointwise}
 use Rattle.std.specs.Option.{is_some}
 use Rattle.std.specs.List.{list_any}
@@ -29,16 +29,30 @@ use Rattle.column_check.specs.declared.warning.WarningCode.{WarningCode}
 use Rattle.column_check.specs.declared.warning.WarningCode.TheVariants.{MetadataEmpty, CrsNotWhole, CrsWithoutType, CrsNumber, CoordinatesNotDouble, AxisNames, NestedGeometry}
 use Rattle.column_check.specs.declared.warning.Warning.{Warning}
 
--- a warning: what is doubtful, and the names of the child fields from the column down to where it is
+-- a warning: what is doubtful, the names of the child fields from the column down to where it is, and how many more of its code it stands for
 abbrev pub Said : Type 0
-Said = WarningCode × Names
+Said = WarningCode × Names × ℕ
 
 abbrev pub said : Warning → Said
-said w = (w.code, map string_bytes w.path.items)
+said w = (w.code, map string_bytes w.path.items, w.more)
 
 -- of the column itself, if the test holds
 abbrev pub of_column : WarningCode → Bool → List Said
-of_column code holds = if holds then (code, []) ∷ [] else []
+of_column code holds = if holds then (code, [], 0) ∷ [] else []
+
+-- how many there are, as far as a number of 64 bits goes
+abbrev pub counted : List Names → ℕ
+counted ways = min (length ways) (2 ^ 64 - 1)
+
+-- at the ends of ways: of each of the first so many one, and one more, which stands for all that are left
+abbrev pub at_most : ℕ → WarningCode → List Names → List Said
+at_most n code [] = []
+at_most zero code (way ∷ ways) = (code, way, counted ways) ∷ []
+at_most (suc n) code (way ∷ ways) = (code, way, 0) ∷ at_most n code ways
+
+-- at the ends of ways, at most sixteen
+abbrev pub at_each : WarningCode → List Names → List Said
+at_each code ways = at_most 15 code ways
 
 -- ---- of the metadata text
 
@@ -112,19 +126,15 @@ has_extension_name m = is_extension_name (text_at name_key m)
 
 -- ---- of a column
 
--- a warning at the end of each of these ways, which go on from there
-abbrev pub at_each : WarningCode → Names → List Names → List Said
-at_each code there ways = map (λ way. (code, there ++ way)) ways
-
 -- of the coordinates of a type that is of a kind
 abbrev pub coordinate_warnings : Kind → TypeTree → List Said
 coordinate_warnings k (known t) =
-    at_each CoordinatesNotDouble [] (ways_to (is_doubtful CoordinatesNotDouble k) (coordinates_in t)) ++ at_each AxisNames [] (ways_to (is_doubtful AxisNames k) (coordinates_in t))
+    at_each CoordinatesNotDouble (ways_to (is_doubtful CoordinatesNotDouble k) (coordinates_in t)) ++ at_each AxisNames (ways_to (is_doubtful AxisNames k) (coordinates_in t))
 coordinate_warnings k (other s) = []
 
 -- of the fields below a type
 abbrev pub nested_warnings : TypeTree → List Said
-nested_warnings (known t) = at_each NestedGeometry [] (ways_to has_extension_name (fields_in t))
+nested_warnings (known t) = at_each NestedGeometry (ways_to has_extension_name (fields_in t))
 nested_warnings (other s) = []
 
 -- of geometries

@@ -2,11 +2,11 @@
 ghost use Rattle.std.specs.Prelude.{◌≡◌, ◌++◌, map, OnOk};
 ghost use Rattle.arrow_values.specs.View.{tree};
 ghost use Rattle.column_check.specs.Warnings.{said, has_extension_name};
-ghost use Rattle.column_check.specs.Walk.{names_on, is_own, found, found_at, sought_warnings};
+ghost use Rattle.column_check.specs.Walk.{names_on, is_own, found, found_at, code_of, sought_warnings, telling, tell_all};
 
 use crate::coordinates::is_doubtful;
 use crate::warning::{Warning, WarningCode};
-use crate::way::{Way, push_if};
+use crate::way::{Rest, Way, tell_if};
 use arrow_values::{DataType, Field};
 use geoarrow_layout::ExtensionName;
 use geoarrow_schema::Kind;
@@ -21,7 +21,8 @@ pub(crate) enum Sought {
     Extensions,
 }
 
-/// Adds a warning of each part of a column's data type that is looked for, on the way to it.
+/// Adds a warning of each part of a column's data type that is looked for, on the way to it: at
+/// most sixteen, of which the last counts those behind it.
 pub(crate) fn push_sought(
     alloc: Global,
     warnings: &mut Vec<Warning>,
@@ -30,7 +31,15 @@ pub(crate) fn push_sought(
 ) -> Result<(), AllocError>
     ensures { OnOk result (map said warnings.new.items ≡ map said warnings.old.items ++ sought_warnings sought (tree data_type.now)) }
 {
-    push_found(alloc, warnings, sought, &Way::Column, data_type)
+    let mut rest = Rest {
+        room: 15,
+        last: None,
+    };
+    push_found(alloc, warnings, &mut rest, sought, &Way::Column, data_type)?;
+    if let Some(last) = rest.last {
+        warnings.push(last)?;
+    }
+    Ok(())
 }
 
 /// Adds one of each part of the data type at the end of a way. A coordinate or a box has no other in it.
@@ -38,36 +47,37 @@ pub(crate) fn push_sought(
 fn push_found(
     alloc: Global,
     warnings: &mut Vec<Warning>,
+    rest: &mut Rest,
     sought: Sought,
     way: &Way,
     data_type: &DataType,
 ) -> Result<(), AllocError>
-    ensures { OnOk result (map said warnings.new.items ≡ map said warnings.old.items ++ found sought (names_on way.now) (tree data_type.now)) }
+    ensures { OnOk result (telling warnings.new.items rest.new ≡ tell_all (code_of sought) (telling warnings.old.items rest.old) (found sought (names_on way.now) (tree data_type.now))) }
 {
     match data_type {
         DataType::List(item) | DataType::LargeList(item) => {
-            push_at(alloc, warnings, sought, way, item)
+            push_at(alloc, warnings, rest, sought, way, item)
         }
         DataType::FixedSizeList(item, _) => match sought {
             Sought::Coordinates(code, kind) => {
                 let holds = is_doubtful(code, kind, data_type);
-                push_if(alloc, warnings, code, way, holds)
+                tell_if(alloc, warnings, rest, code, way, holds)
             }
-            Sought::Extensions => push_at(alloc, warnings, sought, way, item),
+            Sought::Extensions => push_at(alloc, warnings, rest, sought, way, item),
         },
         DataType::Struct(fields) => {
             if let Sought::Coordinates(code, kind) = sought {
                 let holds = is_doubtful(code, kind, data_type);
-                return push_if(alloc, warnings, code, way, holds);
+                return tell_if(alloc, warnings, rest, code, way, holds);
             }
             for field in fields.as_slice() {
-                push_at(alloc, warnings, sought, way, field)?;
+                push_at(alloc, warnings, rest, sought, way, field)?;
             }
             Ok(())
         }
         DataType::Union(members, _) => {
             for member in members.as_slice() {
-                push_at(alloc, warnings, sought, way, &member.1)?;
+                push_at(alloc, warnings, rest, sought, way, &member.1)?;
             }
             Ok(())
         }
@@ -80,16 +90,17 @@ fn push_found(
 fn push_at(
     alloc: Global,
     warnings: &mut Vec<Warning>,
+    rest: &mut Rest,
     sought: Sought,
     way: &Way,
     field: &Field,
 ) -> Result<(), AllocError>
-    ensures { OnOk result (map said warnings.new.items ≡ map said warnings.old.items ++ found_at sought (names_on way.now) field.now) }
+    ensures { OnOk result (telling warnings.new.items rest.new ≡ tell_all (code_of sought) (telling warnings.old.items rest.old) (found_at sought (names_on way.now) field.now)) }
 {
     let here = Way::Below(&*way, field.name());
     let holds = is_own(sought, field);
-    push_if(alloc, warnings, WarningCode::NestedGeometry, &here, holds)?;
-    push_found(alloc, warnings, sought, &here, field.data_type())
+    tell_if(alloc, warnings, rest, WarningCode::NestedGeometry, &here, holds)?;
+    push_found(alloc, warnings, rest, sought, &here, field.data_type())
 }
 
 /// Whether a field itself is looked for.

@@ -5,12 +5,11 @@ ghost use Rattle.arrow_values.specs.Texts.{text_of};
 ghost use Rattle.geoarrow_meta.specs.Read.{some_has_float};
 ghost use Rattle.arrow_columns.specs.Column.{column_tree, type_tree};
 ghost use Rattle.column_check.specs.Metadata.{values_of};
-ghost use Rattle.column_check.specs.Warnings.{said, is_empty_text, is_object_crs, is_odd_crs, lacks_type, crs_warnings, geometry_warnings, nested_warnings, AreWarnings};
+ghost use Rattle.column_check.specs.Warnings.{said, of_column, is_empty_text, is_object_crs, is_odd_crs, lacks_type, crs_warnings, geometry_warnings, nested_warnings, AreWarnings};
 
 use crate::finding::{Finding, Geometry};
 use crate::metadata::ColumnMetadata;
 use crate::walk::{Sought, push_sought};
-use crate::way::{Way, push_if};
 use arrow_columns::{Column, ColumnType};
 use geoarrow_meta::holds_whole_numbers;
 use serde_json::Value;
@@ -45,11 +44,14 @@ pub struct Warning {
     pub code: WarningCode,
     /// The names of the child fields from the column down to where it is; none where it is of the column itself.
     pub path: Vec<String>,
+    /// How many more of its code there are that are not told one by one; 0 but of a sixteenth.
+    pub more: usize,
 }
 
 /// Returns what is doubtful of a column of which that is said, and leaves the finding as it is
 /// (`docs/FORMAT.md`, 2.6): in the order of `WarningCode`, and under one code from left to right, a
-/// field before those below it. Of the metadata text, of a CRS and of coordinates it speaks where
+/// field before those below it; of one code at most sixteen, of which the last says how many more
+/// there are. Of the metadata text, of a CRS and of coordinates it speaks where
 /// the finding is of geometries; of fields below the column always. `notes` asks for the notes too.
 /// Errs only when out of memory.
 ///
@@ -88,13 +90,7 @@ fn push_geometry(
     ensures { OnOk result (map said warnings.new.items ≡ map said warnings.old.items ++ geometry_warnings notes (column_tree column.now) (Some geometry.now)) }
 {
     let is_empty = is_empty_text(column.extension_type_metadata());
-    push_if(
-        alloc,
-        warnings,
-        WarningCode::MetadataEmpty,
-        &Way::Column,
-        is_empty,
-    )?;
+    push_if(alloc, warnings, WarningCode::MetadataEmpty, is_empty)?;
     push_crs(alloc, warnings, &geometry.metadata, notes)?;
     let ColumnType::Data(data_type) = &column.data_type else {
         return Ok(());
@@ -103,6 +99,26 @@ fn push_geometry(
     let axes = Sought::Coordinates(WarningCode::AxisNames, geometry.kind);
     push_sought(alloc, warnings, doubles, data_type)?;
     push_sought(alloc, warnings, axes, data_type)
+}
+
+/// Adds that warning of the column itself, if the test holds.
+fn push_if(
+    alloc: Global,
+    warnings: &mut Vec<Warning>,
+    code: WarningCode,
+    holds: bool,
+) -> Result<(), AllocError>
+    ensures { OnOk result (map said warnings.new.items ≡ map said warnings.old.items ++ of_column code holds) }
+{
+    if holds {
+        let path = Vec::new(alloc);
+        warnings.push(Warning {
+            code,
+            path,
+            more: 0,
+        })?;
+    }
+    Ok(())
 }
 
 /// Whether there is a text, and it is empty.
@@ -127,19 +143,12 @@ fn push_crs(
     let Some(crs) = &metadata.crs else {
         return Ok(());
     };
-    let way = &Way::Column;
     let is_noted = notes && !holds_whole_numbers(crs);
     let lacks_type = !is_object_crs(crs) && metadata.crs_type.is_none();
     let is_odd = is_odd_crs(crs);
-    push_if(alloc, warnings, WarningCode::CrsNotWhole, way, is_noted)?;
-    push_if(
-        alloc,
-        warnings,
-        WarningCode::CrsWithoutType,
-        way,
-        lacks_type,
-    )?;
-    push_if(alloc, warnings, WarningCode::CrsNumber, way, is_odd)
+    push_if(alloc, warnings, WarningCode::CrsNotWhole, is_noted)?;
+    push_if(alloc, warnings, WarningCode::CrsWithoutType, lacks_type)?;
+    push_if(alloc, warnings, WarningCode::CrsNumber, is_odd)
 }
 
 /// Whether a CRS is an object.

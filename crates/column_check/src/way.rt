@@ -1,7 +1,6 @@
 //! Warnings at the end of a way.
 ghost use Rattle.std.specs.Prelude.{◌≡◌, ◌++◌, ◌∷◌, [], if◌then◌else◌, map, OnOk, string_bytes};
-ghost use Rattle.column_check.specs.Warnings.{said};
-ghost use Rattle.column_check.specs.Walk.{names_on};
+ghost use Rattle.column_check.specs.Walk.{names_on, way_if, telling, tell_all};
 
 use crate::warning::{Warning, WarningCode};
 use std::alloc::{AllocError, Global};
@@ -15,20 +14,41 @@ pub(crate) enum Way<'a> {
     Below(&'a Way<'a>, &'a str),
 }
 
-/// Adds that warning at the end of a way, if the test holds.
-pub(crate) fn push_if(
+/// What a walk may still tell of one code.
+#[derive(Drop)]
+pub(crate) struct Rest {
+    /// How many warnings before the last one.
+    pub(crate) room: usize,
+    /// The last one, once there is no room: it counts those behind it.
+    pub(crate) last: Option<Warning>,
+}
+
+/// Tells of the end of a way, if the test holds.
+pub(crate) fn tell_if(
     alloc: Global,
     warnings: &mut Vec<Warning>,
+    rest: &mut Rest,
     code: WarningCode,
     way: &Way,
     holds: bool,
 ) -> Result<(), AllocError>
-    ensures { OnOk result (map said warnings.new.items ≡ map said warnings.old.items ++ (if holds then (code, names_on way.now) ∷ [] else [])) }
+    ensures { OnOk result (telling warnings.new.items rest.new ≡ tell_all code (telling warnings.old.items rest.old) (way_if holds (names_on way.now))) }
 {
-    if holds {
-        let mut path = Vec::new(alloc);
-        push_names(alloc, &mut path, way)?;
-        warnings.push(Warning { code, path })?;
+    if !holds {
+        return Ok(());
+    }
+    if let Some(last) = &mut rest.last {
+        last.more = last.more.saturating_add(1);
+        return Ok(());
+    }
+    let mut path = Vec::new(alloc);
+    push_names(alloc, &mut path, way)?;
+    let warning = Warning { code, path, more: 0 };
+    if rest.room == 0 {
+        rest.last = Some(warning);
+    } else {
+        rest.room -= 1;
+        warnings.push(warning)?;
     }
     Ok(())
 }

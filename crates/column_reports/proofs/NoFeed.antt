@@ -1,11 +1,10 @@
 -- A report holds no line feed.
-use Rattle.std.proofs.Common.{◌≡◌, ◌≢◌, ℕ, ◌<◌, ◌^◌, ◌||◌, ◌==◌, ◌/◌, ◌%◌, ◌+◌, List, [], ◌∷◌, ◌++◌, true, false, All, Option, Some, None, option_map, map, codes, decimal, nat_lt, string_bytes, sym, subst, arith, true≢false}
+use Rattle.std.proofs.Common.{◌≡◌, ◌≢◌, ℕ, zero, suc, ◌<◌, ◌^◌, ◌||◌, ◌==◌, ◌/◌, ◌%◌, ◌+◌, List, [], ◌∷◌, ◌++◌, true, false, All, Option, Some, None, option_map, map, codes, decimal, nat_lt, string_bytes, sym, subst, arith, true≢false}
 use Rattle.std.specs.List.{join_by, flat_map}
 use Rattle.std.specs.Char.{digit_char}
+use Rattle.std.specs.Fmt.{digits, digits_onto, digit_glyph}
 use Rattle.std.proofs.lemmas.Bool.{cond_both}
-use Rattle.std.proofs.lemmas.Fmt.{decimal_is_IsNumeral}
-use Rattle.std.proofs.lemmas.List.Elements.{All-nil, All-cons, All-head, All-tail, All-append, All-from_get_or}
-use Rattle.std.proofs.lemmas.Str.Parse.{digit_at}
+use Rattle.std.proofs.lemmas.List.Elements.{All-nil, All-cons, All-head, All-tail, All-append}
 use Rattle.json.specs.Print.{escape_letter, escape_byte, escape, quoted}
 use Rattle.arrow_values.specs.Tree.{Text}
 use Rattle.arrow_columns.specs.Column.{ColumnTree, name_on}
@@ -21,7 +20,7 @@ use Rattle.column_check.specs.States.{geometry_in}
 use Rattle.column_check.specs.declared.warning.Warning.{Warning}
 use Rattle.geoarrow_layout.specs.Faults.{fault_text}
 use Rattle.column_reports.specs.Parts.{enclosed, array_text, object_text, member_text, member_if, on_one_line}
-use Rattle.column_reports.specs.Reasons.{reason_text, fault_code, type_reason, metadata_reasons, crs_type_reason, edges_reason, reasons_of}
+use Rattle.column_reports.specs.Reasons.{more_if, reason_text, fault_code, type_reason, metadata_reasons, crs_type_reason, edges_reason, reasons_of}
 use Rattle.column_reports.specs.Report.{string_if, crs_of, crs_type_of, edges_of, type_word, reasons_in, state_word, line_text}
 use Rattle.column_reports.specs.Warnings.{code_text, warning_message, warning_text, warnings_in}
 
@@ -124,37 +123,51 @@ crs_lines : (key : Text) (crs : Option Text) → Lines (member_if key (option_ma
 crs_lines key None = none
 crs_lines key (Some s) = more (member_line key (turned_line s)) none
 
-digits_line : (n : ℕ) → n < 2 ^ 64 → Line (decimal n)
-digits_line n small = record { all = All-from_get_or IsOther (decimal n) 0 (λ k lt e. omega (arith, e, digit_at _ k (decimal_is_IsNumeral n small).0.1 lt)) }
+glyph_other : (d : ℕ) → IsOther (digit_glyph false d)
+glyph_other d = cond_both (nat_lt d 10) (48 + d) (87 + d) IsOther (λ _ f. omega arith) (λ _ f. omega arith)
+
+onto_line : (k n : ℕ) (digits : Text) → Line digits → Line (digits_onto k 10 false n digits)
+onto_line zero n digits line = line
+onto_line (suc k) n digits line =
+    let one = before (digit_glyph false (n % 10)) (glyph_other (n % 10)) line in
+    cond_both (n / 10 == 0) (digit_glyph false (n % 10) ∷ digits) _ Line (λ _. one) (λ _. onto_line k (n / 10) (digit_glyph false (n % 10) ∷ digits) one)
+
+digits_line : (n : ℕ) → Line (decimal n)
+unfolding digits
+digits_line n = onto_line 64 n [] end
+
+more_lines : (more : ℕ) → Lines (more_if more)
+more_lines n = cond_both (n == 0) [] (member_text (codes "more") (decimal n) ∷ []) Lines (λ _. none) (λ _. more (member_line (codes "more") (digits_line n)) none)
 
 path_lines : (path : List Text) → Lines (map quoted path)
 path_lines [] = none
 path_lines (p ∷ path) = more (quoted_line p) (path_lines path)
 
-reason_line : (code message : Text) (path : List Text) → Line (reason_text code message path)
-reason_line code message path =
-    object_line (more (member_line (codes "code") (quoted_line code)) (more (member_line (codes "message") (quoted_line message)) (more (member_line (codes "path") (array_line (path_lines path))) none)))
+reason_line : (code message : Text) (n : ℕ) (path : List Text) → Line (reason_text code message n path)
+reason_line code message n path =
+    object_line (more (member_line (codes "code") (quoted_line code)) (more (member_line (codes "message") (quoted_line message))
+    (also (more_lines n) (more (member_line (codes "path") (array_line (path_lines path))) none))))
 
 type_line : (t : TypeFault) → Line (type_reason t)
-type_line UnsupportedType = reason_line (codes "UnsupportedType") (codes "no layout of GeoArrow has this type") []
-type_line WrongStorage = reason_line (codes "WrongStorage") (codes "well-known binary needs a binary type, and well-known text a text type") []
-type_line (Layout fault names) = reason_line (fault_code fault) (fault_text fault) (map string_bytes names.items)
+type_line UnsupportedType = reason_line (codes "UnsupportedType") (codes "no layout of GeoArrow has this type") 0 []
+type_line WrongStorage = reason_line (codes "WrongStorage") (codes "well-known binary needs a binary type, and well-known text a text type") 0 []
+type_line (Layout fault names) = reason_line (fault_code fault) (fault_text fault) 0 (map string_bytes names.items)
 
 crs_type_line : Line crs_type_reason
-crs_type_line = reason_line (codes "UnknownCrsType") (codes "unknown crs_type") []
+crs_type_line = reason_line (codes "UnknownCrsType") (codes "unknown crs_type") 0 []
 
 edges_line : Line edges_reason
-edges_line = reason_line (codes "UnknownEdges") (codes "unknown edges") []
+edges_line = reason_line (codes "UnknownEdges") (codes "unknown edges") 0 []
 
 metadata_lines : (m : MetadataFault) → Lines (metadata_reasons m)
-metadata_lines NotJson = more (reason_line (codes "MetadataNotJson") (codes "metadata is not JSON") []) none
-metadata_lines NotObject = more (reason_line (codes "MetadataNotObject") (codes "metadata is not an object") []) none
+metadata_lines NotJson = more (reason_line (codes "MetadataNotJson") (codes "metadata is not JSON") 0 []) none
+metadata_lines NotObject = more (reason_line (codes "MetadataNotObject") (codes "metadata is not an object") 0 []) none
 metadata_lines UnknownCrsType = more crs_type_line none
 metadata_lines UnknownEdges = more edges_line none
 metadata_lines UnknownCrsTypeAndEdges = more crs_type_line (more edges_line none)
 
 reasons_lines : (r : Reasons) → Lines (reasons_of r)
-reasons_lines UnknownExtension = more (reason_line (codes "UnknownExtension") (codes "GeoArrow has no extension type of this name") []) none
+reasons_lines UnknownExtension = more (reason_line (codes "UnknownExtension") (codes "GeoArrow has no extension type of this name") 0 []) none
 reasons_lines (DataType t) = more (type_line t) none
 reasons_lines (Metadata m) = metadata_lines m
 reasons_lines (DataTypeAndMetadata t m) = more (type_line t) (metadata_lines m)
@@ -168,7 +181,7 @@ found_lines key Plain = none
 
 warning_lines : (ws : List Warning) → Lines (map warning_text ws)
 warning_lines [] = none
-warning_lines (w ∷ ws) = more (reason_line (code_text w.code) (warning_message w.code) (map string_bytes w.path.items)) (warning_lines ws)
+warning_lines (w ∷ ws) = more (reason_line (code_text w.code) (warning_message w.code) w.more (map string_bytes w.path.items)) (warning_lines ws)
 
 warned_lines : (key : Text) (ws : List Warning) → Lines (member_if key (warnings_in ws))
 warned_lines key [] = none
@@ -176,13 +189,13 @@ warned_lines key (w ∷ ws) = more (member_line key (array_line (warning_lines (
 
 -- ---- the report
 
-pub report_line : (file : Option Text) (index : ℕ) (c : ColumnTree) (crs : Option Text) (f : ColumnFinding) (ws : List Warning) → index < 2 ^ 64 → All (λ b. b ≢ 10) (line_text file index c crs f ws)
-report_line file index c crs f ws small =
+pub report_line : (file : Option Text) (index : ℕ) (c : ColumnTree) (crs : Option Text) (f : ColumnFinding) (ws : List Warning) → All (λ b. b ≢ 10) (line_text file index c crs f ws)
+report_line file index c crs f ws =
     let g = geometry_in f in
     let line : Line (line_text file index c crs f ws) =
     object_line (also (also (also (string_lines (codes "column") (Some c.name)) (crs_lines (codes "crs") (crs_of g crs)))
     (also (also (also (string_lines (codes "crs_type") (crs_type_of g)) (string_lines (codes "edges") (edges_of g)))
     (string_lines (codes "extension") (name_on c))) (string_lines (codes "file") file)))
-    (also (also (also (also (more (member_line (codes "index") (digits_line index small)) none) (found_lines (codes "reasons") f)) (string_lines (codes "state") (Some (state_word f))))
+    (also (also (also (also (more (member_line (codes "index") (digits_line index)) none) (found_lines (codes "reasons") f)) (string_lines (codes "state") (Some (state_word f))))
     (string_lines (codes "type") (Some (type_word c g)))) (warned_lines (codes "warnings") ws))) in
     line.all

@@ -1,5 +1,5 @@
 -- The reasons of a column that is invalid, as JSON.
-use Rattle.std.specs.Prelude.{List, [], ◌∷◌, ◌++◌, codes, map, string_bytes}
+use Rattle.std.specs.Prelude.{ℕ, ◌==◌, List, [], ◌∷◌, ◌++◌, codes, decimal, map, string_bytes, if◌then◌else◌}
 use Rattle.std.specs.List.{join_by}
 use Rattle.json.specs.Print.{quoted}
 use Rattle.arrow_values.specs.Tree.{Text}
@@ -14,13 +14,18 @@ use Rattle.column_check.specs.declared.finding.Reasons.{Reasons}
 use Rattle.column_check.specs.declared.finding.Reasons.TheVariants.{UnknownExtension, DataType, Metadata, DataTypeAndMetadata}
 use Rattle.column_reports.specs.Parts.{array_text, object_text, member_text}
 
--- a reason: a code, a message, and the names of the child fields from the column down to where it is
-abbrev pub reason_text : Text → Text → List Text → Text
-reason_text code message path = object_text (member_text (codes "code") (quoted code) ∷ member_text (codes "message") (quoted message) ∷ member_text (codes "path") (array_text (map quoted path)) ∷ [])
+-- how many more there are, if there are any
+abbrev pub more_if : ℕ → List Text
+more_if more = if more == 0 then [] else member_text (codes "more") (decimal more) ∷ []
+
+-- a reason: a code, a message, how many more it stands for, and the names of the child fields from the column down to where it is
+abbrev pub reason_text : Text → Text → ℕ → List Text → Text
+reason_text code message more path =
+    object_text (member_text (codes "code") (quoted code) ∷ member_text (codes "message") (quoted message) ∷ (more_if more ++ member_text (codes "path") (array_text (map quoted path)) ∷ []))
 
 -- a reason of the column itself
 abbrev pub own_reason : Text → Text → Text
-own_reason code message = reason_text code message []
+own_reason code message = reason_text code message 0 []
 
 -- the code of a layout's fault
 abbrev pub fault_code : LayoutFault → Text
@@ -46,7 +51,7 @@ type_message (Layout fault names) = fault_text fault
 abbrev pub type_reason : TypeFault → Text
 type_reason UnsupportedType = own_reason (codes "UnsupportedType") (type_message UnsupportedType)
 type_reason WrongStorage = own_reason (codes "WrongStorage") (type_message WrongStorage)
-type_reason (Layout fault names) = reason_text (fault_code fault) (type_message (Layout fault names)) (map string_bytes names.items)
+type_reason (Layout fault names) = reason_text (fault_code fault) (type_message (Layout fault names)) 0 (map string_bytes names.items)
 
 -- the other messages
 abbrev pub crs_type_message : Text

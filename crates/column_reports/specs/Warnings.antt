@@ -1,5 +1,5 @@
 -- The warnings of a column, as JSON and in words.
-use Rattle.std.specs.Prelude.{List, [], ◌∷◌, ◌++◌, codes, map, Option, None, Some, string_bytes}
+use Rattle.std.specs.Prelude.{ℕ, ◌==◌, List, [], ◌∷◌, ◌++◌, codes, decimal, map, Option, None, Some, string_bytes, if◌then◌else◌}
 use Rattle.arrow_values.specs.Tree.{Text}
 use Rattle.column_check.specs.declared.warning.WarningCode.{WarningCode}
 use Rattle.column_check.specs.declared.warning.WarningCode.TheVariants.{MetadataEmpty, CrsNotWhole, CrsWithoutType, CrsNumber, CoordinatesNotDouble, AxisNames, NestedGeometry}
@@ -25,7 +25,7 @@ warning_message code = (code_and_message code).1
 
 -- a warning, as a reason is written
 abbrev pub warning_text : Warning → Text
-warning_text w = reason_text (code_text w.code) (warning_message w.code) (map string_bytes w.path.items)
+warning_text w = reason_text (code_text w.code) (warning_message w.code) w.more (map string_bytes w.path.items)
 
 -- of a column with warnings: all of them
 abbrev pub warnings_in : List Warning → Option Text
@@ -34,5 +34,9 @@ warnings_in (w ∷ ws) = Some (array_text (map warning_text (w ∷ ws)))
 
 -- ---- in words
 
+-- how many more there are, if there are any
+abbrev pub more_words : ℕ → Text
+more_words more = if more == 0 then [] else codes ", and " ++ decimal more ++ codes " more"
+
 abbrev pub warning_words : Warning → Text
-warning_words w = warning_message w.code ++ place_words (map string_bytes w.path.items)
+warning_words w = (warning_message w.code ++ place_words (map string_bytes w.path.items)) ++ more_words w.more

@@ -51,7 +51,7 @@ const LINE_ROOM: usize = 512;
 /// let line = json_line(alloc, None, 0, &column, None, &finding, &[])?;
 /// assert_eq!(rt; line.as_str(), r#"{"column":"geom","index":0,"reasons":[{"code":"BadSize","message":"list size differs from the field name","path":["x\ny"]}],"state":"invalid","type":"int64"}"#);
 ///
-/// let warning = Warning { code: WarningCode::NestedGeometry, path: vec![in alloc; String::from_str(alloc, "child")?]? };
+/// let warning = Warning { code: WarningCode::NestedGeometry, path: vec![in alloc; String::from_str(alloc, "child")?]?, more: 0 };
 /// let line = json_line(alloc, None, 0, &column, None, &Finding::Extension, &[warning])?;
 /// assert_eq!(rt; line.as_str(), r#"{"column":"geom","index":0,"state":"extension","type":"int64","warnings":[{"code":"NestedGeometry","message":"child field has a GeoArrow extension name","path":["child"]}]}"#);
 /// ```

@@ -206,12 +206,13 @@ fn empty_input() {
 #[test]
 fn a_report_that_is_too_large() {
     let inside = r#"{"metadata":{"ARROW:extension:name":"geoarrow.wkb"},"name":"k","nullable":true,"type":"binary"}"#;
-    let long = "a".repeat(60_000);
+    let long = r"\u0001".repeat(30_000);
     let line = format!(
         r#"{{"name":"t","nullable":true,"type":{{"struct":[{{"name":"{long}","nullable":true,"type":{{"struct":[{}]}}}}]}}}}"#,
-        [inside; 100].join(",") // each of their warnings has the long name in its path
+        [inside; 16].join(",") // each of their warnings has the long name in its path
     );
-    assert!(check(line.as_bytes(), false) == Err(Error::ReportTooLarge)); // (the other is long)
+    let stream = write_schema(line.as_bytes()).unwrap();
+    assert!(check(&stream, false) == Err(Error::ReportTooLarge)); // (the other is long)
 }
 
 #[test]

@@ -1,8 +1,7 @@
-use Rattle.std.proofs.Common.{◌≡◌, ◌+◌, ◌*◌, ◌++◌, drop, map}
+use Rattle.std.proofs.Common.{◌≡◌, ◌+◌, ◌*◌, drop}
 use Rattle.arrow_values.specs.Tree.{depth}
 use Rattle.arrow_values.specs.View.{tree, field_trees, member_trees}
-use Rattle.column_check.specs.Walk.{names_on, found_of, found_among}
-use Rattle.column_check.specs.Warnings.{said}
+use Rattle.column_check.specs.Walk.{names_on, code_of, found_of, found_among, telling, tell_all}
 use Rattle.column_check.proofs.walk.+walk.Given as goal
 
 abbrev pub decreases-push_found : goal.decreases-push_found
@@ -13,10 +12,10 @@ decreases-push_at l = 2 * depth l.field.now.tree + 1
 
 abbrev pub invariant-push_found-loop-field : goal.invariant-push_found-loop-field
 invariant-push_found-loop-field l =
-    map said l.warnings.items ++ found_of l.sought (names_on l.way) (field_trees (drop l.field-index l.field-items))
-    ≡ map said l.fn.warnings.items ++ found_of l.sought (names_on l.way) (field_trees l.field-items)
+    tell_all (code_of l.sought) (telling l.warnings.items l.rest) (found_of l.sought (names_on l.way) (field_trees (drop l.field-index l.field-items)))
+    ≡ tell_all (code_of l.sought) (telling l.fn.warnings.items l.fn.rest) (found_of l.sought (names_on l.way) (field_trees l.field-items))
 
 abbrev pub invariant-push_found-loop-member : goal.invariant-push_found-loop-member
 invariant-push_found-loop-member l =
-    map said l.warnings.items ++ found_among l.sought (names_on l.way) (member_trees (drop l.member-index l.member-items))
-    ≡ map said l.fn.warnings.items ++ found_among l.sought (names_on l.way) (member_trees l.member-items)
+    tell_all (code_of l.sought) (telling l.warnings.items l.rest) (found_among l.sought (names_on l.way) (member_trees (drop l.member-index l.member-items)))
+    ≡ tell_all (code_of l.sought) (telling l.fn.warnings.items l.fn.rest) (found_among l.sought (names_on l.way) (member_trees l.member-items))
