@@ -99,8 +99,18 @@ fn push_at(
 {
     let here = Way::Below(&*way, field.name());
     let holds = is_own(sought, field);
-    tell_if(alloc, warnings, rest, WarningCode::NestedGeometry, &here, holds)?;
+    tell_if(alloc, warnings, rest, code_of(sought), &here, holds)?;
     push_found(alloc, warnings, rest, sought, &here, field.data_type())
+}
+
+/// The code of the warnings of what is looked for.
+fn code_of(sought: Sought) -> WarningCode
+    ensures { result ≡ code_of sought }
+{
+    match sought {
+        Sought::Coordinates(code, _) => code,
+        Sought::Extensions => WarningCode::NestedGeometry,
+    }
 }
 
 /// Whether a field itself is looked for.

@@ -43,7 +43,11 @@ pub(crate) fn tell_if(
     }
     let mut path = Vec::new(alloc);
     push_names(alloc, &mut path, way)?;
-    let warning = Warning { code, path, more: 0 };
+    let warning = Warning {
+        code,
+        path,
+        more: 0,
+    };
     if rest.room == 0 {
         rest.last = Some(warning);
     } else {

@@ -53,11 +53,5 @@ fn put_warning(out: &mut Writer, warning: &Warning) -> Result<(), AllocError>
     ensures { OnOk result (AddsParts (warning_text warning.now ∷ []) out.old out.new) }
 {
     let (code, message) = code_and_message(warning.code);
-    put_reason(
-        out,
-        code,
-        message,
-        warning.more,
-        warning.path.as_slice(),
-    )
+    put_reason(out, code, message, warning.more, warning.path.as_slice())
 }
