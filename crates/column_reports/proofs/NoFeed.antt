@@ -1,5 +1,5 @@
 -- A report holds no line feed.
-use Rattle.std.proofs.Common.{◌≡◌, ◌≢◌, ℕ, zero, suc, ◌<◌, ◌^◌, ◌||◌, ◌==◌, ◌/◌, ◌%◌, ◌+◌, List, [], ◌∷◌, ◌++◌, true, false, All, Option, Some, None, option_map, map, codes, decimal, nat_lt, string_bytes, sym, subst, arith, true≢false}
+use Rattle.std.proofs.Common.{◌≡◌, ◌≢◌, ℕ, zero, suc, ◌||◌, ◌==◌, ◌/◌, ◌%◌, ◌+◌, List, [], ◌∷◌, ◌++◌, true, false, All, Option, Some, None, option_map, map, codes, decimal, nat_lt, string_bytes, sym, subst, arith, true≢false}
 use Rattle.std.specs.List.{join_by, flat_map}
 use Rattle.std.specs.Char.{digit_char}
 use Rattle.std.specs.Fmt.{digits, digits_onto, digit_glyph}
