@@ -16,8 +16,8 @@ use Rattle.column_files.specs.declared.form.Form.{Form}
 use Rattle.column_files.specs.declared.form.Form.TheVariants.{ArrowFile, ArrowStream, Parquet, Lines}
 use Rattle.column_files.specs.declared.columns.FileFault.{FileFault}
 use Rattle.column_files.specs.declared.columns.FileFault.TheVariants.{NoField, Empty, Ipc, Parquet as ParquetFault, OutOfMemory}
-use Rattle.parquet_schema.specs.Reads as parquet
-use Rattle.parquet_schema.specs.declared.fault.SchemaError.{SchemaError}
+use Rattle.parquet_columns.specs.Reads as parquet
+use Rattle.parquet_columns.specs.declared.error.SchemaError.{SchemaError}
 
 -- ---- lines
 

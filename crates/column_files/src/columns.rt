@@ -7,15 +7,15 @@ ghost use Rattle.column_files.specs.declared.form.Form.{Form};
 ghost use Rattle.column_files.specs.Files.{IsFileRead, IsEndRead, IsFooterRead, IsSchemaRead};
 ghost use Rattle.column_files.specs.Files.{IsParquetRead, AreLinesRead, AreLinesInFile};
 ghost use Rattle.column_files.specs.Files.{further, footer_begin};
-ghost use Rattle.parquet_schema.specs.Reads as parquet;
-ghost use Rattle.parquet_schema.specs.declared.fault.SchemaError.{SchemaError};
+ghost use Rattle.parquet_columns.specs.Reads as parquet;
+ghost use Rattle.parquet_columns.specs.declared.error.SchemaError.{SchemaError};
 
 use crate::form::{Form, form_of};
 use crate::line::LineFault;
 use crate::lines::columns_of_lines;
 use arrow_columns::Column;
 use arrow_ipc::{Fault, IpcError, Schema, read_file_footer, read_schema};
-use parquet_schema::{SchemaError, columns_of_file};
+use parquet_columns::{SchemaError, columns_of_file};
 use std::alloc::{AllocError, AllocFailed, Global};
 
 /// Why the columns of a file are not read.
@@ -82,7 +82,7 @@ pub fn columns_in(alloc: Global, bytes: &[u8]) -> Result<Vec<Column>, FileFault>
 /// lines stand before it, and why; with `Empty` where lines have no column at all; with `Ipc` as
 /// `read_schema` and `read_file_footer` of `arrow_ipc` do, which say the rule that is broken, and
 /// the byte, of an Arrow file counted from the first byte given; with `Parquet` as
-/// `columns_of_file` of `parquet_schema` does; and when out of memory.
+/// `columns_of_file` of `parquet_columns` does; and when out of memory.
 ///
 /// ```rust
 /// let refused = columns_of(alloc, Form::Lines, b"\n{\n");

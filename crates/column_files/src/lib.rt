@@ -16,6 +16,6 @@ pub use fault::ReadFault;
 pub use form::{Form, form_of};
 pub use line::{LineFault, column_line, parse_column_line};
 pub use lines::columns_of_lines;
-pub use parquet_schema::report_budget;
+pub use parquet_columns::report_budget;
 pub use reading::{LineColumns, MAX_LINE_BYTES};
 pub use schema_bytes::{FileEnd, read_head, read_schema_bytes, read_schema_end};

@@ -7,7 +7,7 @@ use Rattle.column_files.specs.Forms.{IsForm}
 use Rattle.column_files.specs.Files.{IsFileRead}
 use Rattle.column_files.specs.declared.form.Form.{Form}
 use Rattle.column_files.specs.declared.columns.FileFault.{FileFault}
-use Rattle.parquet_schema.specs.declared.fault.SchemaError.{SchemaError}
+use Rattle.parquet_columns.specs.declared.error.SchemaError.{SchemaError}
 use Rattle.file_reports.specs.Checks.{AreChecked}
 use Rattle.file_reports.specs.Report.{ArePast, IsUnreported, IsWithin, IsParquetReport, IsParquetPast, ParquetReports, ReportsIn, Reports}
 use Rattle.file_reports.specs.declared.checks.Checked.{Checked}

@@ -7,12 +7,12 @@ use Rattle.arrow_values.specs.Tree.{Text}
 use Rattle.arrow_columns.specs.Column.{ColumnTree, column_tree}
 use Rattle.geoparquet.specs.Checks.{AreFindings}
 use Rattle.geoparquet.specs.declared.finding.GeoFinding.{GeoFinding}
-use Rattle.geo_columns.specs.GeoColumns.{AreGeoColumns}
-use Rattle.geo_reports.specs.Lines.{lines_text}
-use Rattle.geo_reports.specs.Warnings.{no_geo_text}
-use Rattle.parquet_schema.specs.Reads.{IsValueRead}
-use Rattle.parquet_schema.specs.declared.fault.SchemaError.{SchemaError}
-use Rattle.parquet_schema.specs.declared.fault.SchemaError.TheVariants.{OutOfMemory}
+use Rattle.geoparquet.specs.GeoColumns.{AreGeoColumns}
+use Rattle.geoparquet.specs.Lines.{lines_text}
+use Rattle.geoparquet.specs.Warnings.{no_geo_text}
+use Rattle.parquet_columns.specs.Reads.{IsValueRead}
+use Rattle.parquet_columns.specs.declared.error.SchemaError.{SchemaError}
+use Rattle.parquet_columns.specs.declared.error.SchemaError.TheVariants.{OutOfMemory}
 use Rattle.file_reports.specs.declared.checks.Checked.{Checked}
 use Rattle.file_reports.specs.declared.report.Report.{Report as FileReport}
 

@@ -19,9 +19,9 @@ use Rattle.column_files.specs.declared.form.Form.TheVariants.{Parquet}
 use Rattle.column_files.specs.declared.columns.FileFault.{FileFault}
 use Rattle.column_files.specs.declared.columns.FileFault.TheVariants.{ReportTooLarge, OutOfMemory}
 use Rattle.column_reports.specs.Report.{line_text}
-use Rattle.parquet_schema.specs.Budget.{budget}
-use Rattle.parquet_schema.specs.Reads.{footer_in}
-use Rattle.parquet_schema.specs.declared.fault.SchemaError.{SchemaError}
+use Rattle.parquet_columns.specs.Budget.{budget}
+use Rattle.parquet_columns.specs.Reads.{footer_in}
+use Rattle.parquet_columns.specs.declared.error.SchemaError.{SchemaError}
 use Rattle.file_reports.specs.Checks.{AreChecked, AddsFindings}
 use Rattle.file_reports.specs.declared.checks.Checked.{Checked}
 use Rattle.file_reports.specs.declared.report.Options.{Options}

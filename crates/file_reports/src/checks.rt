@@ -4,19 +4,17 @@ ghost use Rattle.std.specs.List.{list_any};
 ghost use Rattle.arrow_values.specs.Texts.{text_of};
 ghost use Rattle.arrow_columns.specs.Column.{column_tree};
 ghost use Rattle.geoparquet.specs.Checks.{AreFindings};
-ghost use Rattle.geo_columns.specs.GeoColumns.{AreGeoColumns};
-ghost use Rattle.geo_reports.specs.Lines.{lines_text};
-ghost use Rattle.parquet_schema.specs.Reads.{footer_in};
+ghost use Rattle.geoparquet.specs.GeoColumns.{AreGeoColumns};
+ghost use Rattle.geoparquet.specs.Lines.{lines_text};
+ghost use Rattle.parquet_columns.specs.Reads.{footer_in};
 ghost use Rattle.file_reports.specs.Checks.{is_failed, AreChecked, AddsText, AddsFindings, warning_text};
 ghost use Rattle.file_reports.specs.Report.{ParquetReports};
 
 use crate::report::{Options, Report, push_line, report_columns, within};
 use arrow_columns::Column;
 use column_files::FileFault;
-use geo_columns::geo_columns;
-use geo_reports::{check_lines, no_geo_line};
-use geoparquet::{GeoFinding, check_geo};
-use parquet_schema::{SchemaError, value_in_file};
+use geoparquet::{GeoFinding, check_geo, check_lines, geo_columns, no_geo_line};
+use parquet_columns::{SchemaError, value_in_file};
 use std::alloc::{AllocError, Global};
 
 /// The key of GeoParquet metadata.
@@ -25,7 +23,7 @@ const GEO_KEY: &str = "geo";
 /// The columns that a Parquet file has by its GeoParquet metadata, and what the rules of GeoParquet say of these metadata.
 #[derive(Debug, Drop)]
 pub struct Checked {
-    /// The columns, as `geo_columns` of `geo_columns` answers them.
+    /// The columns, as `geo_columns` of `geoparquet` answers them.
     pub columns: Vec<Column>,
     /// What the rules say, as `check_geo` of `geoparquet` answers it of the columns that the file denotes; none where the file has no value of the key
     /// `geo`. The columns are then those that the file denotes.
@@ -36,7 +34,7 @@ pub struct Checked {
 /// checks of the metadata (docs/FORMAT.md, 5). The end is the bytes of the file, or as many of its last ones as the footer, its length and the
 /// magic take.
 ///
-/// Errs as `value_in_file` of `parquet_schema` does.
+/// Errs as `value_in_file` of `parquet_columns` does.
 pub fn checked_columns(
     alloc: Global,
     end: &[u8],

@@ -6,5 +6,5 @@ mod checks;
 mod report;
 
 pub use checks::{Checked, checked_columns};
-pub use parquet_schema::report_budget;
+pub use parquet_columns::report_budget;
 pub use report::{Options, Report, column_line_of, report_columns, report_file};

@@ -18,7 +18,7 @@ use column_files::{FileFault, Form, columns_of, form_of};
 use column_reports::json_line;
 use crs_text::crs_text_with_scratch;
 use json::Scratch;
-use parquet_schema::report_budget;
+use parquet_columns::report_budget;
 use std::alloc::{AllocError, Global};
 
 /// What is asked of a report.

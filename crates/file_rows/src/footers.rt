@@ -1,12 +1,13 @@
-//! Rows of Parquet footers: calls of `parquet_footer`, `parquet_columns` and `parquet_schema`. A row's text is bytes in
+//! Rows of Parquet footers: calls of `parquet_footer` and `parquet_columns`. A row's text is bytes in
 //! hexadecimal digits.
 use arrow_columns::Column;
 use arrow_ipc::IpcError;
-use parquet_columns::{ColumnsError, Fault, columns_of};
+use parquet_columns::{
+    ColumnsError, Fault, SchemaError, columns_of, columns_of_file, value_in_file,
+};
 use parquet_footer::{
     Footer, FooterError, KeyValue, LogicalType, SchemaElement, footer_length, read_footer,
 };
-use parquet_schema::{SchemaError, columns_of_file, value_in_file};
 use rows::asked::Asked;
 use rows::said::Said;
 use rows::say;

@@ -1,8 +1,7 @@
-//! Rows of GeoParquet metadata: calls of `geoparquet` and `geo_columns`. A row's text is the text at the key `geo`, and then lines of fields, each with ` & ` before it.
+//! Rows of GeoParquet metadata: calls of `geoparquet`. A row's text is the text at the key `geo`, and then lines of fields, each with ` & ` before it.
 use arrow_columns::Column;
 use column_files::{column_line, columns_of_lines};
-use geo_columns::geo_columns;
-use geoparquet::{GeoFinding, check_geo};
+use geoparquet::{GeoFinding, check_geo, geo_columns};
 use rows::asked::Asked;
 use rows::said::Said;
 use rows::say;

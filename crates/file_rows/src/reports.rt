@@ -6,7 +6,7 @@ use column_check::{Finding, check_column, warnings};
 use column_files::{FileFault, Form, columns_in, columns_of_end};
 use column_reports::{reason_words, warning_words};
 use file_reports::{Options, report_file};
-use parquet_schema::SchemaError;
+use parquet_columns::SchemaError;
 use rows::asked::Asked;
 use std::alloc::{AllocError, Global};
 

@@ -6,8 +6,8 @@ use Rattle.arrow_ipc.specs.declared.fault.IpcError.{IpcError}
 use Rattle.arrow_ipc.specs.declared.fault.IpcError.TheVariants.{Broken, Budget, OutOfMemory as NoMemory}
 use Rattle.column_files.specs.declared.columns.FileFault.{FileFault}
 use Rattle.column_files.specs.declared.columns.FileFault.TheVariants.{NoField, Ipc, Parquet, Empty, ReportTooLarge, OutOfMemory}
-use Rattle.parquet_schema.specs.declared.fault.SchemaError.{SchemaError}
-use Rattle.parquet_schema.specs.declared.fault.SchemaError.TheVariants.{Budget as OverBudget, OutOfMemory as NoRoom}
+use Rattle.parquet_columns.specs.declared.error.SchemaError.{SchemaError}
+use Rattle.parquet_columns.specs.declared.error.SchemaError.TheVariants.{Budget as OverBudget, OutOfMemory as NoRoom}
 use Rattle.file_reports.specs.Report.{Reports}
 use Rattle.file_reports.specs.declared.report.Options.{Options}
 use Rattle.file_reports.specs.declared.report.Report.{Report as FileReport}

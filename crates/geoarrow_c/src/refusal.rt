@@ -5,7 +5,7 @@ ghost use Rattle.geoarrow_c.specs.Refusals.{rule_number, ipc_number, fault_numbe
 use crate::status::MEMORY;
 use arrow_ipc::{IpcError, Rule};
 use column_files::FileFault;
-use parquet_schema::SchemaError;
+use parquet_columns::SchemaError;
 
 /// The number of a rule.
 fn rule_number(rule: Rule) -> u8

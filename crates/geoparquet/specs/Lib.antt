@@ -8,3 +8,7 @@ pub mod Coverings
 pub mod Checks
 pub mod Words
 pub mod Sound
+pub mod Extensions
+pub mod GeoColumns
+pub mod Lines
+pub mod Warnings

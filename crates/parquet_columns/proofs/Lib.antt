@@ -1,3 +1,12 @@
 mod Leaves
 mod Shapes
 mod Walks
+mod Children
+mod Jsons
+mod Laters
+mod Maps
+mod Named
+mod Names
+mod Parts
+mod Spending
+mod Steps

@@ -4,3 +4,11 @@ pub mod Leaf
 pub mod Annotation
 pub mod Nodes
 pub mod Columns
+pub mod Budget
+pub mod SchemaFault
+pub mod Geometry
+pub mod Keys
+pub mod Marks
+pub mod Reads
+pub mod Typed
+pub mod Values

@@ -1,14 +1,28 @@
-//! The columns of a Parquet file, from the schema in its footer.
+//! The columns of a Parquet file: of the schema that Arrow's libraries store in its footer, or where they stored none of the elements of its own schema
+//! ([`columns_of`]); with the extensions that its geometry types denote.
 #![tactic(auto)]
 
 mod annotation;
+mod budget;
 mod columns;
 mod equality_laws;
+mod error;
 mod fault;
+mod file;
+mod footer;
+mod geometry;
+mod keys;
 mod leaf;
+mod marks;
 mod meaning;
 mod nodes;
+mod values;
 
+pub use budget::report_budget;
 pub use columns::{NESTING_LIMIT, columns_of};
 pub use equality_laws::{columns_error_equality_is_exact, rule_equality_is_exact};
+pub use error::SchemaError;
 pub use fault::{ColumnsError, Fault, Rule};
+pub use file::{columns_of_file, footer_in, value_in_file};
+pub use footer::columns_of_footer;
+pub use keys::{ARROW_SCHEMA_KEY, value_of};

@@ -4,8 +4,8 @@ use Rattle.std.specs.List.{list_any}
 use Rattle.arrow_values.specs.Tree.{Text}
 use Rattle.geoparquet.specs.Words.{code_of, message_of}
 use Rattle.geoparquet.specs.declared.finding.GeoFinding.{GeoFinding}
-use Rattle.geo_reports.specs.Lines.{lines_text}
-use Rattle.geo_reports.specs.Warnings.{no_geo_code, no_geo_message, no_geo_text}
+use Rattle.geoparquet.specs.Lines.{lines_text}
+use Rattle.geoparquet.specs.Warnings.{no_geo_code, no_geo_message, no_geo_text}
 use Rattle.report_words.specs.Shown.{shown}
 
 -- the column that a check is of, if it is not of all the metadata

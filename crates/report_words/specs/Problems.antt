@@ -12,8 +12,8 @@ use Rattle.column_files.specs.declared.line.LineFault.TheVariants.{NotUtf8, NotJ
 use Rattle.parquet_footer.specs.declared.fault.Rule.{Rule}
 use Rattle.parquet_footer.specs.declared.fault.Rule.TheVariants as rules
 use Rattle.parquet_footer.specs.declared.fault.FooterError.TheVariants as footers
-use Rattle.parquet_schema.specs.declared.fault.SchemaError.{SchemaError}
-use Rattle.parquet_schema.specs.declared.fault.SchemaError.TheVariants as schemas
+use Rattle.parquet_columns.specs.declared.error.SchemaError.{SchemaError}
+use Rattle.parquet_columns.specs.declared.error.SchemaError.TheVariants as schemas
 
 -- some words, behind a place that a number tells
 abbrev pub at_place : Text → ℕ → Text → Text → Text

@@ -5,8 +5,7 @@ ghost use Rattle.arrow_values.specs.Texts.{text_of};
 ghost use Rattle.report_words.specs.Checks.{of_column, check_text, check_line, checks_text, checked_text, checked_lines, is_failed, has_failed};
 
 use crate::text::shown;
-use geo_reports::{check_lines, no_geo_code, no_geo_line, no_geo_message};
-use geoparquet::GeoFinding;
+use geoparquet::{GeoFinding, check_lines, no_geo_code, no_geo_line, no_geo_message};
 use std::alloc::{AllocError, Global};
 
 /// What is said of the GeoParquet metadata of a Parquet file: of the checks that do not hold, or with `all` of all, a line for each, with the code of the

@@ -5,8 +5,8 @@ ghost use Rattle.report_words.specs.Problems.{at_place, at_line, at_line_byte, l
 
 use arrow_ipc::IpcError;
 use column_files::{FileFault, Form, LineFault};
+use parquet_columns::SchemaError;
 use parquet_footer::{FooterError, Rule};
-use parquet_schema::SchemaError;
 use std::alloc::{AllocError, Global};
 use std::fmt::Display;
 

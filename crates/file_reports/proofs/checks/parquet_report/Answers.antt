@@ -1,7 +1,7 @@
 use Rattle.std.proofs.Common.{map}
 use Rattle.arrow_values.specs.Texts.{text_of}
 use Rattle.arrow_columns.specs.Column.{column_tree}
-use Rattle.parquet_schema.specs.Reads.{footer_in}
+use Rattle.parquet_columns.specs.Reads.{footer_in}
 use Rattle.file_reports.proofs.Whole.{unreported, finished}
 use Rattle.file_reports.proofs.checks.parquet_report.Goals as goal
 

@@ -1,5 +1,0 @@
-use Rattle.geo_reports.proofs.OneLine.{no_geo_one_line}
-use Rattle.geo_reports.proofs.laws.warning_is_one_line.Goals as goal
-
-pub returns : goal.returns
-returns c = no_geo_one_line

@@ -1,0 +1,41 @@
+-- A CRS `projjson:KEY` by what was judged of the value of the key.
+use Rattle.std.proofs.Common.{◌≡◌, Bool, true, false, ◌∷◌, [], Option, Some, None, if◌then◌else◌, refl, ap}
+use Rattle.json.specs.Token.{string}
+use Rattle.json.specs.Lex.{tokens}
+use Rattle.json.specs.Print.{print}
+use Rattle.serde_json.specs.Data.{Data}
+use Rattle.arrow_values.specs.Tree.{Text}
+use Rattle.geoarrow_meta.specs.declared.edges.Edges.{Edges}
+use Rattle.geoarrow_meta.specs.declared.crs.crs_type.CrsType.TheVariants.{Projjson}
+use Rattle.metadata_text.specs.Crs.{is_projjson, IsJson}
+use Rattle.metadata_text.specs.Written.{metadata_tokens}
+use Rattle.metadata_text.proofs.Compact.{compact_is_same}
+use Rattle.parquet_columns.specs.Geometry.{text_crs, keyed_crs, text_with}
+use Rattle.parquet_columns.specs.Values.{compact_of}
+
+-- of a value that is PROJJSON it is that PROJJSON
+pub of_json : (s text : Text) (value : Option Text) (e : Option Edges) → compact_of value ≡ Some text
+    → print (metadata_tokens (tokens text) (Some Projjson) e) ≡ text_with (keyed_crs s value) e
+of_json s text None e is = absurd (cc)
+of_json s text (Some value) e is = json_step (is_projjson value) refl is
+  where
+    json_step : (b : Bool) → is_projjson value ≡ b → (if b then Some (print (tokens value)) else None) ≡ Some text
+        → print (metadata_tokens (tokens text) (Some Projjson) e) ≡ text_with (if b then (record { tokens = tokens value; crs_type = Some Projjson }) else text_crs s None) e
+    json_step true same found = ap (λ ts. print (metadata_tokens ts (Some Projjson) e)) (compact_is_same value text is).tokens_same
+    json_step false other found = absurd (cc)
+
+-- it is JSON
+pub is_read : (text : Text) (value : Option Text) → compact_of value ≡ Some text → (d : Data) × IsJson text d
+is_read text None is = absurd (cc)
+is_read text (Some value) is = (compact_is_same value text is).value
+
+-- of any other it is the text that names it
+pub of_text : (s : Text) (value : Option Text) (e : Option Edges) → compact_of value ≡ None
+    → print (metadata_tokens (string s ∷ []) None e) ≡ text_with (keyed_crs s value) e
+of_text s None e is = refl
+of_text s (Some value) e is = text_step (is_projjson value) is
+  where
+    text_step : (b : Bool) → (if b then Some (print (tokens value)) else None) ≡ None
+        → print (metadata_tokens (string s ∷ []) None e) ≡ text_with (if b then (record { tokens = tokens value; crs_type = Some Projjson }) else text_crs s None) e
+    text_step true none = absurd (cc)
+    text_step false none = refl

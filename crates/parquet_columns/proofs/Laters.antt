@@ -1,0 +1,35 @@
+-- The last of values.
+use Rattle.std.proofs.Common.{◌≡◌, ℕ, ◌+◌, ◌<◌, ◌≤◌, List, [], ◌∷◌, ◌++◌, length, get_or, drop, map, Option, Some, None, refl, sym, ap, ◌∙◌}
+use Rattle.std.proofs.lemmas.List.{at_drop_more, drop_all}
+use Rattle.arrow_values.specs.Tree.{Text}
+use Rattle.parquet_footer.specs.declared.footer.KeyValue.{KeyValue}
+use Rattle.parquet_footer.specs.Footer.{Pairing, pairing}
+use Rattle.parquet_columns.specs.Keys.{later, value_under, value_of}
+
+pub first : (value : Option Text) → later value None ≡ value
+first None = refl
+first (Some v) = refl
+
+turns : (a b c : Option Text) → later (later a b) c ≡ later a (later b c)
+turns None b c = refl
+turns (Some v) b c = refl
+
+-- with one more pair
+pub value_of-push : (key : Text) (ps : List Pairing) (p : Pairing) → value_of key (ps ++ p ∷ []) ≡ later (value_under key p) (value_of key ps)
+value_of-push key [] p = sym (first (value_under key p))
+value_of-push key (q ∷ ps) p = ap (λ v. later v (value_under key q)) (value_of-push key ps p) ∙ turns (value_under key p) (value_of key ps) (value_under key q)
+
+-- the last value behind an index, or the one found before it
+abbrev pub LastFrom : Text → List KeyValue → ℕ → Option Text → Type 0
+LastFrom key ps i found = later (value_of key (map pairing (drop i ps))) found ≡ value_of key (map pairing ps)
+
+module _ (key : Text) (ps : List KeyValue) (i : ℕ) (found : Option Text) (so_far : LastFrom key ps i found) where
+  pub goes_on : (p : KeyValue) → i < length ps → p ≡ get_or ps i p → (next : Option Text) → next ≡ later (value_under key (pairing p)) found → LastFrom key ps (i + 1) next
+  goes_on p lt is next same =
+      let here = at_drop_more (λ ys. later (value_of key (map pairing ys)) found) ps i p lt in
+      let this : later (value_of key (map pairing (get_or ps i p ∷ drop (i + 1) ps))) found ≡ later (value_of key (map pairing (drop (i + 1) ps))) (later (value_under key (pairing p)) found) =
+      ap (λ (x : KeyValue). later (value_of key (map pairing (x ∷ drop (i + 1) ps))) found) (sym is) ∙ turns (value_of key (map pairing (drop (i + 1) ps))) (value_under key (pairing p)) found in
+      ap (later (value_of key (map pairing (drop (i + 1) ps)))) same ∙ sym this ∙ sym here ∙ so_far
+
+  pub ends : length ps ≤ i → found ≡ value_of key (map pairing ps)
+  ends past = ap (λ ys. later (value_of key (map pairing ys)) found) (sym (drop_all i ps past)) ∙ so_far

@@ -1,0 +1,139 @@
+-- Which extension metadata the geometry types of Parquet denote (Parquet, "Geospatial Definitions").
+use Rattle.std.specs.Prelude.{ℕ, zero, suc, ◌+◌, ◌==◌, ◌&&◌, nat_lt, Bool, true, false, not, List, [], ◌∷◌, length, codes, Option, None, Some, unwrap_or, if◌then◌else◌}
+use Rattle.std.specs.List.{position_or_len, before_first, after_first}
+use Rattle.std.specs.Str.{bytes_eq}
+use Rattle.json.specs.Token.{Token, string}
+use Rattle.json.specs.Lex.{tokens}
+use Rattle.json.specs.Print.{print}
+use Rattle.arrow_values.specs.Tree.{Text}
+use Rattle.arrow_values.specs.Texts.{set_extension}
+use Rattle.arrow_columns.specs.Column.{ColumnTree, name_on}
+use Rattle.geoarrow_meta.specs.declared.edges.Edges.{Edges}
+use Rattle.geoarrow_meta.specs.declared.edges.Edges.TheVariants as edges
+use Rattle.geoarrow_meta.specs.declared.crs.crs_type.CrsType.{CrsType}
+use Rattle.geoarrow_meta.specs.declared.crs.crs_type.CrsType.TheVariants.{Projjson, AuthorityCode, Srid}
+use Rattle.metadata_text.specs.Crs.{is_projjson}
+use Rattle.metadata_text.specs.Written.{metadata_tokens}
+use Rattle.parquet_footer.specs.declared.element.PhysicalType.{PhysicalType}
+use Rattle.parquet_footer.specs.declared.element.PhysicalType.TheVariants.{ByteArray}
+use Rattle.parquet_footer.specs.declared.element.Repetition.{Repetition}
+use Rattle.parquet_footer.specs.declared.element.Repetition.TheVariants.{Repeated}
+use Rattle.parquet_footer.specs.declared.logical.Algorithm.{Algorithm}
+use Rattle.parquet_footer.specs.declared.logical.Algorithm.TheVariants.{Spherical, Vincenty, Thomas, Andoyer, Karney}
+use Rattle.parquet_footer.specs.Element.{Element}
+use Rattle.parquet_footer.specs.Footer.{Pairing}
+use Rattle.parquet_footer.specs.Logical.{Logical, geometry, geography}
+use Rattle.parquet_columns.specs.Budget.{size_of}
+use Rattle.parquet_columns.specs.Keys.{value_of}
+
+-- a CRS by the tokens that it is written with, and its type
+pub record TypedCrs : Type 0 where
+  pub tokens : List Token
+  pub crs_type : Option CrsType
+
+-- a text as it is; PROJJSON, where the text is one, and something else where it is none
+abbrev pub text_crs : Text → Option CrsType → TypedCrs
+text_crs s t = record { tokens = string s ∷ []; crs_type = t }
+
+abbrev pub json_or : Text → TypedCrs → TypedCrs
+json_or s other = if is_projjson s then (record { tokens = tokens s; crs_type = Some Projjson }) else other
+
+-- what stands before the first colon of a text and behind it
+abbrev pub is_colon : ℕ → Bool
+is_colon b = b == 58
+
+abbrev pub colon_parts : Text → Option (Text × Text)
+colon_parts s = if nat_lt (position_or_len is_colon s) (length s) then Some (before_first is_colon s, after_first is_colon s) else None
+
+-- projjson:KEY is the value of the key, where that is PROJJSON
+abbrev pub keyed_crs : Text → Option Text → TypedCrs
+keyed_crs s None = text_crs s None
+keyed_crs s (Some value) = json_or value (text_crs s None)
+
+-- srid:NUMBER, projjson:KEY and AUTHORITY:CODE; any other text is of no type
+abbrev pub coded_crs : List Pairing → Text → Option (Text × Text) → TypedCrs
+coded_crs pairs s None = text_crs s None
+coded_crs pairs s (Some p) =
+    if bytes_eq p.0 (codes "srid") then text_crs p.1 (Some Srid) else
+    if bytes_eq p.0 (codes "projjson") then keyed_crs s (value_of p.1 pairs) else
+    text_crs s (Some AuthorityCode)
+
+-- the CRS that is denoted: the format's default where none is named; a text that is PROJJSON itself; or one of those
+abbrev pub crs_in : List Pairing → Option Text → TypedCrs
+crs_in pairs None = text_crs (codes "OGC:CRS84") (Some AuthorityCode)
+crs_in pairs (Some s) = json_or s (coded_crs pairs s (colon_parts s))
+
+-- the edges of a GEOGRAPHY: the format's default is spherical
+abbrev pub edges_of : Option Algorithm → Edges
+edges_of None = edges.Spherical
+edges_of (Some Spherical) = edges.Spherical
+edges_of (Some Vincenty) = edges.Vincenty
+edges_of (Some Thomas) = edges.Thomas
+edges_of (Some Andoyer) = edges.Andoyer
+edges_of (Some Karney) = edges.Karney
+
+-- the text of the metadata with that CRS and those edges
+abbrev pub text_with : TypedCrs → Option Edges → Text
+text_with crs e = print (metadata_tokens crs.tokens crs.crs_type e)
+
+abbrev pub logical_text : List Pairing → Option Logical → Option Text
+logical_text pairs (Some (geometry crs)) = Some (text_with (crs_in pairs crs) None)
+logical_text pairs (Some (geography crs algorithm)) = Some (text_with (crs_in pairs crs) (Some (edges_of algorithm)))
+logical_text pairs _ = None
+
+-- whether an element is a leaf of BYTE_ARRAY, and not repeated
+abbrev pub is_byte_array : Option PhysicalType → Bool
+is_byte_array (Some ByteArray) = true
+is_byte_array _ = false
+
+abbrev pub is_repeated : Option Repetition → Bool
+is_repeated (Some Repeated) = true
+is_repeated _ = false
+
+abbrev pub is_plain_leaf : Element → Bool
+is_plain_leaf e = is_byte_array e.storage.physical_type && not (is_repeated e.storage.repetition)
+
+-- the extension metadata that an element denotes, if it is of a geometry type
+abbrev pub extension_text : List Pairing → Element → Option Text
+extension_text pairs e = if is_plain_leaf e then logical_text pairs e.logical_type else None
+
+-- the extension metadata that a column is given: those that its element denotes, if it has no extension name
+abbrev pub given_by : Option Text → Option Text → Option Text
+given_by None text = text
+given_by (Some name) text = None
+
+abbrev pub given : List Pairing → Option Element → ColumnTree → Option Text
+given pairs None c = None
+given pairs (Some e) c = given_by (name_on c) (extension_text pairs e)
+
+-- with extension metadata that it is given, a column has the name of well-known binary
+abbrev pub marked_by : Option Text → ColumnTree → ColumnTree
+marked_by None c = c
+marked_by (Some text) c = record c { metadata = set_extension (codes "geoarrow.wkb") (Some text) c.metadata }
+
+abbrev pub marked : List Pairing → Option Element → ColumnTree → ColumnTree
+marked pairs e c = marked_by (given pairs e c) c
+
+abbrev pub marked_columns : List Pairing → List Element → List ColumnTree → List ColumnTree
+marked_columns pairs es [] = []
+marked_columns pairs [] (c ∷ cs) = marked pairs None c ∷ marked_columns pairs [] cs
+marked_columns pairs (e ∷ es) (c ∷ cs) = marked pairs (Some e) c ∷ marked_columns pairs es cs
+
+-- how many bytes the extension metadata have together that columns are given
+abbrev pub given_bytes : List Pairing → List Element → List ColumnTree → ℕ
+given_bytes pairs es [] = 0
+given_bytes pairs [] (c ∷ cs) = 0
+given_bytes pairs (e ∷ es) (c ∷ cs) = size_of (given pairs (Some e) c) + given_bytes pairs es cs
+
+-- the children of the root: behind each stand the elements below it, of which so many are still to come
+abbrev pub count_of : Element → ℕ
+count_of e = unwrap_or e.num_children 0
+
+unfoldable pub children_in : ℕ → List Element → List Element
+children_in below [] = []
+children_in zero (e ∷ es) = e ∷ children_in (count_of e) es
+children_in (suc below) (e ∷ es) = children_in (below + count_of e) es
+
+abbrev pub root_children : List Element → List Element
+root_children [] = []
+root_children (root ∷ es) = children_in 0 es

@@ -1,0 +1,143 @@
+//! The extension metadata that Parquet's geometry types denote (Parquet, "Geospatial Definitions"; `docs/FORMAT.md`, 4.6).
+ghost use Rattle.std.specs.Prelude.{◌≡◌, Some, IfOk, List, map, option_map, string_bytes};
+ghost use Rattle.arrow_values.specs.Texts.{text_of};
+ghost use Rattle.parquet_footer.specs.Element.{element};
+ghost use Rattle.parquet_footer.specs.Footer.{Pairing};
+ghost use Rattle.parquet_footer.specs.Logical.{logical};
+ghost use Rattle.parquet_columns.specs.Typed.{IsNamed};
+ghost use Rattle.parquet_columns.specs.Geometry.{text_crs, colon_parts, coded_crs, crs_in, edges_of, text_with, logical_text, is_plain_leaf, extension_text};
+
+use crate::values::KeyValues;
+use geoarrow_meta::{CrsType, Edges};
+use metadata_text::{WrittenCrs, is_projjson, metadata_text};
+use parquet_footer::{Algorithm, LogicalType, PhysicalType, Repetition, SchemaElement};
+use std::alloc::{AllocError, Global};
+
+/// The CRS where a geometry type names none.
+const DEFAULT_CRS: &str = "OGC:CRS84";
+
+/// A CRS that a geometry type names.
+#[derive(Clone, Copy)]
+pub(crate) enum NamedCrs<'a> {
+    /// This one, of this type.
+    Written(WrittenCrs<'a>, Option<CrsType>),
+    /// The value of a key, where it is PROJJSON, or else the text: the text, and the key.
+    Keyed(&'a str, &'a str),
+}
+
+/// A text as a CRS of that type.
+fn text_crs(text: &str, crs_type: Option<CrsType>) -> NamedCrs<'_>
+    ensures { (pairs : List Pairing) → IsNamed pairs result (text_crs text.now crs_type) }
+{
+    NamedCrs::Written(WrittenCrs::Text(text), crs_type)
+}
+
+/// What stands before the first colon of a text, and behind it.
+fn colon_parts(text: &str) -> Option<(&str, &str)>
+    ensures { option_map (λ p. (p.0.now, p.1.now)) result ≡ colon_parts text.now }
+{
+    text.split_once(':')
+}
+
+/// The CRS of a text that is no PROJJSON.
+fn coded_crs(text: &str) -> NamedCrs<'_>
+    ensures { (pairs : List Pairing) → IsNamed pairs result (coded_crs pairs text.now (colon_parts text.now)) }
+{
+    let Some((word, rest)) = colon_parts(text) else {
+        return text_crs(text, None);
+    };
+    if word == "srid" {
+        return text_crs(rest, Some(CrsType::Srid));
+    }
+    if word == "projjson" {
+        return NamedCrs::Keyed(text, rest);
+    }
+    text_crs(text, Some(CrsType::AuthorityCode))
+}
+
+/// The CRS that a geometry type names.
+fn named_crs<'a>(alloc: Global, text: Option<&'a str>) -> Result<NamedCrs<'a>, AllocError>
+    ensures { IfOk result (λ named. (pairs : List Pairing) → IsNamed pairs named (crs_in pairs (text_of text.entry))) }
+{
+    let Some(text) = text else {
+        return Ok(text_crs(DEFAULT_CRS, Some(CrsType::AuthorityCode)));
+    };
+    if is_projjson(alloc, text)? {
+        let crs = WrittenCrs::Json(text);
+        return Ok(NamedCrs::Written(crs, Some(CrsType::Projjson)));
+    }
+    Ok(coded_crs(text))
+}
+
+/// The edges of a GEOGRAPHY.
+fn edges_of(algorithm: Option<Algorithm>) -> Edges
+    ensures { result ≡ edges_of algorithm }
+{
+    match algorithm {
+        None | Some(Algorithm::Spherical) => Edges::Spherical,
+        Some(Algorithm::Vincenty) => Edges::Vincenty,
+        Some(Algorithm::Thomas) => Edges::Thomas,
+        Some(Algorithm::Andoyer) => Edges::Andoyer,
+        Some(Algorithm::Karney) => Edges::Karney,
+    }
+}
+
+/// The text of the metadata with the CRS that a geometry type names and those edges.
+fn text_with<'a>(
+    alloc: Global,
+    values: &mut KeyValues<'_, 'a>,
+    crs: Option<&'a str>,
+    edges: Option<Edges>,
+) -> Result<String, AllocError>
+    ensures text { IfOk result (λ text. string_bytes text ≡ text_with (crs_in values.old (text_of crs.entry)) edges) }
+    ensures same { values.new ≡ values.old }
+{
+    let named = named_crs(alloc, crs)?;
+    match named {
+        NamedCrs::Written(written, crs_type) => metadata_text(alloc, written, crs_type, edges),
+        NamedCrs::Keyed(text, key) => values.keyed_text(alloc, text, key, edges),
+    }
+}
+
+/// The text of the metadata that a logical type denotes, if it is a geometry type.
+fn logical_text<'a>(
+    alloc: Global,
+    values: &mut KeyValues<'_, 'a>,
+    logical_type: Option<LogicalType<'a>>,
+) -> Result<Option<String>, AllocError>
+    ensures text { IfOk result (λ text. option_map string_bytes text
+        ≡ logical_text values.old (option_map logical logical_type.entry)) }
+    ensures same { values.new ≡ values.old }
+{
+    match logical_type {
+        Some(LogicalType::Geometry(crs)) => Ok(Some(text_with(alloc, values, crs, None)?)),
+        Some(LogicalType::Geography(crs, algorithm)) => {
+            let edges = Some(edges_of(algorithm));
+            Ok(Some(text_with(alloc, values, crs, edges)?))
+        }
+        _ => Ok(None),
+    }
+}
+
+/// Whether an element is a leaf of BYTE_ARRAY, and not repeated.
+fn is_plain_leaf(found: &SchemaElement<'_>) -> bool
+    ensures { result ≡ is_plain_leaf (element found.now) }
+{
+    matches!(found.storage.physical_type, Some(PhysicalType::ByteArray))
+        && !matches!(found.storage.repetition, Some(Repetition::Repeated))
+}
+
+/// The text of the extension metadata that an element denotes, if it is of a geometry type. Errs only when out of memory.
+pub(crate) fn extension_text<'a>(
+    alloc: Global,
+    values: &mut KeyValues<'_, 'a>,
+    found: &SchemaElement<'a>,
+) -> Result<Option<String>, AllocError>
+    ensures text { IfOk result (λ text. option_map string_bytes text ≡ extension_text values.old (element found.now)) }
+    ensures same { values.new ≡ values.old }
+{
+    if is_plain_leaf(found) {
+        return logical_text(alloc, values, found.logical_type);
+    }
+    Ok(None)
+}

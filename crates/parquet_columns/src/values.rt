@@ -1,0 +1,182 @@
+//! The values of the keys of a footer, each found by a map.
+ghost use Rattle.std.specs.Prelude.{◌≡◌, [], ◌∷◌, ◌++◌, true, is_some, IfOk, OnOk, List, map, Option, Some, option_map, string_bytes};
+ghost use Rattle.arrow_values.specs.Tree.{Text};
+ghost use Rattle.arrow_values.specs.Texts.{text_of};
+ghost use Rattle.parquet_footer.specs.Footer.{pairing};
+ghost use Rattle.parquet_footer.specs.declared.footer.KeyValue.{KeyValue};
+ghost use Rattle.parquet_columns.specs.Geometry.{keyed_crs, text_with};
+ghost use Rattle.parquet_columns.specs.Keys.{value_of};
+ghost use Rattle.parquet_columns.specs.Values.{at, AreValues, AreJudged, compact_of};
+
+use geoarrow_meta::{CrsType, Edges};
+use metadata_text::{WrittenCrs, compact_projjson, metadata_text};
+use parquet_footer::KeyValue;
+use std::alloc::{AllocError, Global};
+use std::collections::BTreeMap;
+use std::marker::Model;
+
+/// The values of the keys of a footer. A value is found in time that grows with the logarithm of
+/// the number of pairs, and is read as PROJJSON once, however often it is asked for.
+#[derive(Drop)]
+pub(crate) struct KeyValues<'f, 'a> {
+    pairs: &'f [KeyValue<'a>],
+    last: BTreeMap<&'a str, &'a str>,
+    judged: BTreeMap<&'a str, Option<String>>,
+}
+
+impl<'f, 'a> Model for KeyValues<'f, 'a> {
+    ghost use Rattle.std.specs.Prelude.{List, map};
+    ghost use Rattle.std.specs.Coded.{coded_list};
+    ghost use Rattle.parquet_footer.specs.Footer.{Pairing, pairing};
+    ghost use Rattle.parquet_columns.specs.Values.{pairing_code, AreValues, AreJudged};
+
+    ghost coded = { coded_list pairing_code };
+
+    ghost Value = { List Pairing };
+
+    ghost view = { λ r. map pairing r.pairs.now };
+
+    ghost invariant = { λ r. AreValues r.pairs.now r.last × AreJudged r.pairs.now r.judged };
+}
+
+impl<'f, 'a> KeyValues<'f, 'a> {
+    /// Returns the values of these pairs. Errs only when out of memory.
+    pub(crate) fn new(
+        alloc: Global,
+        pairs: &'f [KeyValue<'a>],
+    ) -> Result<KeyValues<'f, 'a>, AllocError>
+        ensures { IfOk result (λ values. values ≡ map pairing pairs.now) }
+    {
+        let mut last = BTreeMap::new(alloc);
+        'pairs: for pair in pairs {
+            put_value(&mut last, pair)?;
+        }
+        let judged = BTreeMap::new(alloc);
+        Ok(KeyValues {
+            pairs,
+            last,
+            judged,
+        })
+    }
+
+    /// Returns the value of a key: the last one, where several pairs of the key have a value.
+    pub(crate) fn value_of(&self, key: &str) -> Option<&'a str>
+        ensures { text_of result ≡ value_of key.now self.now }
+    {
+        value_in(&self.last, key)
+    }
+
+    /// Returns the text of the metadata with the CRS `projjson:KEY`, which is that text, and with
+    /// those edges. Errs only when out of memory.
+    pub(crate) fn keyed_text(
+        &mut self,
+        alloc: Global,
+        text: &str,
+        key: &'a str,
+        edges: Option<Edges>,
+    ) -> Result<String, AllocError>
+        ensures text { IfOk result (λ made. string_bytes made
+            ≡ text_with (keyed_crs text.now (value_of key.now self.old)) edges) }
+        ensures same { self.new ≡ self.old }
+    {
+        let value = value_in(&self.last, key);
+        judge(alloc, &mut self.judged, key, value)?;
+        let json = judged_at(&self.judged, key);
+        text_by(alloc, text, json, edges)
+    }
+}
+
+/// Puts the value of a pair, if it has one, at its key.
+fn put_value<'a>(
+    last: &mut BTreeMap<&'a str, &'a str>,
+    pair: &KeyValue<'a>,
+) -> Result<(), AllocError>
+    ensures { OnOk result ((ps : List KeyValue) → AreValues ps last.old → AreValues (ps ++ pair.now ∷ []) last.new) }
+{
+    match pair.value {
+        None => Ok(()),
+        Some(value) => {
+            drop(last.insert(pair.key, value)?);
+            Ok(())
+        }
+    }
+}
+
+/// The value at a key.
+fn value_in<'a>(last: &BTreeMap<&'a str, &'a str>, key: &str) -> Option<&'a str>
+    ensures { text_of result ≡ text_of (at last.now key.now) }
+{
+    match last.get(key) {
+        Some(value) => Some(*value),
+        None => None,
+    }
+}
+
+/// Puts the PROJJSON that a value is, if it is one, at its key, unless it was put there before.
+fn judge<'a>(
+    alloc: Global,
+    judged: &mut BTreeMap<&'a str, Option<String>>,
+    key: &'a str,
+    value: Option<&str>,
+) -> Result<(), AllocError>
+    ensures stay { (ps : List KeyValue) → AreJudged ps judged.old
+        → text_of value.entry ≡ value_of key.now (map pairing ps) → AreJudged ps judged.new }
+    ensures known { OnOk result (is_some (at judged.new key.now) ≡ true) }
+{
+    if judged.contains_key(key) {
+        return Ok(());
+    }
+    let found = compact_of(alloc, value)?;
+    drop(judged.insert(key, found)?);
+    Ok(())
+}
+
+/// The PROJJSON that a value is, without blanks, if it is one.
+fn compact_of(alloc: Global, value: Option<&str>) -> Result<Option<String>, AllocError>
+    ensures { IfOk result (λ found. option_map string_bytes found ≡ compact_of (text_of value.entry)) }
+{
+    match value {
+        Some(value) => compact_projjson(alloc, value),
+        None => Ok(None),
+    }
+}
+
+/// The PROJJSON at a key, if there is one.
+fn judged_at<'m>(judged: &'m BTreeMap<&str, Option<String>>, key: &str) -> Option<&'m str>
+    ensures { (t : Option Text) → option_map (option_map string_bytes) (at judged.now key.now) ≡ Some t → text_of result ≡ t }
+{
+    match judged.get(key) {
+        Some(found) => text_in(found),
+        None => None,
+    }
+}
+
+/// A text, if there is one.
+fn text_in(text: &Option<String>) -> Option<&str>
+    ensures { text_of result ≡ option_map string_bytes text.now }
+{
+    match text {
+        Some(text) => Some(text.as_str()),
+        None => None,
+    }
+}
+
+/// The text of the metadata with a PROJJSON, or where there is none with the text that names it.
+fn text_by(
+    alloc: Global,
+    text: &str,
+    json: Option<&str>,
+    edges: Option<Edges>,
+) -> Result<String, AllocError>
+    requires { (value : Option Text) × (text_of json ≡ compact_of value) }
+    ensures { (value : Option Text) → text_of json.entry ≡ compact_of value
+        → IfOk result (λ made. string_bytes made ≡ text_with (keyed_crs text.now value) edges) }
+{
+    match json {
+        Some(json) => {
+            let crs = WrittenCrs::Json(json);
+            metadata_text(alloc, crs, Some(CrsType::Projjson), edges)
+        }
+        None => metadata_text(alloc, WrittenCrs::Text(text), None, edges),
+    }
+}

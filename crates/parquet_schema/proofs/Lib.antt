@@ -1,9 +1,0 @@
-mod Children
-mod Jsons
-mod Laters
-mod Maps
-mod Named
-mod Names
-mod Parts
-mod Spending
-mod Steps
