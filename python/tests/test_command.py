@@ -48,7 +48,7 @@ class Command(unittest.TestCase):
         with tempfile.TemporaryDirectory() as folder:
             empty, blank, good = (str(pathlib.Path(folder, name)) for name in ("empty", "blank", "good"))
             for path, text in ((empty, ""), (blank, "\n \t\r\n"), (good, f"{TEXT}\n\n")):
-                pathlib.Path(path).write_text(text, newline="")
+                pathlib.Path(path).write_bytes(text.encode())
             for options in ([], ["--json"], ["--infer", "--notes"]):
                 out, err, status = printed(["check", *options, empty, blank, good])
                 self.assertEqual((err, status), (f"{empty}: is empty\n{blank}: is empty\n", 2))
