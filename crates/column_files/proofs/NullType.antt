@@ -12,7 +12,7 @@ use Rattle.serde_json.specs.View.{view, members_view}
 use Rattle.serde_json.proofs.Views.{Entry, members_view-insert_entry}
 use Rattle.serde_json.specs.declared.value.Value.{Value}
 use Rattle.std.specs.BTreeMap.{insert_entry}
-use Rattle.value_tokens.specs.Presence.{get_member-put_at}
+use Rattle.value_tokens.proofs.Presence.{get_member-put_at}
 use Rattle.arrow_values.specs.Tree.{Text, Tree, plain, null as null_type, Metadata, FieldTree}
 use Rattle.field_lines.specs.FieldOfValue.{under, field_from, field_of_value, type_in, type_of_value, metadata_of_value}
 use Rattle.column_files.specs.Lines.{other_of_value, with_null, with_other, other_column_of, column_or_other, column_of_value}

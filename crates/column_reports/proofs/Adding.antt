@@ -9,7 +9,8 @@ use Rattle.json.specs.Written.{Written, Writes}
 use Rattle.json.proofs.Printed.Tokens.{print_from_push, ends_push}
 use Rattle.arrow_values.specs.Tree.{Text}
 use Rattle.std.proofs.lemmas.Result.{on_ok_weaker}
-use Rattle.value_tokens.specs.Adds.{Adds, added}
+use Rattle.value_tokens.specs.Adds.{Adds}
+use Rattle.value_tokens.proofs.Adding.{added}
 use Rattle.column_reports.specs.Parts.{enclosed, member_text}
 use Rattle.column_reports.specs.Appended.{text_up_to_next, with_commas, ends_behind, AddsParts}
 

@@ -11,7 +11,7 @@ use Rattle.json.specs.Lex.{tokens}
 use Rattle.json.specs.Json.{read_key}
 use Rattle.serde_json.specs.Data.{Data}
 use Rattle.value_tokens.specs.Next.{next_value}
-use Rattle.value_tokens.specs.Turns.{members_over}
+use Rattle.value_tokens.proofs.Turns.{members_over}
 use Rattle.value_places.specs.Lexemes.{tokens_left}
 use Rattle.value_places.specs.Values.{EndsValue}
 use Rattle.crs_text.specs.declared.members.Place.{Place}

@@ -8,7 +8,7 @@ use Rattle.serde_json.specs.Data.{Data, Members, no_members, put}
 use Rattle.serde_json.specs.Find.{get_member}
 use Rattle.serde_json.proofs.Views.{get_member-put, get_member-put_other}
 use Rattle.value_tokens.specs.Next.{next_value, next_members}
-use Rattle.value_tokens.specs.Turns.{member_read}
+use Rattle.value_tokens.proofs.Turns.{member_read}
 use Rattle.value_places.specs.Lexemes.{tokens_left}
 use Rattle.value_places.specs.Values.{EndsValue}
 use Rattle.crs_text.specs.declared.members.Place.{Place}

@@ -11,8 +11,8 @@ use Rattle.serde_json.specs.Data.{Data, null, boolean, number, string, array, ob
 use Rattle.serde_json.specs.Find.{get, get_member, as_object}
 use Rattle.serde_json.specs.Read.{of_json, converted, max_depth}
 use Rattle.value_tokens.specs.Next.{next_value, next_members}
-use Rattle.value_tokens.specs.Turns.{no_value, value-object}
-use Rattle.value_tokens.specs.Beginnings.{value_begins, no_object}
+use Rattle.value_tokens.proofs.Turns.{no_value, value-object}
+use Rattle.value_tokens.proofs.Beginnings.{value_begins, no_object}
 use Rattle.crs_text.specs.MemberText.{member_of}
 
 -- the member, if nothing follows the value

@@ -22,8 +22,8 @@ pub use Rattle.arrow_values.specs.View.{field_trees, member_trees, texts_of, tre
 pub use Rattle.arrow_values.specs.declared.tree.UnionMode.{UnionMode}
 pub use Rattle.value_tokens.specs.Adds.{added, Adds, Prints, prints_array, prints_end, prints_item, PrintsItems, sent, then}
 pub use Rattle.value_tokens.specs.Next.{after, next_after, next_items, next_members, next_value, ReadsAfter, ReadsItems, ReadsMembers, ReadsValue}
-pub use Rattle.value_tokens.specs.Printed.{printed, reads_back}
-pub use Rattle.value_tokens.specs.Turns.{after_some, item_read, item_refused, items_over, key_refused, member_read, members_over, named, no_value, object_too_deep, taken, value-object, value_takes}
+pub use Rattle.value_tokens.proofs.Printed.{printed, reads_back}
+pub use Rattle.value_tokens.proofs.Turns.{after_some, item_read, item_refused, items_over, key_refused, member_read, members_over, named, no_value, object_too_deep, taken, value-object, value_takes}
 pub use Rattle.field_lines.specs.FieldOfValue.{are_keys, field_before, field_from, field_of_value, fields_in, fields_of_value, fixed_size_list_of, id_of_value, integer_of, is_size, kept, large_list_of, list_of, member_before, members_in, members_of_value, metadata_of_value, mode_of_value, size_of_value, texts_in, tree_ids, type_in, type_of_value, under, union_of}
 pub use Rattle.field_lines.specs.Held.{comes_first, held_parts, is_held, is_held_number, items_are_held, members_are_held}
 pub use Rattle.field_lines.specs.Line.{field_of_line, fields_value, line_of_field, members_value, one_key, other_value, parts_value, texts_value, two_keys, type_value, value_of_field, with_metadata}

@@ -5,7 +5,8 @@ use Rattle.std.proofs.lemmas.Map.Text.{is_eq-slice_cmp}
 use Rattle.std.proofs.lemmas.Slice.Eq.{bytes_eq-Decides}
 use Rattle.json.proofs.Grammar.{read_key-shorter}
 use Rattle.value_tokens.specs.declared.refusal.Refusal.{Refusal}
-use Rattle.value_tokens.specs.Presence.{get_member-put_at, Has, has_taken}
+use Rattle.value_tokens.specs.Presence.{Has}
+use Rattle.value_tokens.proofs.Presence.{get_member-put_at, has_taken}
 
 -- what the key that is next leaves
 abbrev pub turn : ℕ → Members → Option (Option Text × List Token) → Option (Members × List Token)

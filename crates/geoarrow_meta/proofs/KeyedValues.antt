@@ -7,8 +7,8 @@ use Rattle.serde_json.specs.Data.{Data, null, string, object, Members, no_member
 use Rattle.serde_json.specs.Find.{as_null, as_str, get_member}
 use Rattle.arrow_values.specs.Tree.{Text}
 use Rattle.value_tokens.specs.Next.{next_value, next_members}
-use Rattle.value_tokens.specs.Turns.{member_read}
-use Rattle.value_tokens.specs.Presence.{get_member-put_at}
+use Rattle.value_tokens.proofs.Turns.{member_read}
+use Rattle.value_tokens.proofs.Presence.{get_member-put_at}
 use Rattle.geoarrow_meta.specs.declared.edges.Edges.{Edges}
 use Rattle.geoarrow_meta.specs.declared.crs.crs_type.CrsType.{CrsType}
 use Rattle.geoarrow_meta.specs.Read.{crs_type_data, edges_data, present}

@@ -18,8 +18,8 @@ use Rattle.serde_json.specs.declared.value.Value.{Value, the_lemmas}
 use Rattle.serde_json.proofs.Views.{view-Array, view-Object}
 use Rattle.arrow_values.specs.Tree.{Text}
 use Rattle.value_tokens.specs.Next.{next_value, next_items, next_members}
-use Rattle.value_tokens.specs.Turns.{value-array, value-object}
-use Rattle.value_tokens.specs.Beginnings.{next_string, next_null, next_number, no_end_array}
+use Rattle.value_tokens.proofs.Turns.{value-array, value-object}
+use Rattle.value_tokens.proofs.Beginnings.{next_string, next_null, next_number, no_end_array}
 use Rattle.geoarrow_meta.specs.PlainTokens.{lexemes_at, tokens_left, Takes, TakesValue, word_token}
 use Rattle.geoarrow_meta.proofs.PlainTexts.{operator_stands, object_opens, array_opens}
 

@@ -15,7 +15,7 @@ use Rattle.serde_json.specs.Read.{number_of, of_json, of_items, of_members, max_
 use Rattle.serde_json.specs.Written.{number_text, outline, items_outline, members_outline}
 use Rattle.serde_json.proofs.Numbers.{number_of-decimal, number_of-negative}
 use Rattle.value_tokens.specs.Adds.{Prints}
-use Rattle.value_tokens.specs.Printed.{reads_back}
+use Rattle.value_tokens.proofs.Printed.{reads_back}
 use Rattle.geoarrow_meta.specs.declared.edges.Edges.{Edges}
 use Rattle.geoarrow_meta.specs.declared.crs.crs_type.CrsType.{CrsType}
 use Rattle.geoarrow_meta.specs.declared.metadata.Metadata.{Metadata}

@@ -6,7 +6,8 @@ use Rattle.std.specs.declared.alloc.Global.{Global}
 use Rattle.json.specs.Token.{Token, string}
 use Rattle.json.specs.Print.{print}
 use Rattle.json.specs.Written.{Written}
-use Rattle.value_tokens.specs.Adds.{Adds, then}
+use Rattle.value_tokens.specs.Adds.{Adds}
+use Rattle.value_tokens.proofs.Adding.{then}
 use Rattle.arrow_values.specs.Tree.{Text}
 use Rattle.geoparquet.specs.declared.finding.GeoFinding.{GeoFinding}
 use Rattle.geoparquet.specs.Lines.{shown_text, lines_text}

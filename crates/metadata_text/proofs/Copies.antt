@@ -12,7 +12,7 @@ use Rattle.json.proofs.Numbered.{value-HasNumbers, ArePrintableOrBad-tokens}
 use Rattle.json.proofs.Printed.Trees.{ArePrintable-json_tokens}
 use Rattle.serde_json.specs.Data.{Data}
 use Rattle.serde_json.specs.Read.{of_json}
-use Rattle.value_tokens.specs.Turns.{converted_some}
+use Rattle.value_tokens.proofs.Turns.{converted_some}
 use Rattle.value_tokens.specs.Adds.{Adds}
 use Rattle.metadata_text.specs.Crs.{IsJson}
 

@@ -7,8 +7,8 @@ use Rattle.json.specs.declared.token.Token.{Token}
 use Rattle.json.specs.declared.token.Token.TheVariants.{BeginObject}
 use Rattle.serde_json.specs.Data.{Data, object, Members, no_members}
 use Rattle.value_tokens.specs.Next.{next_value, next_members}
-use Rattle.value_tokens.specs.Turns.{no_value, value-object}
-use Rattle.value_tokens.specs.Beginnings.{value_begins, no_object}
+use Rattle.value_tokens.proofs.Turns.{no_value, value-object}
+use Rattle.value_tokens.proofs.Beginnings.{value_begins, no_object}
 use Rattle.value_tokens.specs.declared.refusal.Refusal.{Refusal}
 use Rattle.value_tokens.specs.declared.refusal.Refusal.TheVariants.{Text, Memory}
 use Rattle.metadata_text.specs.Crs.{is_object_alone, is_alone_object}

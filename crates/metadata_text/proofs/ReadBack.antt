@@ -13,8 +13,8 @@ use Rattle.serde_json.specs.Data.{Data, object, Members, no_members, put}
 use Rattle.serde_json.specs.Data as tree
 use Rattle.serde_json.specs.Read.{of_json, converted, read}
 use Rattle.value_tokens.specs.Next.{next_value, next_members}
-use Rattle.value_tokens.specs.Turns.{converted_some, value-object, member_read, members_over}
-use Rattle.value_tokens.specs.Beginnings.{next_string, next_null}
+use Rattle.value_tokens.proofs.Turns.{converted_some, value-object, member_read, members_over}
+use Rattle.value_tokens.proofs.Beginnings.{next_string, next_null}
 use Rattle.geoarrow_meta.specs.declared.edges.Edges.{Edges}
 use Rattle.geoarrow_meta.specs.declared.crs.crs_type.CrsType.{CrsType}
 use Rattle.geoarrow_meta.specs.Read.{crs_type_text, edges_text}

@@ -8,7 +8,7 @@ use Rattle.json.specs.Lex.{Lexeme, token, comma, colon, between, lex, fresh, pun
 use Rattle.serde_json.specs.Data.{Data}
 use Rattle.serde_json.specs.Read.{of_json, max_depth, read}
 use Rattle.value_tokens.specs.Next.{next_value}
-use Rattle.value_tokens.specs.Turns.{converted_some}
+use Rattle.value_tokens.proofs.Turns.{converted_some}
 use Rattle.value_places.specs.declared.lexemes.Kind.{Kind}
 use Rattle.value_places.specs.declared.lexemes.Kind.TheVariants.{Comma, Colon, Open, Close, Other}
 use Rattle.value_places.specs.Lexemes.{cut, lexemes_at, tokens_left, kind_of, Passes, NoSpaceBefore}

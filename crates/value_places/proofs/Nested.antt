@@ -9,8 +9,8 @@ use Rattle.serde_json.specs.Data as values
 use Rattle.serde_json.specs.Data.{Num, Data, Items, no_items, item, Members, no_members, put}
 use Rattle.serde_json.specs.Read.{number_of}
 use Rattle.value_tokens.specs.Next.{next_value, next_items, next_members}
-use Rattle.value_tokens.specs.Turns.{no_value, array_too_deep, object_too_deep, item_read, items_over, item_refused, member_read, members_over, member_refused, key_refused}
-use Rattle.value_tokens.specs.Beginnings.{next_string, next_boolean, next_null, next_number, next_array, next_object, no_key, no_end_object, no_end_array, no_bad}
+use Rattle.value_tokens.proofs.Turns.{no_value, array_too_deep, object_too_deep, item_read, items_over, item_refused, member_read, members_over, member_refused, key_refused}
+use Rattle.value_tokens.proofs.Beginnings.{next_string, next_boolean, next_null, next_number, next_array, next_object, no_key, no_end_object, no_end_array, no_bad}
 use Rattle.value_places.specs.declared.lexemes.Kind.TheVariants.{Open, Other}
 use Rattle.value_places.specs.Lexemes.{kind_of_token, kind_of}
 use Rattle.value_places.specs.Nesting.{open_after, Ends}

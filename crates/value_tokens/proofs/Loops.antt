@@ -7,7 +7,7 @@ use Rattle.json.proofs.Grammar.{left_none, left-parse_map, read_key-shorter}
 use Rattle.serde_json.specs.Data.{Data, array, object, item, Members, no_members, put}
 use Rattle.serde_json.specs.Read.{of_members, converted}
 use Rattle.value_tokens.specs.Next.{next_value, next_items, next_members, after}
-use Rattle.value_tokens.specs.Turns.{no_value, value-array, value-object, value_takes, item_read, item_refused, items_over, member_read, member_refused, key_refused, members_over, after_some}
+use Rattle.value_tokens.proofs.Turns.{no_value, value-array, value-object, value_takes, item_read, item_refused, items_over, member_read, member_refused, key_refused, members_over, after_some}
 
 pub passed_takes : (depth : ℕ) (ts r : List Token) → after (next_value depth ts) ≡ Some r → length r < length ts
 passed_takes depth ts r e = let d = after_some (next_value depth ts) r e in value_takes depth ts r d.0 d.1

@@ -1,6 +1,5 @@
 pub mod Next
-pub mod Turns
-pub mod Beginnings
 pub mod Presence
 pub mod Adds
-pub mod Printed
+pub mod Codes
+pub mod Values

@@ -14,6 +14,7 @@
 //! `specs/` also has the laws of these definitions that a reader of objects or a printer of values needs.
 #![tactic(auto)]
 
+mod json_text;
 pub mod laws;
 mod numbers;
 mod open;
@@ -21,14 +22,17 @@ mod print;
 mod refusal;
 mod scalars;
 mod skip;
+mod text;
 mod values;
 
+pub use json_text::{JsonText, member_of, read_json};
 pub use numbers::number_of;
 pub use open::{open_array, open_object};
 pub use print::print_value;
 pub use refusal::Refusal;
 pub use scalars::{read_bool, read_number, read_str, read_text};
 pub use skip::{skip_items, skip_members, skip_rest, skip_value};
+pub use text::text_of;
 pub use values::{put_member, read_value};
 
 /// How deep the arrays and objects of a text may be nested for `serde_json` to read it.

@@ -12,7 +12,7 @@ use serde_json::Number;
 use std::alloc::Global;
 
 /// Takes a value, and returns the text that it is, as the reader lends it. Allocates nothing.
-#[tactic(auto, using(crate::specs::Turns::no_value))]
+#[tactic(auto, using(crate::proofs::Turns::no_value))]
 #[inline(always)]
 pub fn read_str<'a>(reader: &mut Reader<'a>, depth: usize) -> Result<Option<&'a str>, Refusal>
     ensures ok { IfOk result (λ o. ReadsValue as_str depth reader.old (option_map (λ s. s.now) o) reader.new) }
@@ -48,7 +48,7 @@ pub fn read_text(
 }
 
 /// Takes a value, and returns the truth value that it is. Allocates nothing.
-#[tactic(auto, using(crate::specs::Turns::no_value))]
+#[tactic(auto, using(crate::proofs::Turns::no_value))]
 #[inline(always)]
 pub fn read_bool(reader: &mut Reader<'_>, depth: usize) -> Result<Option<bool>, Refusal>
     ensures ok { IfOk result (λ o. ReadsValue as_bool depth reader.old o reader.new) }
@@ -67,7 +67,7 @@ pub fn read_bool(reader: &mut Reader<'_>, depth: usize) -> Result<Option<bool>, 
 }
 
 /// Takes a value, and returns the number that it is. Allocates nothing.
-#[tactic(auto, using(crate::specs::Turns::no_value, crate::specs::Beginnings::next_number))]
+#[tactic(auto, using(crate::proofs::Turns::no_value, crate::proofs::Beginnings::next_number))]
 #[inline(always)]
 pub fn read_number(reader: &mut Reader<'_>, depth: usize) -> Result<Option<Number>, Refusal>
     ensures ok { IfOk result (λ o. ReadsValue as_number depth reader.old (option_map number_view o) reader.new) }

@@ -9,7 +9,7 @@ use crate::refusal::Refusal;
 use json::{Reader, Token};
 
 /// Passes over a value.
-#[tactic(auto, using(crate::specs::Turns::no_value))]
+#[tactic(auto, using(crate::proofs::Turns::no_value))]
 #[cold]
 #[inline(never)]
 pub fn skip_value(reader: &mut Reader<'_>, depth: usize) -> Result<(), Refusal>

@@ -70,7 +70,7 @@ fn read_tokens(alloc: Global, text: &str) -> Result<Option<KeyValues<Value>>, Re
     Ok(found)
 }
 
-#[tactic(auto, using(crate::proofs::KeyedValues::none_yet, crate::proofs::KeyedValues::crs_taken, crate::proofs::KeyedValues::passed, value_tokens::specs::Turns::after_some, value_tokens::specs::Turns::key_refused, value_tokens::specs::Turns::member_refused, value_tokens::specs::Turns::members_over))]
+#[tactic(auto, using(crate::proofs::KeyedValues::none_yet, crate::proofs::KeyedValues::crs_taken, crate::proofs::KeyedValues::passed, value_tokens::proofs::Turns::after_some, value_tokens::proofs::Turns::key_refused, value_tokens::proofs::Turns::member_refused, value_tokens::proofs::Turns::members_over))]
 fn take_values(
     alloc: Global,
     reader: &mut Reader<'_>,
@@ -95,7 +95,7 @@ fn take_values(
 }
 
 // The text that comes next, null as absent; none where another value comes. Allocates nothing.
-#[tactic(auto, using(value_tokens::specs::Turns::no_value))]
+#[tactic(auto, using(value_tokens::proofs::Turns::no_value))]
 fn take_word<'a>(reader: &mut Reader<'a>, depth: usize) -> Result<Option<Option<&'a str>>, Refusal>
     ensures ok { IfOk result (λ w. (d : Data) × (next_value depth reader.old ≡ Some (d, reader.new)) × IsWord w (present (Some d))) }
     ensures shorter { OnOk result (length reader.new < length reader.old) }

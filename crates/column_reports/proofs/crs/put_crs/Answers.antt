@@ -2,7 +2,7 @@ use Rattle.std.proofs.Common.{◌≡◌, ◌++◌, option_map, string_bytes, cod
 use Rattle.std.specs.Str.{IsUtf8}
 use Rattle.std.proofs.lemmas.Str.{IsUtf8-append, IsUtf8-string_bytes}
 use Rattle.arrow_values.specs.Texts.{text_of}
-use Rattle.value_tokens.specs.Adds.{sent}
+use Rattle.value_tokens.proofs.Adding.{sent}
 use Rattle.column_reports.specs.Parts.{member_if, on_one_line}
 use Rattle.column_reports.specs.Appended.{text_up_to_next, with_commas}
 use Rattle.column_reports.proofs.Adding.{text_so_far, opens, spliced}

@@ -5,7 +5,7 @@ use Rattle.arrow_values.specs.Tree.{Text}
 use Rattle.arrow_values.specs.Texts.{text_of}
 use Rattle.arrow_columns.specs.Column.{column_tree}
 use Rattle.column_check.specs.States.{geometry_in}
-use Rattle.value_tokens.specs.Adds.{sent}
+use Rattle.value_tokens.proofs.Adding.{sent}
 use Rattle.column_reports.specs.Parts.{member_if, on_one_line}
 use Rattle.column_reports.specs.Report.{string_if, crs_of, type_word, names_of, found_of, members_of}
 use Rattle.column_reports.specs.Appended.{text_up_to_next, with_commas}

@@ -2,7 +2,7 @@ use Rattle.std.proofs.Common.{arith, ◌≡◌, ◌+◌, [], ◌∷◌, ◌++◌
 use Rattle.std.proofs.lemmas.List.{take_more, take_all}
 use Rattle.std.proofs.lemmas.Simd.{map-map}
 use Rattle.json.specs.Print.{quoted}
-use Rattle.value_tokens.specs.Adds.{sent}
+use Rattle.value_tokens.proofs.Adding.{sent}
 use Rattle.column_reports.specs.Appended.{AddsParts}
 use Rattle.column_reports.proofs.Adding.{finished, opens, value, named, between, one_more}
 use Rattle.column_reports.proofs.put.put_texts.Goals as goal

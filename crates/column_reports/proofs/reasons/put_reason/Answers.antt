@@ -1,5 +1,5 @@
 use Rattle.std.proofs.Common.{[], ◌∷◌, refl}
-use Rattle.value_tokens.specs.Adds.{sent}
+use Rattle.value_tokens.proofs.Adding.{sent}
 use Rattle.column_reports.proofs.Adding.{finished, opens, then, between}
 use Rattle.column_reports.proofs.reasons.put_reason.Goals as goal
 

@@ -1,5 +1,5 @@
 use Rattle.std.proofs.Common.{[], ◌∷◌, codes, refl, sym, subst}
-use Rattle.value_tokens.specs.Adds.{sent}
+use Rattle.value_tokens.proofs.Adding.{sent}
 use Rattle.column_reports.specs.Parts.{member_if}
 use Rattle.column_reports.specs.Report.{reasons_in}
 use Rattle.column_reports.specs.Appended.{AddsParts}

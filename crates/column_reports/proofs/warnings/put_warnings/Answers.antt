@@ -1,6 +1,6 @@
 use Rattle.std.proofs.Common.{arith, ◌≡◌, ◌≢◌, ◌+◌, [], ◌∷◌, ◌++◌, List, map, take, codes, rules, refl, sym, ap, subst, ◌∙◌}
 use Rattle.std.proofs.lemmas.List.{take_more, take_all}
-use Rattle.value_tokens.specs.Adds.{sent}
+use Rattle.value_tokens.proofs.Adding.{sent}
 use Rattle.column_check.specs.declared.warning.Warning.{Warning}
 use Rattle.column_reports.specs.Parts.{member_if, member_text, array_text}
 use Rattle.column_reports.specs.Warnings.{warning_text, warnings_in}

@@ -1,7 +1,7 @@
 use Rattle.std.proofs.Common.{◌≡◌, false, Some, sym, ap, ◌∙◌, true≢false, arith}
 use Rattle.std.proofs.lemmas.Slice.Eq.{bytes_eq-Decides}
 use Rattle.json.specs.Json.{read_key}
-use Rattle.value_tokens.specs.Turns.{key_refused, member_refused, members_over}
+use Rattle.value_tokens.proofs.Turns.{key_refused, member_refused, members_over}
 use Rattle.crs_text.proofs.Walk.{none_yet, wanted_found, other_found, last_of_all, on_err}
 use Rattle.crs_text.proofs.members.take_members.Goals as goal
 

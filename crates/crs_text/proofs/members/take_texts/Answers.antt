@@ -1,6 +1,6 @@
 use Rattle.std.proofs.Common.{◌≡◌, [], Some, None, sym, ap, ◌∙◌, arith}
 use Rattle.json.specs.Json.{read_key}
-use Rattle.value_tokens.specs.Turns.{key_refused, member_refused}
+use Rattle.value_tokens.proofs.Turns.{key_refused, member_refused}
 use Rattle.crs_text.proofs.Walk.{none_yet}
 use Rattle.crs_text.proofs.Texts.{one_more, all_taken}
 use Rattle.crs_text.proofs.members.take_texts.Goals as goal

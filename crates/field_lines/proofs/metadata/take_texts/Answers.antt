@@ -1,6 +1,6 @@
 use Rattle.std.proofs.Common.{arith, rules, None, Some, Err, sym, ap, ◌∙◌}
 use Rattle.field_lines.proofs.Terms.{IfOk-weaker, parse_map, put, object, texts_of, metadata_of_value, texts_value, member_read}
-use Rattle.value_tokens.specs.Beginnings.{object_read}
+use Rattle.value_tokens.proofs.Beginnings.{object_read}
 use Rattle.field_lines.proofs.TokenMembers.{text_refused}
 use Rattle.field_lines.proofs.TokenTexts.{texts_go_on, texts_no_key, texts_no_member, texts_end, slot_put, slots_read}
 use Rattle.field_lines.proofs.metadata.take_texts.Goals as goal

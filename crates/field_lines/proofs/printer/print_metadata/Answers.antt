@@ -1,6 +1,7 @@
 use Rattle.std.proofs.Common.{◌≡◌, [], subst, sym, arith, rules}
 use Rattle.std.proofs.lemmas.Grind.{common_steps}
-use Rattle.value_tokens.specs.Adds.{Adds, sent, then}
+use Rattle.value_tokens.specs.Adds.{Adds}
+use Rattle.value_tokens.proofs.Adding.{sent, then}
 use Rattle.field_lines.proofs.Prints.{finished, prints_metadata, texts_tokens}
 use Rattle.field_lines.proofs.ReadBack.{texts_read_back}
 use Rattle.field_lines.proofs.printer.print_metadata.Goals as goal

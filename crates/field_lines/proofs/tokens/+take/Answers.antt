@@ -3,7 +3,7 @@ use Rattle.field_lines.proofs.Terms.{IfOk-weaker, array, taken, struct, zip, par
 use Rattle.std.proofs.lemmas.Int.{to_z-of_z}
 use Rattle.field_lines.proofs.TokenMembers.{text_refused, after_key, denoted, member_takes, takes_key, part_other, parts_no_key, parts_no_member, only_no_key, only_no_member, only_none, two_no_key, two_no_value, two_none, parts_go_on, parts_end, no_type, only_go_on, only_spoiled, first_read, second_read, two_spoiled, of_fixed_size_list, of_union, no_type_of}
 use Rattle.field_lines.proofs.TokenItems.{array_read, item_takes, item_none, taken_cut, pair_before, item_turn, item_taken, taken_start, taken_go_on, taken_end, taken_spoiled, members_in-pair, zip_push, parts_push}
-use Rattle.value_tokens.specs.Beginnings.{passed, next_string, no_object, no_text, object_read}
+use Rattle.value_tokens.proofs.Beginnings.{passed, next_string, no_object, no_text, object_read}
 use Rattle.field_lines.proofs.tokens.+take.Goals as goal
 
 pub take_fixed_size_list-keys-preserved : goal.take_fixed_size_list-keys-preserved

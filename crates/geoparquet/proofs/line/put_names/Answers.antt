@@ -1,7 +1,8 @@
 use Rattle.std.proofs.Common.{◌≡◌, ◌+◌, [], ◌∷◌, ◌++◌, map, take, string_bytes, refl, sym, ap, ◌∙◌, subst, arith}
 use Rattle.std.proofs.lemmas.List.{take_more, take_all, append-nil}
 use Rattle.json.specs.Token.{string}
-use Rattle.value_tokens.specs.Adds.{Adds, sent}
+use Rattle.value_tokens.specs.Adds.{Adds}
+use Rattle.value_tokens.proofs.Adding.{sent}
 use Rattle.geoparquet.proofs.Appending.{one_more}
 use Rattle.geoparquet.proofs.line.put_names.Goals as goal
 

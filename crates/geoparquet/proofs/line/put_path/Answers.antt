@@ -2,7 +2,8 @@ use Rattle.std.proofs.Common.{string_bytes, sym, subst}
 use Rattle.std.proofs.lemmas.Result.{on_ok_weaker}
 use Rattle.std.proofs.lemmas.Simd.{map-map}
 use Rattle.json.specs.Token.{string}
-use Rattle.value_tokens.specs.Adds.{Adds, added, sent, then}
+use Rattle.value_tokens.specs.Adds.{Adds}
+use Rattle.value_tokens.proofs.Adding.{added, sent, then}
 use Rattle.geoparquet.proofs.line.put_path.Goals as goal
 
 pub returns : goal.returns

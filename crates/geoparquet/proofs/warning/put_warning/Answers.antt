@@ -1,5 +1,5 @@
 use Rattle.std.proofs.lemmas.Result.{on_ok_weaker}
-use Rattle.value_tokens.specs.Adds.{added, sent, then}
+use Rattle.value_tokens.proofs.Adding.{added, sent, then}
 use Rattle.geoparquet.proofs.warning.put_warning.Goals as goal
 
 pub returns : goal.returns

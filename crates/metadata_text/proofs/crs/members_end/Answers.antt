@@ -1,7 +1,7 @@
 use Rattle.std.proofs.Common.{Err, refl, ◌∙◌}
 use Rattle.serde_json.specs.Data.{no_members}
 use Rattle.value_tokens.specs.Next.{next_members}
-use Rattle.value_tokens.specs.Turns.{after_some}
+use Rattle.value_tokens.proofs.Turns.{after_some}
 use Rattle.metadata_text.proofs.Objects.{of_text, flips, refused, ends}
 use Rattle.metadata_text.proofs.crs.members_end.Goals as goal
 

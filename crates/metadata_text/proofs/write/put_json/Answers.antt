@@ -1,7 +1,7 @@
 use Rattle.std.proofs.Common.{◌++◌, refl, sym, ap, subst}
 use Rattle.json.specs.Print.{ArePrintable}
 use Rattle.json.specs.Reads.{token_of}
-use Rattle.value_tokens.specs.Adds.{sent}
+use Rattle.value_tokens.proofs.Adding.{sent}
 use Rattle.metadata_text.proofs.Copies.{printable, first, one_more}
 use Rattle.metadata_text.proofs.write.put_json.Goals as goal
 

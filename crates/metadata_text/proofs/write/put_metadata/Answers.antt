@@ -1,7 +1,7 @@
 use Rattle.std.proofs.Common.{◌≡◌, option_map, arith}
 use Rattle.std.proofs.lemmas.Grind.{common_steps}
 use Rattle.std.proofs.lemmas.Result.{on_ok_weaker}
-use Rattle.value_tokens.specs.Adds.{added, sent, then}
+use Rattle.value_tokens.proofs.Adding.{added, sent, then}
 use Rattle.geoarrow_meta.specs.Read.{crs_type_text, edges_text}
 use Rattle.metadata_text.proofs.write.put_metadata.Goals as goal
 

@@ -2,7 +2,7 @@ use Rattle.std.proofs.Common.{[], ◌∷◌, refl, sym, ap, ◌∙◌}
 use Rattle.std.specs.Str.{IsCharBoundary}
 use Rattle.json.specs.Lex.{fresh, punctuate}
 use Rattle.value_tokens.specs.Next.{next_value}
-use Rattle.value_tokens.specs.Turns.{no_value}
+use Rattle.value_tokens.proofs.Turns.{no_value}
 use Rattle.value_places.specs.Lexemes.{lexemes_at}
 use Rattle.value_places.proofs.Nested.{none_bad, none_begins, leaf_alone}
 use Rattle.value_places.proofs.Ends.{uncut, ends_value, opened_end, if_some_at}

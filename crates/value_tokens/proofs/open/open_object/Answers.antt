@@ -1,5 +1,5 @@
 use Rattle.std.proofs.Common.{arith}
-use Rattle.value_tokens.specs.Beginnings.{passed, no_object}
+use Rattle.value_tokens.proofs.Beginnings.{passed, no_object}
 use Rattle.value_tokens.proofs.open.open_object.Goals as goal
 
 pub returns-in_ok-skip_rest-in_default-clause-ok : goal.returns-in_ok-skip_rest-in_default-clause-ok

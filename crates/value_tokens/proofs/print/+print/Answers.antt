@@ -10,7 +10,8 @@ use Rattle.serde_json.specs.Read.{of_members}
 use Rattle.serde_json.specs.View.{view, items_view, members_view}
 use Rattle.serde_json.specs.Written.{members_outline, has_float, items_have_float, members_have_float}
 use Rattle.serde_json.proofs.Views.{Entry, put_last}
-use Rattle.value_tokens.specs.Adds.{Adds, PrintsItems, added, sent, then, prints_end, prints_item}
+use Rattle.value_tokens.specs.Adds.{Adds, PrintsItems}
+use Rattle.value_tokens.proofs.Adding.{added, sent, then, prints_end, prints_item}
 use Rattle.value_tokens.proofs.print.+print.Goals as goal
 
 pub print_items-loop-item-preserved : goal.print_items-loop-item-preserved

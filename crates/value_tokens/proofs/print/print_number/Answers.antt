@@ -11,7 +11,8 @@ use Rattle.serde_json.specs.View.{number_view}
 use Rattle.serde_json.specs.declared.number.N.{N}
 use Rattle.serde_json.specs.declared.number.N.TheVariants.{PosInt, NegInt, Float}
 use Rattle.serde_json.proofs.Numbers.{number_of-decimal, number_of-negative}
-use Rattle.value_tokens.specs.Adds.{Adds, Prints, added}
+use Rattle.value_tokens.specs.Adds.{Adds, Prints}
+use Rattle.value_tokens.proofs.Adding.{added}
 use Rattle.value_tokens.proofs.print.print_number.Goals as goal
 
 unsigned_seen : (x : Num) (n : ℕ) → as_u64 x ≡ Some n → unsigned n ≡ x

@@ -1,6 +1,6 @@
 use Rattle.std.proofs.Common.{arith, refl, sym}
 use Rattle.serde_json.specs.Data.{boolean}
-use Rattle.value_tokens.specs.Beginnings.{next_boolean, passed, no_truth}
+use Rattle.value_tokens.proofs.Beginnings.{next_boolean, passed, no_truth}
 use Rattle.value_tokens.proofs.scalars.read_bool.Goals as goal
 
 pub returns-in-Bool-clause-ok : goal.returns-in-Bool-clause-ok

@@ -1,7 +1,7 @@
 use Rattle.std.proofs.Common.{arith, refl, sym}
 use Rattle.serde_json.specs.Data.{number}
 use Rattle.serde_json.specs.View.{number_view}
-use Rattle.value_tokens.specs.Beginnings.{next_number, passed, no_numeral}
+use Rattle.value_tokens.proofs.Beginnings.{next_number, passed, no_numeral}
 use Rattle.value_tokens.proofs.scalars.read_number.Goals as goal
 
 pub returns-in-Some-clause-ok : goal.returns-in-Some-clause-ok

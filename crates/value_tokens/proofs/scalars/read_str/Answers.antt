@@ -1,6 +1,6 @@
 use Rattle.std.proofs.Common.{arith, refl, sym}
 use Rattle.serde_json.specs.Data.{string}
-use Rattle.value_tokens.specs.Beginnings.{next_string, passed, no_text}
+use Rattle.value_tokens.proofs.Beginnings.{next_string, passed, no_text}
 use Rattle.value_tokens.proofs.scalars.read_str.Goals as goal
 
 pub returns-in-String-clause-ok : goal.returns-in-String-clause-ok

@@ -3,7 +3,7 @@ use Rattle.json.specs.Json.{parse_map}
 use Rattle.json.proofs.Grammar.{read_key-shorter}
 use Rattle.serde_json.specs.Data.{item}
 use Rattle.serde_json.specs.View.{view, items_view}
-use Rattle.value_tokens.specs.Turns.{item_read, items_over, member_read}
+use Rattle.value_tokens.proofs.Turns.{item_read, items_over, member_read}
 use Rattle.value_tokens.proofs.values.+read.Goals as goal
 
 pub read_items-items-preserved : goal.read_items-items-preserved

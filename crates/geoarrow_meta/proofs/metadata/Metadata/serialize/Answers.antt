@@ -1,7 +1,7 @@
 use Rattle.std.proofs.Common.{if◌then◌else◌, None, Some, option_map, sym, ap, ◌∙◌, subst}
 use Rattle.serde_json.specs.Read.{max_depth}
 use Rattle.serde_json.specs.Written.{compact_text}
-use Rattle.value_tokens.specs.Printed.{printed, reads_back}
+use Rattle.value_tokens.proofs.Printed.{printed, reads_back}
 use Rattle.geoarrow_meta.specs.Read.{DenotesMetadata}
 use Rattle.geoarrow_meta.specs.Written.{meta_value, normal, written, IsReadBack, NestsWithin}
 use Rattle.geoarrow_meta.proofs.Stands.{denotes_normal, nests_within}

@@ -8,8 +8,8 @@ use Rattle.serde_json.specs.Data.{Data, null, string, object}
 use Rattle.serde_json.specs.Read.{of_json, max_depth, read}
 use Rattle.arrow_values.specs.Tree.{Text}
 use Rattle.value_tokens.specs.Next.{next_value}
-use Rattle.value_tokens.specs.Turns.{converted_some, members_over, value_takes}
-use Rattle.value_tokens.specs.Beginnings.{next_object, next_string, next_null}
+use Rattle.value_tokens.proofs.Turns.{converted_some, members_over, value_takes}
+use Rattle.value_tokens.proofs.Beginnings.{next_object, next_string, next_null}
 use Rattle.geoarrow_meta.specs.PlainTokens.{tokens_left, word_token}
 use Rattle.geoarrow_meta.specs.Read.{present}
 use Rattle.geoarrow_meta.proofs.KeyedValues.{crs_taken, crs_type_taken, edges_taken, passed}

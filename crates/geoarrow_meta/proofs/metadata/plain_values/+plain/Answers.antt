@@ -5,7 +5,7 @@ use Rattle.json.specs.Lex.{fresh}
 use Rattle.serde_json.specs.Data.{item}
 use Rattle.serde_json.specs.View.{view, items_view, members_view}
 use Rattle.value_tokens.specs.Next.{next_value, next_members}
-use Rattle.value_tokens.specs.Turns.{item_read, items_over, member_read, members_over, value_takes}
+use Rattle.value_tokens.proofs.Turns.{item_read, items_over, member_read, members_over, value_takes}
 use Rattle.geoarrow_meta.specs.PlainTokens.{tokens_left}
 use Rattle.geoarrow_meta.proofs.PlainValues.{text_read, null_read, number_read, object_read, array_read, not_ended, item_added, member_put}
 use Rattle.geoarrow_meta.proofs.metadata.plain_values.+plain.Goals as goal

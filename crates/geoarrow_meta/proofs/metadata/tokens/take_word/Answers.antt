@@ -2,7 +2,7 @@ use Rattle.std.proofs.Common.{arith, ◌≡◌, ◌∷◌, length, refl, ap, ◌
 use Rattle.json.specs.Token.{Token}
 use Rattle.json.specs.Reads.{token_of}
 use Rattle.value_tokens.specs.Next.{next_value}
-use Rattle.value_tokens.specs.Beginnings.{passed, next_string, next_null, no_text, no_null}
+use Rattle.value_tokens.proofs.Beginnings.{passed, next_string, next_null, no_text, no_null}
 use Rattle.geoarrow_meta.proofs.KeyedValues.{no_word}
 use Rattle.geoarrow_meta.proofs.metadata.tokens.take_word.Goals as goal
 

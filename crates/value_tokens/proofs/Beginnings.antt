@@ -10,7 +10,7 @@ use Rattle.serde_json.specs.Data.{Num, Data, null, boolean, number, string, arra
 use Rattle.serde_json.specs.Find.{as_null, as_str, as_bool, as_number, as_object, as_array}
 use Rattle.serde_json.specs.Read.{number_of, of_json, converted}
 use Rattle.value_tokens.specs.Next.{next_value, next_items, next_members, after, ReadsValue, ReadsMembers}
-use Rattle.value_tokens.specs.Turns.{converted-array, converted-object, after_some}
+use Rattle.value_tokens.proofs.Turns.{converted-array, converted-object, after_some}
 
 pub next_string : (depth : ℕ) (s : List ℕ) (ts : List spec.Token) → next_value depth (spec.string s ∷ ts) ≡ Some (string s, ts)
 next_string depth s ts = ap (converted of_json) (value_is depth ((spec.string s) ∷ ts))
