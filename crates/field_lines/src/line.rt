@@ -14,7 +14,7 @@ use arrow_values::Field;
 use json::{Reader, Scratch, Writer};
 use std::alloc::{AllocError, Global};
 use std::collections::BTreeMap;
-use value_tokens::{MAX_DEPTH, Refusal};
+use value_tokens::{MAX_DEPTH, Refusal, text_of};
 
 /// The room that a line is given at first, in bytes. Most lines take no more.
 const LINE_ROOM: usize = 1024;
@@ -59,7 +59,7 @@ pub fn field_line(alloc: Global, field: &Field) -> Result<String, AllocError>
 {
     let mut out = Writer::new(Vec::with_capacity(alloc, LINE_ROOM)?);
     print_field(field, &mut out)?;
-    Ok(unsafe { String::from_utf8_unchecked(out.into_inner()) })
+    Ok(text_of(out))
 }
 
 /// The line of a column whose type is another than the 26 (docs/FORMAT.md, 2.7): that of a field, with an object at its key `type` whose
@@ -81,5 +81,5 @@ pub fn other_line(
 {
     let mut out = Writer::new(Vec::with_capacity(alloc, LINE_ROOM)?);
     print_other(name, nullable, metadata, notation, &mut out)?;
-    Ok(unsafe { String::from_utf8_unchecked(out.into_inner()) })
+    Ok(text_of(out))
 }

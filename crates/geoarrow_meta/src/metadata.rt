@@ -33,6 +33,7 @@ use serde_json::Value;
 use std::alloc::{AllocError, Global};
 use std::sync::Arc;
 use tokens::read_noting;
+use value_tokens::text_of;
 pub use tokens::read_values;
 use write::{print_object, written_value};
 
@@ -163,7 +164,7 @@ impl Metadata {
         }
         let mut out = Writer::new(Vec::with_capacity(alloc, 128)?);
         print_object(self, &mut out)?;
-        Ok(Some(unsafe { String::from_utf8_unchecked(out.into_inner()) }))
+        Ok(Some(text_of(out)))
     }
 
     /// The metadata that a text at a field's `ARROW:extension:metadata`, or its absence, denotes. No text gives the

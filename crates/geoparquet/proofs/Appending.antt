@@ -36,7 +36,3 @@ one_more names i name {start} taken before adds =
       tokens = added.tokens ∙ ap (λ ts. start.tokens ++ ts) (sym (map-append (λ n. string (string_bytes n)) (take i names) (name ∷ [])) ∙ ap (map (λ n. string (string_bytes n))) (sym taken));
       before = added.before;
     }
-
--- the text of a writer that began with nothing
-pub whole_text : (before bytes : List ℕ) (ts us : List Token) → before ≡ [] → ts ≡ us → bytes ≡ before ++ print ts → bytes ≡ print us
-whole_text before bytes ts us none are is = is ∙ ap (λ xs. xs ++ print ts) none ∙ ap print are

@@ -1,5 +1,5 @@
 //! The line of a finding.
-ghost use Rattle.std.specs.Prelude.{◌≡◌, ◌∷◌, [], ◌++◌, IfOk, OnOk, Some, codes, map, option_map, string_bytes};
+ghost use Rattle.std.specs.Prelude.{◌≡◌, ◌≢◌, All, ◌∷◌, [], ◌++◌, IfOk, OnOk, Some, codes, map, option_map, string_bytes};
 ghost use Rattle.json.specs.Token.{key, string, boolean};
 ghost use Rattle.arrow_values.specs.Texts.{text_of};
 ghost use Rattle.value_tokens.specs.Adds.{Adds};
@@ -8,6 +8,7 @@ ghost use Rattle.geoparquet.specs.Lines.{text_tokens, path_tokens, finding_token
 use crate::finding::GeoFinding;
 use json::Writer;
 use std::alloc::{AllocError, Global};
+use value_tokens::text_of;
 
 /// The line of a finding: a JSON object with the keys `check`, `column`, `file`, `message`, `ok` and `path`, in this order and without blanks
 /// (`docs/FORMAT.md`, 5.1), and without a line feed. `column` is left out of a finding on all the metadata, and `file` where none is named.
@@ -23,12 +24,13 @@ pub fn check_line(
     file: Option<&str>,
     finding: &GeoFinding,
 ) -> Result<String, AllocError>
-    ensures { IfOk result (λ line. string_bytes line ≡ line_text (text_of file.entry) finding.now) }
+    ensures text { IfOk result (λ line. string_bytes line ≡ line_text (text_of file.entry) finding.now) }
+    ensures one_line { IfOk result (λ line. All (λ b. b ≢ 10) (string_bytes line)) }
 {
     let path = finding.path(alloc)?;
     let mut out = Writer::new(Vec::new(alloc));
     put_finding(&mut out, file, finding, path.as_slice())?;
-    Ok(unsafe { String::from_utf8_unchecked(out.into_inner()) })
+    Ok(text_of(out))
 }
 
 // Writes the object of a finding with that path.

@@ -1,5 +1,5 @@
 //! The warning of a file that has columns of geometries, and no metadata of GeoParquet.
-ghost use Rattle.std.specs.Prelude.{◌≡◌, IfOk, OnOk, string_bytes};
+ghost use Rattle.std.specs.Prelude.{◌≡◌, ◌≢◌, All, IfOk, OnOk, string_bytes};
 ghost use Rattle.arrow_values.specs.Texts.{text_of};
 ghost use Rattle.value_tokens.specs.Adds.{Adds};
 ghost use Rattle.geoparquet.specs.Warnings.{no_geo_code, no_geo_message, no_geo_tokens, no_geo_text};
@@ -7,6 +7,7 @@ ghost use Rattle.geoparquet.specs.Warnings.{no_geo_code, no_geo_message, no_geo_
 use crate::line::put_text;
 use json::Writer;
 use std::alloc::{AllocError, Global};
+use value_tokens::text_of;
 
 /// The code of the warning that a file has columns of geometries, and no metadata of GeoParquet (docs/FORMAT.md, 5.1).
 pub fn no_geo_code() -> &'static str
@@ -32,11 +33,12 @@ pub fn no_geo_message() -> &'static str
 /// assert_eq!(rt; line.as_str(), text.as_str());
 /// ```
 pub fn no_geo_line(alloc: Global, file: Option<&str>) -> Result<String, AllocError>
-    ensures { IfOk result (λ line. string_bytes line ≡ no_geo_text (text_of file.entry)) }
+    ensures text { IfOk result (λ line. string_bytes line ≡ no_geo_text (text_of file.entry)) }
+    ensures one_line { IfOk result (λ line. All (λ b. b ≢ 10) (string_bytes line)) }
 {
     let mut out = Writer::new(Vec::new(alloc));
     put_warning(&mut out, file)?;
-    Ok(unsafe { String::from_utf8_unchecked(out.into_inner()) })
+    Ok(text_of(out))
 }
 
 // Writes the object of the warning.

@@ -70,7 +70,3 @@ reads crs d t e text is are =
     let closed : next_members 126 three last ≡ Some (three, []) = members_over 126 three last [] refl in
     let members = named ∙ text_next (codes "crs_type") (option_map crs_type_text t) one edges ∙ text_next (codes "edges") (option_map edges_text e) two last ∙ closed in
     whole text (metadata_data d t e) (ap (next_value 127) are ∙ opened ∙ ap (parse_map object) members ∙ ap (λ x. Some (x, [])) (in_order d t e))
-
--- the text of a writer that began with nothing
-pub whole_text : (before bytes : List ℕ) (ts us : List Token) → before ≡ [] → ts ≡ us → bytes ≡ before ++ print ts → bytes ≡ print us
-whole_text before bytes ts us none are is = is ∙ ap (λ xs. xs ++ print ts) none ∙ ap print are

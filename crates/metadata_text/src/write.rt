@@ -13,6 +13,7 @@ use crate::crs::{WrittenCrs, is_projjson};
 use geoarrow_meta::{CrsType, Edges};
 use json::{Reader, Scratch, Token, Writer};
 use std::alloc::{AllocError, Global};
+use value_tokens::text_of;
 
 /// The text of extension metadata with these three values (GeoArrow, "Extension metadata"): an object with `crs`, which is null if there is
 /// none, with `crs_type` if there is one, and with `edges` if there are any, in this order and without blanks. The tokens of a CRS in JSON are
@@ -36,7 +37,7 @@ pub fn metadata_text(
 {
     let mut out = Writer::new(Vec::new(alloc));
     put_metadata(alloc, crs, crs_type, edges, &mut out)?;
-    Ok(unsafe { String::from_utf8_unchecked(out.into_inner()) })
+    Ok(text_of(out))
 }
 
 /// Returns the text of a PROJJSON, a JSON object as `is_projjson` has it, without blanks: its tokens
@@ -63,7 +64,7 @@ fn json_text(alloc: Global, text: &str) -> Result<String, AllocError>
 {
     let mut out = Writer::new(Vec::new(alloc));
     put_json(alloc, text, &mut out)?;
-    Ok(unsafe { String::from_utf8_unchecked(out.into_inner()) })
+    Ok(text_of(out))
 }
 
 // Writes the object.

@@ -1,7 +1,8 @@
 -- Tokens that are added one after another.
-use Rattle.std.specs.Prelude.{List, [], ◌∷◌, ◌++◌, Result, Ok, Err, OnOk, option_map, option_and_then, refl}
+use Rattle.std.specs.Prelude.{◌≡◌, ℕ, List, [], ◌∷◌, ◌++◌, Result, Ok, Err, OnOk, option_map, option_and_then, refl}
 use Rattle.std.proofs.Common.{ap, ◌∙◌, append_assoc}
 use Rattle.json.specs.Token.{Token, begin_array, end_array}
+use Rattle.json.specs.Print.{print}
 use Rattle.json.specs.Written.{Written, Writes}
 use Rattle.serde_json.specs.Data.{Data, array, Items, no_items, item}
 use Rattle.serde_json.specs.Read.{of_items}
@@ -36,3 +37,7 @@ prints_item {d} {ds} one more = record {
 
 pub prints_array : {ds : Items} {a b c : Written} → Adds (begin_array ∷ []) a b → PrintsItems ds b c → Prints (array ds) a c
 prints_array begin items = record { adds = then begin items.adds; reads_back = ap (option_map array) items.reads_back }
+
+-- the text of a writer that began with nothing
+pub whole_text : (before bytes : List ℕ) (ts us : List Token) → before ≡ [] → ts ≡ us → bytes ≡ before ++ print ts → bytes ≡ print us
+whole_text before bytes ts us none are is = is ∙ ap (λ xs. xs ++ print ts) none ∙ ap print are

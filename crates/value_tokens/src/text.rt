@@ -1,6 +1,7 @@
 //! The text that a JSON writer wrote.
 ghost use Rattle.std.specs.Prelude.{◌≡◌, ◌≢◌, ◌++◌, All, string_bytes};
 ghost use Rattle.std.specs.Str.{IsUtf8};
+ghost use Rattle.json.specs.Lex.{tokens};
 ghost use Rattle.json.specs.Print.{print};
 
 use json::Writer;
@@ -10,6 +11,7 @@ use json::Writer;
 pub fn text_of(out: Writer) -> String
     requires { IsUtf8 out.before }
     ensures text { string_bytes result ≡ out.before ++ print out.tokens }
+    ensures reads_back { tokens (print out.tokens) ≡ out.tokens }
     ensures one_line { All (λ b. b ≢ 10) (print out.tokens) }
 {
     unsafe { String::from_utf8_unchecked(out.into_inner()) }

@@ -3,7 +3,7 @@ use Rattle.arrow_values.specs.Texts.{text_of}
 use Rattle.value_tokens.specs.Adds.{Adds}
 use Rattle.geoparquet.specs.Words.{path_of}
 use Rattle.geoparquet.specs.Lines.{finding_tokens, line_tokens}
-use Rattle.geoparquet.proofs.Appending.{whole_text}
+use Rattle.value_tokens.proofs.Adding.{whole_text}
 use Rattle.geoparquet.proofs.line.check_line.Goals as goal
 
 pub returns : goal.returns
@@ -13,4 +13,4 @@ returns c =
     let names : map string_bytes c.as_slice.result.now ≡ path_of f.check (option_map string_bytes f.column) = ap (map string_bytes) c.as_slice.ensures.value ∙ c.in_ok-path.ensures in
     let added = subst (λ path. Adds (finding_tokens file f path) c.new-out.result c.put_finding.new.out) names c.in_ok-put_finding.ensures in
     let are = added.tokens ∙ ap (λ xs. xs ++ line_tokens file f) c.new-out.ensures.tokens in
-    ap (λ b. b.items) c.from_utf8_unchecked.ensures.value ∙ whole_text _ _ _ _ (added.before ∙ c.new-out.ensures.before ∙ c.new.ensures.items) are c.into_inner.ensures.items
+    whole_text _ _ _ _ (added.before ∙ c.new-out.ensures.before ∙ c.new.ensures.items) are c.text_of.ensures.text

@@ -1,11 +1,11 @@
 use Rattle.std.proofs.Common.{◌++◌, ap, ◌∙◌}
 use Rattle.arrow_values.specs.Texts.{text_of}
 use Rattle.geoparquet.specs.Warnings.{no_geo_tokens}
-use Rattle.geoparquet.proofs.Appending.{whole_text}
+use Rattle.value_tokens.proofs.Adding.{whole_text}
 use Rattle.geoparquet.proofs.warning.no_geo_line.Goals as goal
 
 pub returns : goal.returns
 returns c =
     let added = c.in_ok-put_warning.ensures in
     let are = added.tokens ∙ ap (λ xs. xs ++ no_geo_tokens (text_of c.args.file)) c.new-out.ensures.tokens in
-    ap (λ b. b.items) c.from_utf8_unchecked.ensures.value ∙ whole_text _ _ _ _ (added.before ∙ c.new-out.ensures.before ∙ c.new.ensures.items) are c.into_inner.ensures.items
+    whole_text _ _ _ _ (added.before ∙ c.new-out.ensures.before ∙ c.new.ensures.items) are c.text_of.ensures.text

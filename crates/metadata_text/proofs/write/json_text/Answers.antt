@@ -1,10 +1,10 @@
 use Rattle.std.proofs.Common.{◌++◌, ap, ◌∙◌}
 use Rattle.json.specs.Lex.{tokens}
-use Rattle.metadata_text.proofs.ReadBack.{whole_text}
+use Rattle.value_tokens.proofs.Adding.{whole_text}
 use Rattle.metadata_text.proofs.write.json_text.Goals as goal
 
 pub returns : goal.returns
 returns c =
     let added = c.in_ok-put_json.ensures in
     let are = added.tokens ∙ ap (λ xs. xs ++ tokens c.args.text.now) c.new-out.ensures.tokens in
-    ap (λ b. b.items) c.from_utf8_unchecked.ensures.value ∙ whole_text _ _ _ _ (added.before ∙ c.new-out.ensures.before ∙ c.new.ensures.items) are c.into_inner.ensures.items
+    whole_text _ _ _ _ (added.before ∙ c.new-out.ensures.before ∙ c.new.ensures.items) are c.text_of.ensures.text

@@ -2,7 +2,8 @@ use Rattle.std.proofs.Common.{◌++◌, sym, ap, ◌∙◌}
 use Rattle.json.specs.Lex.{tokens}
 use Rattle.json.specs.Print.{print}
 use Rattle.metadata_text.specs.Written.{crs_tokens, metadata_tokens}
-use Rattle.metadata_text.proofs.ReadBack.{reads, whole_text}
+use Rattle.value_tokens.proofs.Adding.{whole_text}
+use Rattle.metadata_text.proofs.ReadBack.{reads}
 use Rattle.metadata_text.proofs.write.metadata_text.Goals as goal
 
 pub returns : goal.returns
@@ -10,8 +11,8 @@ returns c =
     let added = c.in_ok-put_metadata.ensures in
     let ts = metadata_tokens (crs_tokens c.args.crs) c.args.crs_type c.args.edges in
     let are = added.tokens ∙ ap (λ xs. xs ++ ts) c.new-out.ensures.tokens in
-    let text = ap (λ b. b.items) c.from_utf8_unchecked.ensures.value ∙ whole_text _ _ _ _ (added.before ∙ c.new-out.ensures.before ∙ c.new.ensures.items) are c.into_inner.ensures.items in
+    let text = whole_text _ _ _ _ (added.before ∙ c.new-out.ensures.before ∙ c.new.ensures.items) are c.text_of.ensures.text in
     record {
       text = text;
-      reads = λ d is. reads c.args.crs d c.args.crs_type c.args.edges _ is (ap tokens text ∙ ap (λ xs. tokens (print xs)) (sym are) ∙ c.into_inner.ensures.reads_back ∙ are);
+      reads = λ d is. reads c.args.crs d c.args.crs_type c.args.edges _ is (ap tokens text ∙ ap (λ xs. tokens (print xs)) (sym are) ∙ c.text_of.ensures.reads_back ∙ are);
     }

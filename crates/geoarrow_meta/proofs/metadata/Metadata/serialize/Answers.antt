@@ -12,8 +12,8 @@ returns c =
     let m = c.args.self.now in
     let d = written m.crs.value m.crs.crs_type m.edges in
     let is = ap (λ bare. if bare then None else Some d) (sym c.if-is_bare.false ∙ c.is_bare.ensures.bare) in
-    let text = ap Some (ap (λ b. b.items) c.from_utf8_unchecked.ensures.value ∙ printed d (c.new-out.ensures.before ∙ c.in_ok-with_capacity.ensures.items) c.new-out.ensures.tokens c.in_ok-print_object.ensures c.into_inner.ensures.items) ∙ ap (option_map compact_text) is in
-    let back = subst (λ o. NestsWithin max_depth o → IsReadBack o) is (reads_back d c.new-out.ensures.tokens c.in_ok-print_object.ensures c.into_inner.ensures.reads_back) in
+    let text = ap Some (printed d (c.new-out.ensures.before ∙ c.in_ok-with_capacity.ensures.items) c.new-out.ensures.tokens c.in_ok-print_object.ensures c.text_of.ensures.text) ∙ ap (option_map compact_text) is in
+    let back = subst (λ o. NestsWithin max_depth o → IsReadBack o) is (reads_back d c.new-out.ensures.tokens c.in_ok-print_object.ensures c.text_of.ensures.reads_back) in
     let stands = λ (back : IsReadBack (meta_value m)).
     subst (λ o. DenotesMetadata o (normal m)) (sym text) (denotes_normal m c.is_bare.ensures.valid back) in
     record { text = text; read_back = back; reads_as = stands; nested = λ shallow. stands (back (nests_within m shallow)) }
