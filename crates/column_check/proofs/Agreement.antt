@@ -13,12 +13,13 @@ use Rattle.geoarrow_layout.specs.declared.fault.LayoutFault.{LayoutFault}
 use Rattle.geoarrow_layout.specs.Kinds.{name_text, name_of, extension_of}
 use Rattle.geoarrow_layout.specs.Candidates.{IsAccepted}
 use Rattle.geoarrow_layout.specs.FaultAt.{Path, FaultAt}
+use Rattle.geoarrow_layout.specs.Inferred.{InferredAs}
 use Rattle.geoarrow_meta.specs.declared.metadata.Metadata.{Metadata}
 use Rattle.geoarrow_meta.specs.Read.{crs_type_data, edges_data, some_has_float, DenotesMetadata}
 use Rattle.geoarrow_native.specs.Column.{ReadsAs}
 use Rattle.geoarrow_schema.specs.Types.{kind_of, meta_of}
 use Rattle.geoarrow_schema.specs.Reads.{HasGeoArrowName, ReadsAsNone}
-use Rattle.geoarrow_schema.specs.Infers.{InferredAs, InfersAs, InfersNone}
+use Rattle.geoarrow_schema.specs.Infers.{InfersAs, InfersNone}
 use Rattle.column_check.specs.Metadata.{Values, values_of, TextDenotes, HasMetadataFault}
 use Rattle.column_check.specs.Types.{HasTypeFault}
 use Rattle.column_check.specs.Finding.{HasName, IsOfKind, IsTakenFor, IsInvalidFor}

@@ -8,7 +8,7 @@ use Rattle.geoarrow_layout.specs.declared.fault.LayoutFault.TheVariants.{Unexpec
 use Rattle.geoarrow_layout.specs.Kinds.{name_text}
 use Rattle.geoarrow_layout.specs.Shapes.{Accepts}
 use Rattle.geoarrow_layout.specs.FaultAt.{Path, FaultAt, names_along}
-use Rattle.geoarrow_schema.specs.Infers.{InferredAs}
+use Rattle.geoarrow_layout.specs.Inferred.{InferredAs}
 use Rattle.column_check.specs.declared.data_type.TypeFault.{TypeFault}
 use Rattle.column_check.specs.declared.data_type.TypeFault.TheVariants.{UnsupportedType, WrongStorage, Layout}
 

@@ -11,8 +11,7 @@ use crate::data_type::{TypeFault, kind_under};
 use crate::finding::{Finding, Geometry, Reasons};
 use crate::metadata::{ColumnMetadata, MetadataFault, read_metadata};
 use arrow_columns::{Column, ColumnType};
-use geoarrow_layout::ExtensionName;
-use geoarrow_schema::{Kind, infer_kind};
+use geoarrow_layout::{ExtensionName, Kind, infer_kind};
 use std::alloc::{AllocError, Global};
 
 /// What each column of a schema holds: one finding for each, in order, which depends only on its own column. Errs only when out

@@ -12,7 +12,7 @@ ghost use Rattle.column_check.specs.Warnings.{lacks_doubles, lacks_axis_names, i
 
 use crate::warning::WarningCode;
 use arrow_values::{DataType, Field};
-use geoarrow_schema::Kind;
+use geoarrow_layout::Kind;
 
 /// Whether that warning holds of a coordinate or a box; of any other data type, none does.
 pub(crate) fn is_doubtful(code: WarningCode, kind: Kind, data_type: &DataType) -> bool

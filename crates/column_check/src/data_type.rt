@@ -10,8 +10,7 @@ ghost use Rattle.geoarrow_layout.specs.Shapes.{Accepts};
 
 use arrow_columns::ColumnType;
 use arrow_values::DataType;
-use geoarrow_layout::{ExtensionName, LayoutFault, child_field, find_fault, parse_kind};
-use geoarrow_schema::Kind;
+use geoarrow_layout::{ExtensionName, Kind, LayoutFault, child_field, find_fault, parse_kind};
 use std::alloc::{AllocError, Global};
 
 /// Why a column's type is of no kind under an extension name (GeoArrow, "Native encoding").

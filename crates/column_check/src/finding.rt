@@ -4,7 +4,7 @@ ghost use Rattle.column_check.specs.States.{is_invalid, is_geometry, geometry_in
 
 use crate::data_type::TypeFault;
 use crate::metadata::{ColumnMetadata, MetadataFault};
-use geoarrow_schema::Kind;
+use geoarrow_layout::Kind;
 
 /// What is said of a column.
 #[derive(Debug, Drop)]

@@ -10,9 +10,8 @@ ghost use Rattle.column_check.specs.Agrees.{AgreesWithType, IsReadWhereWhole, Re
 use crate::finding::Finding;
 use arrow_columns::{Column, ColumnType};
 use arrow_values::Field;
-use geoarrow_layout::{names_are_distinct, no_fault_if_accepted, one_fault, one_kind};
+use geoarrow_layout::{infer_kind, names_are_distinct, no_fault_if_accepted, one_fault, one_kind};
 use geoarrow_native::laws::reads_as_one_column;
-use geoarrow_schema::infer_kind;
 
 /// A law: of a column one thing is said, with or without inference: two findings of it say the same. There is no need to run this.
 pub fn finding_is_unique(column: &Column, _one: &Finding, _other: &Finding)

@@ -8,8 +8,7 @@ use crate::coordinates::is_doubtful;
 use crate::warning::{Warning, WarningCode};
 use crate::way::{Rest, Way, tell_if};
 use arrow_values::{DataType, Field};
-use geoarrow_layout::ExtensionName;
-use geoarrow_schema::Kind;
+use geoarrow_layout::{ExtensionName, Kind};
 use std::alloc::{AllocError, Global};
 
 /// What is looked for in a data type.

@@ -8,7 +8,7 @@ use Rattle.geoarrow_meta.specs.declared.edges.Edges.{Edges}
 use Rattle.geoarrow_meta.specs.Read.{edges_text, crs_type_text}
 use Rattle.geoarrow_layout.specs.declared.encodings.Kind.{Kind}
 use Rattle.geoarrow_layout.specs.Kinds.{coord_type_of, dimension_of}
-use Rattle.geoarrow_fields.specs.Answer.{kind_word, coord_type_word, dimension_word}
+use Rattle.geoarrow_layout.specs.KindWords.{kind_word, coord_type_word, dimension_word}
 use Rattle.column_check.specs.declared.finding.Geometry.{Geometry as GeometryColumn}
 use Rattle.column_check.specs.declared.finding.Finding.{Finding as ColumnFinding}
 use Rattle.column_check.specs.declared.finding.Finding.TheVariants.{Geometry, Invalid, Extension, Inferred, Plain}

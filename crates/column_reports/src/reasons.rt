@@ -1,6 +1,5 @@
 //! The reasons of a column that is invalid.
 ghost use Rattle.std.specs.Prelude.{◌≡◌, ◌∷◌, [], OnOk, codes, map, string_bytes};
-ghost use Rattle.geoarrow_layout.specs.Faults.{fault_text};
 ghost use Rattle.column_reports.specs.Parts.{member_if};
 ghost use Rattle.column_reports.specs.Reasons.{more_if, reason_text, own_reason, fault_code, type_message, type_reason, metadata_reasons, reasons_of};
 ghost use Rattle.column_reports.specs.Report.{reasons_in};
@@ -22,28 +21,22 @@ pub(crate) const NOT_OBJECT_MESSAGE: &str = "metadata is not an object";
 
 pub(crate) const EXTENSION_MESSAGE: &str = "GeoArrow has no extension type of this name";
 
-/// The code and the message of a layout's fault.
-fn fault_words(fault: LayoutFault) -> (&'static str, &'static str)
-    ensures { (result.0.now ≡ fault_code fault) × (result.1.now ≡ fault_text fault) }
+/// The code of a layout's fault.
+fn fault_code(fault: LayoutFault) -> &'static str
+    ensures { result.now ≡ fault_code fault }
 {
     match fault {
-        LayoutFault::UnexpectedType => ("UnexpectedType", "unexpected data type"),
-        LayoutFault::BadInterleavedName => ("BadInterleavedName", "unknown interleaved field name"),
-        LayoutFault::BadSize => ("BadSize", "list size differs from the field name"),
-        LayoutFault::BadFieldNames => ("BadFieldNames", "unexpected field names"),
-        LayoutFault::BadFieldCount => ("BadFieldCount", "unexpected number of fields"),
-        LayoutFault::MixedWidths => ("MixedWidths", "list widths differ"),
-        LayoutFault::BadTypeId => ("BadTypeId", "unexpected type id"),
-        LayoutFault::MemberDimension => (
-            "MemberDimension",
-            "member dimension differs from its type id",
-        ),
-        LayoutFault::EmptyUnion => ("EmptyUnion", "union has no members"),
-        LayoutFault::SeveralCoordTypes => (
-            "SeveralCoordTypes",
-            "several coordinate types in union",
-        ),
-        LayoutFault::SeveralDimensions => ("SeveralDimensions", "several dimensions in union"),
+        LayoutFault::UnexpectedType => "UnexpectedType",
+        LayoutFault::BadInterleavedName => "BadInterleavedName",
+        LayoutFault::BadSize => "BadSize",
+        LayoutFault::BadFieldNames => "BadFieldNames",
+        LayoutFault::BadFieldCount => "BadFieldCount",
+        LayoutFault::MixedWidths => "MixedWidths",
+        LayoutFault::BadTypeId => "BadTypeId",
+        LayoutFault::MemberDimension => "MemberDimension",
+        LayoutFault::EmptyUnion => "EmptyUnion",
+        LayoutFault::SeveralCoordTypes => "SeveralCoordTypes",
+        LayoutFault::SeveralDimensions => "SeveralDimensions",
     }
 }
 
@@ -56,7 +49,7 @@ pub(crate) fn type_message(fault: &TypeFault) -> &'static str
         TypeFault::WrongStorage => {
             "well-known binary needs a binary type, and well-known text a text type"
         }
-        TypeFault::Layout(of_layout, _) => fault_words(*of_layout).1,
+        TypeFault::Layout(of_layout, _) => of_layout.text(),
     }
 }
 
@@ -104,7 +97,7 @@ fn put_type(out: &mut Writer, fault: &TypeFault) -> Result<(), AllocError>
         TypeFault::UnsupportedType => put_own(out, "UnsupportedType", message),
         TypeFault::WrongStorage => put_own(out, "WrongStorage", message),
         TypeFault::Layout(of_layout, names) => {
-            put_reason(out, fault_words(*of_layout).0, message, 0, names.as_slice())
+            put_reason(out, fault_code(*of_layout), message, 0, names.as_slice())
         }
     }
 }

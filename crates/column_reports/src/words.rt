@@ -6,8 +6,7 @@ ghost use Rattle.column_reports.specs.Report.{state_word, kind_text, edges_word,
 
 use arrow_columns::Column;
 use column_check::{Finding, Geometry};
-use geoarrow_fields::{coord_type_word, dimension_word, kind_word};
-use geoarrow_layout::Kind;
+use geoarrow_layout::{Kind, coord_type_word, dimension_word, kind_word};
 use geoarrow_meta::Edges;
 use std::alloc::{AllocError, Global};
 

@@ -3,8 +3,9 @@ use Rattle.std.proofs.Common.{◌≡◌, ◌∙◌, inl, inr, List, [], ◌∷�
 use Rattle.std.specs.Prelude.{MatchOption}
 use Rattle.std.proofs.lemmas.Option.{same_Some}
 use Rattle.geoarrow_layout.specs.Shapes.{Accepts}
+use Rattle.geoarrow_layout.specs.Inferred.{InferredAs}
 use Rattle.geoarrow_meta.specs.Laws.{text_denotes_one}
-use Rattle.geoarrow_schema.specs.Infers.{InferredAs, InfersAs, Infers}
+use Rattle.geoarrow_schema.specs.Infers.{InfersAs, Infers}
 use Rattle.geoarrow_columns.specs.Same.{SameColumn}
 use Rattle.geoarrow_fields.specs.Answer.{SameReport}
 use Rattle.geoarrow_fields.proofs.Terms.{FieldTree, Text, Tree, extension_metadata, Kind, extension_of, DenotesMetadata, normal, ReadsAs, GeoArrowType, SameType, kind_of, meta_of, HasGeoArrowName, Reads, IsCanonical, rewritten, ColumnFault, Column, Faulty, Geometry, OfInferred, IsColumnOf, IsRefused, IsRefusedFor, IsReport, field_of_line, line_of_field, Command, Canon, Columns, Infer, Read, Done, Bytes, line_feed, lines_of, Answers, AnswersField, AnswersNoType, column_text, error_text, inferred_text, type_text, Answered, Means}

@@ -14,6 +14,7 @@ pub use Rattle.geoarrow_layout.specs.declared.encodings.Width.TheVariants.{Plain
 pub use Rattle.geoarrow_layout.specs.declared.encodings.Kind.{Kind}
 pub use Rattle.geoarrow_layout.specs.declared.encodings.Kind.TheVariants.{Geometry as OfGeometry, Native, Rect, Wkb, Wkt}
 pub use Rattle.geoarrow_layout.specs.Kinds.{coord_type_of, dimension_of, extension_of, name_of}
+pub use Rattle.geoarrow_layout.specs.KindWords.{coord_type_word, dimension_word, kind_word}
 pub use Rattle.geoarrow_layout.specs.Layouts.{layout}
 pub use Rattle.geoarrow_meta.specs.declared.edges.Edges.{Edges}
 pub use Rattle.geoarrow_meta.specs.declared.crs.crs_type.CrsType.{CrsType}
@@ -39,7 +40,7 @@ pub use Rattle.geoarrow_fields.specs.declared.RunEnd.{RunEnd}
 pub use Rattle.geoarrow_fields.specs.declared.RunEnd.TheVariants.{Done, InputFault, Memory, OutputFault}
 pub use Rattle.geoarrow_fields.specs.Lines.{Bytes, IsLine, IsPastLimit, IsSplit, IsWithinLimits, Stops, ended_lines, line_feed, lines_of, max_line_bytes, max_lines}
 unfoldable pub use Rattle.geoarrow_fields.specs.Answer.{Answered, Answers}
-pub use Rattle.geoarrow_fields.specs.Answer.{AnswersField, AnswersNoType, AnswersUntil, Means, ReadsAndWrites, RunsTo, column_text, coord_type_word, dimension_word, error_text, inferred_text, kind_word, type_text}
+pub use Rattle.geoarrow_fields.specs.Answer.{AnswersField, AnswersNoType, AnswersUntil, Means, ReadsAndWrites, RunsTo, column_text, error_text, inferred_text, type_text}
 pub use Rattle.geoarrow_fields.specs.declared.output.Fault.{Fault}
 pub use Rattle.geoarrow_fields.specs.declared.output.Fault.TheVariants.{Input, Memory as NoMemory, Output}
 pub use Rattle.geoarrow_fields.specs.Progress.{AnswersLine, AppendsSome, Breaks, FrontOf, HasCome, IsAt, IsBegun, IsMeant, IsStopped, Leads, bytes_come}

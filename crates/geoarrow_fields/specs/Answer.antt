@@ -1,15 +1,10 @@
 -- The words of the answers, what is answered to a line, and what a run writes for the bytes that it read, at each of its ends.
-use Rattle.std.specs.Prelude.{◌≡◌, ◌⊎◌, ℕ, List, [], ◌∷◌, ◌++◌, Option, Some, None, MatchOption, codes, drop, length, unwrap_or, ⊤}
+use Rattle.std.specs.Prelude.{◌≡◌, ◌⊎◌, ℕ, List, [], ◌∷◌, ◌++◌, Option, MatchOption, codes, unwrap_or, ⊤}
 use Rattle.std.specs.List.{AllZip}
 use Rattle.std.specs.Io.KnownBytes.{Appends, Consumes, IsAtEnd}
 use Rattle.arrow_values.specs.Tree.{FieldTree}
-use Rattle.geoarrow_layout.specs.declared.kinds.CoordType.{CoordType}
-use Rattle.geoarrow_layout.specs.declared.kinds.CoordType.TheVariants.{Interleaved, Separated}
-use Rattle.geoarrow_layout.specs.declared.kinds.Dimension.{Dimension}
-use Rattle.geoarrow_layout.specs.declared.encodings.Width.TheVariants.{Large, View}
-use Rattle.geoarrow_layout.specs.declared.encodings.Kind.{Kind}
-use Rattle.geoarrow_layout.specs.declared.encodings.Kind.TheVariants.{Wkb, Wkt}
-use Rattle.geoarrow_layout.specs.Kinds.{dimension_name, coord_type_of, dimension_of, name_of}
+use Rattle.geoarrow_layout.specs.Kinds.{coord_type_of, dimension_of}
+use Rattle.geoarrow_layout.specs.KindWords.{kind_word, coord_type_word, dimension_word}
 use Rattle.geoarrow_meta.specs.Written.{printed}
 use Rattle.geoarrow_schema.specs.declared.types.GeoArrowType.{GeoArrowType}
 use Rattle.geoarrow_schema.specs.Types.{kind_of, meta_of}
@@ -27,25 +22,6 @@ use Rattle.geoarrow_fields.specs.declared.Command.TheVariants.{Read, Infer, Cano
 use Rattle.geoarrow_fields.specs.declared.RunEnd.{RunEnd}
 use Rattle.geoarrow_fields.specs.declared.RunEnd.TheVariants.{Done, InputFault, Memory, OutputFault}
 use Rattle.geoarrow_fields.specs.Lines.{Bytes, line_feed, lines_of, IsLine, IsWithinLimits, IsPastLimit, Stops}
-
--- the word of a kind: what stands behind `geoarrow.` in its extension name, with the width of well-known binary and text if it is not the plain one
-abbrev pub kind_word : Kind → Bytes
-kind_word (Wkb Large) = codes "large_wkb"
-kind_word (Wkb View) = codes "wkb_view"
-kind_word (Wkt Large) = codes "large_wkt"
-kind_word (Wkt View) = codes "wkt_view"
-kind_word k = drop (length (codes "geoarrow.")) (name_of k)
-
--- the word of a coordinate type, if there is one
-abbrev pub coord_type_word : Option CoordType → Bytes
-coord_type_word (Some Interleaved) = codes "interleaved"
-coord_type_word (Some Separated) = codes "separated"
-coord_type_word None = codes "-"
-
--- the word of a dimension, if there is one
-abbrev pub dimension_word : Option Dimension → Bytes
-dimension_word (Some d) = dimension_name d
-dimension_word None = codes "-"
 
 -- a type: kind, coordinate type, dimension and the text of its metadata
 abbrev pub type_text : GeoArrowType → Bytes

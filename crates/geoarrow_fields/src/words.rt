@@ -1,10 +1,12 @@
 //! The words of the answers.
 ghost use Rattle.std.specs.Prelude.{◌≡◌, ◌++◌, codes, IfOk, string_bytes};
 ghost use Rattle.geoarrow_layout.specs.Kinds.{coord_type_of, dimension_of};
-ghost use Rattle.geoarrow_fields.specs.Answer.{kind_word, coord_type_word, dimension_word, type_text, error_text, column_text, inferred_text};
+ghost use Rattle.geoarrow_layout.specs.KindWords.{coord_type_word, dimension_word};
+ghost use Rattle.geoarrow_fields.specs.Answer.{type_text, error_text, column_text, inferred_text};
 
 use geoarrow_columns::{Column, ColumnFault};
-use geoarrow_schema::{CoordType, Dimension, GeoArrowType, Kind, NativeKind, Width};
+use geoarrow_layout::{CoordType, Dimension, Kind, kind_word};
+use geoarrow_schema::GeoArrowType;
 use std::alloc::{AllocError, Global};
 
 /// The capacity for the words of a type and what comes before them, without its metadata.
@@ -86,67 +88,5 @@ pub(crate) fn error_text(fault: ColumnFault) -> &'static str
     match fault {
         ColumnFault::Arrow => "error arrow",
         ColumnFault::InvalidGeoArrow => "error invalid",
-    }
-}
-
-/// The word of a kind, as answers have it (`docs/FORMAT.md`, 2.2): `point` to `geometrycollection`, `box`, `geometry`, and `wkb`,
-/// `large_wkb`, `wkb_view` and the like of `wkt`. Allocates nothing.
-///
-/// ```rust
-/// assert_eq!(rt; kind_word(Kind::Wkb(Width::Large)), "large_wkb");
-/// ```
-pub fn kind_word(kind: Kind) -> &'static str
-    ensures { result.now ≡ kind_word kind }
-{
-    match kind {
-        Kind::Native(NativeKind::Point, _, _) => "point",
-        Kind::Native(NativeKind::LineString, _, _) => "linestring",
-        Kind::Native(NativeKind::Polygon, _, _) => "polygon",
-        Kind::Native(NativeKind::MultiPoint, _, _) => "multipoint",
-        Kind::Native(NativeKind::MultiLineString, _, _) => "multilinestring",
-        Kind::Native(NativeKind::MultiPolygon, _, _) => "multipolygon",
-        Kind::Native(NativeKind::GeometryCollection, _, _) => "geometrycollection",
-        Kind::Geometry(_) => "geometry",
-        Kind::Rect(_) => "box",
-        Kind::Wkb(Width::Plain) => "wkb",
-        Kind::Wkb(Width::Large) => "large_wkb",
-        Kind::Wkb(Width::View) => "wkb_view",
-        Kind::Wkt(Width::Plain) => "wkt",
-        Kind::Wkt(Width::Large) => "large_wkt",
-        Kind::Wkt(Width::View) => "wkt_view",
-    }
-}
-
-/// The word of a coordinate type, as answers have it (`docs/FORMAT.md`, 2.2): `interleaved` or `separated`; where there is none, a
-/// dash. Allocates nothing.
-///
-/// ```rust
-/// assert_eq!(rt; coord_type_word(Some(CoordType::Separated)), "separated");
-/// ```
-pub fn coord_type_word(coord_type: Option<CoordType>) -> &'static str
-    ensures { result.now ≡ coord_type_word coord_type }
-{
-    match coord_type {
-        Some(CoordType::Interleaved) => "interleaved",
-        Some(CoordType::Separated) => "separated",
-        None => "-",
-    }
-}
-
-/// The word of a dimension, as answers have it (`docs/FORMAT.md`, 2.2): `XY`, `XYZ`, `XYM` or `XYZM`; where there is none, a dash.
-/// Allocates nothing.
-///
-/// ```rust
-/// assert_eq!(rt; dimension_word(None), "-");
-/// ```
-pub fn dimension_word(dimension: Option<Dimension>) -> &'static str
-    ensures { result.now ≡ dimension_word dimension }
-{
-    match dimension {
-        Some(Dimension::XY) => "XY",
-        Some(Dimension::XYZ) => "XYZ",
-        Some(Dimension::XYM) => "XYM",
-        Some(Dimension::XYZM) => "XYZM",
-        None => "-",
     }
 }

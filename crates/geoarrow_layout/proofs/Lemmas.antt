@@ -4,6 +4,7 @@ pub use Rattle.geoarrow_layout.proofs.Readings.{all_both, all_some, level_fault,
 pub use Rattle.geoarrow_layout.proofs.FaultLaws.{Read, at_member, first_apart, geometry_member_sole, kind_inside, level_leads, member_sole, member_sole_in, native_leads, native_sole_in, stays, union_leads}
 pub use Rattle.geoarrow_layout.proofs.UnionSteps.{a_collection, at_root, fault_next, inner_of, nested_mixed, no_collection, over_leaf_answer, part_answer, root_mixed, root_refused, seen_more, seen_none, shows_of_inner}
 pub use Rattle.geoarrow_layout.proofs.Structs.{FieldsSeen, adds_bit, agrees, all_inferred, fields_seen_more, has_name_fields, length_names, no_bits, no_third, not_inferred, other_inferred, same_three, struct_no_leaf}
+pub use Rattle.geoarrow_layout.proofs.InferredKinds.{bytes_inferred, point_inferred}
 pub use Rattle.geoarrow_layout.proofs.Written.{in_written, layouts_are_distinct, listed, natives_written, struct_same, union_same}
 pub use Rattle.geoarrow_layout.proofs.KindSteps.{Told, accepted_ok, alone, as_other, both, kind_answer, kind_exact, mixed_exact, moves, native_exact, no_names, without}
 pub use Rattle.geoarrow_layout.proofs.AlikeLaws.{filled_joined, filled_kept, has_among, joined_alike}

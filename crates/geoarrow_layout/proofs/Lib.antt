@@ -3,6 +3,7 @@ pub mod Readings
 pub mod FaultLaws
 pub mod UnionSteps
 pub mod Structs
+pub mod InferredKinds
 pub mod Written
 pub mod KindSteps
 pub mod AlikeLaws

@@ -10,7 +10,7 @@ pub use Rattle.geoarrow_layout.specs.Candidates.{IsAccepted, IsStructOfFour, Sam
 pub use Rattle.geoarrow_layout.specs.Changes.{AlikeUnions, AreJust, EachOf, GeometryUnion, MixedUnion}
 pub use Rattle.geoarrow_layout.specs.FaultAt.{BoxFault, BoxNamesFault, CoordinateFault, DimensionsFault, FaultAt, Faults, FirstFault, GeometryFault, GeometryMemberFault, HasFault, Here, InItem, LevelsFault, Located, MemberFault, MixedFault, NativeFault, OverLeafFault, PartFault, Path, SeparatedFault, UnionFault, child_at, field_at, member_at}
 pub use Rattle.geoarrow_layout.specs.Faults.{IsErrorOfFault, fault_text}
-pub use Rattle.geoarrow_layout.specs.Inferred.{Inferred, IsInferredAs, IsInferredSize, YieldsSome, are_float64, is_float64}
+pub use Rattle.geoarrow_layout.specs.Inferred.{Inferred, InferredAs, IsInferredAs, IsInferredSize, YieldsInferred, YieldsSome, are_float64, is_float64}
 pub use Rattle.geoarrow_layout.specs.Kinds.{Holds, IsDimension, RefusesDimensions, box_names, coord_type_of, coordinate_names, dimension_name, dimension_named, dimension_of, dimension_sized, dimension_suffix, dimensions_of, extension_of, first_of, interleaved_name, levels_of, name_of, name_text, offset_of, order_of, second_kind, second_of, size_of, type_id_of}
 pub use Rattle.geoarrow_layout.specs.Layouts.{IsBare, IsWritten, IsWrittenSome, coordinate, dimension_members, geometry_members, layout, leaf_layout, list_names, lists_over, member_layout, members_in, members_over, mixed_layout, mixed_members, native_layout, native_members, over_leaf_layout, type_name}
 pub use Rattle.geoarrow_layout.specs.OneShape.{ReadsFirst, among_back, any_native_same, box_shape_same, coords_in, geometry_member_first, geometry_same, member_first, mixed_first, named_back, native_first, over_leaf_first}

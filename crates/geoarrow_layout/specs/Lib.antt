@@ -4,6 +4,7 @@ pub mod Shapes
 pub mod Layouts
 pub mod Summary
 pub mod Inferred
+pub mod KindWords
 pub mod Faults
 pub mod Alike
 pub mod Changes

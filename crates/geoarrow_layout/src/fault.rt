@@ -63,7 +63,8 @@ impl LayoutFault {
         }
     }
 
-    fn text(self) -> &'static str
+    /// Returns the message of the fault, as its error has it. Allocates nothing.
+    pub fn text(self) -> &'static str
         ensures { result.now ≡ fault_text self }
     {
         match self {

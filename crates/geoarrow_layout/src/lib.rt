@@ -3,16 +3,19 @@
 
 mod encodings;
 mod fault;
+mod infer;
 mod kinds;
 mod laws;
 mod likeness;
 mod names;
 mod read;
 mod summary;
+mod words;
 mod write;
 
 pub use encodings::{Kind, NativeKind, Width};
 pub use fault::{LayoutFault, child_field, find_fault};
+pub use infer::infer_kind;
 pub use kinds::{CoordType, Dimension};
 pub use laws::{
     accepted_or_at_fault, alike_are_one_kind, alike_both_ways, alike_in_turn, alike_to_itself,
@@ -32,6 +35,7 @@ pub use read::{
     parse_native, parse_point, parse_polygon, parse_wkb, parse_wkt,
 };
 pub use summary::{Bottom, ListWidth, Summary, summarize};
+pub use words::{coord_type_word, dimension_word, kind_word};
 pub use write::{
     box_data_type, coord_data_type, geometry_data_type, is_layout, kind_data_type, list_data_type,
     mixed_data_type, wkb_data_type, wkt_data_type, written_kind,

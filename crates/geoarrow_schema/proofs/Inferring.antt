@@ -1,31 +1,11 @@
--- What a tree is taken for.
-use Rattle.geoarrow_schema.proofs.Terms.{◌≡◌, ◌⊎◌, inl, inr, ◌∙◌, sym, ap, subst, Option, Some, None, Result, Ok, Err, same_Some, arc_value, Text, Tree, FieldTree, extension_metadata, IsMemory, IsGeoMemory}
-use Rattle.geoarrow_schema.proofs.Terms.{IsInvalidOf, ArrowError, GeoArrowError, Arrow, InvalidGeoArrow, CoordType, Dimension, Point, Width, Kind, Native, Wkb, YieldsOne}
-use Rattle.geoarrow_schema.proofs.Terms.{IsBytes, YieldsSome, Inferred, Metadata, DenotesMetadata, TextRefusedAs, Arc, Global, GeoArrowType, kind_of, metadata_of, meta_of, SameType}
+-- What a field is taken for.
+use Rattle.geoarrow_schema.proofs.Terms.{◌≡◌, ◌⊎◌, inl, inr, ◌∙◌, sym, ap, subst, Option, Result, Ok, Err, same_Some, arc_value, Text, Tree, FieldTree, extension_metadata, IsMemory, IsGeoMemory}
+use Rattle.geoarrow_schema.proofs.Terms.{IsInvalidOf, ArrowError, GeoArrowError, Arrow, InvalidGeoArrow, Kind}
+use Rattle.geoarrow_schema.proofs.Terms.{Metadata, DenotesMetadata, TextRefusedAs, Arc, Global, GeoArrowType, kind_of, metadata_of, meta_of, SameType}
 use Rattle.geoarrow_schema.proofs.Terms.{HasGeoArrowName, Reads, IsRefusedBy, InferredAs, InfersAs, Infers, ReadsOrInfers, ReadsOrInfersAlone, InfersNone, uninferred_text, UninferredAs}
-use Rattle.geoarrow_schema.proofs.Terms.{IsInferenceRefusal, IsInference, YieldsInferred, IfOk, IfErr, arith}
-use Rattle.geoarrow_layout.specs.declared.fault.LayoutFault.{LayoutFault}
+use Rattle.geoarrow_schema.proofs.Terms.{IsInferenceRefusal, IsInference, YieldsInferred, IfOk, IfErr}
 use Rattle.geoarrow_meta.specs.Laws.{text_denotes_one}
 use Rattle.geoarrow_schema.proofs.Reading.{read_has_name, read_uninferred}
-
--- a tree is inferred as one kind: bytes are no text, and neither is a point
-pub bytes_inferred : (t : Tree) (p : Option (CoordType × Dimension)) (w : Width) (r : Result Width LayoutFault) → p ≡ None → YieldsSome p (Inferred t) → r ≡ Ok w → YieldsOne r (λ v. IsBytes v t) → YieldsInferred t (Some (Wkb w))
-bytes_inferred t p w r none point is a = λ k. (λ e. subst (InferredAs t) (same_Some (Wkb w) k e) ((a w).0 is), λ h. back k h)
-  where
-    back : (k : Kind) → InferredAs t k → Some (Wkb w) ≡ Some k
-    back (Native Point c d) h = cc ((point c d).1 h)
-    back (Wkb v) h = cc ((a v).1 h)
-    back _ h = absurd (grind (arith, (a w).0 is, h))
-
-pub point_inferred : (t : Tree) (p : CoordType × Dimension) (r : Option (CoordType × Dimension)) → r ≡ Some p → YieldsSome r (Inferred t) → YieldsInferred t (Some (Native Point p.0 p.1))
-point_inferred t p r is a = λ k. (λ e. subst (InferredAs t) (same_Some (Native Point p.0 p.1) k e) here, λ h. back k h)
-  where
-    here : Inferred t p.0 p.1
-    here = (a p.0 p.1).0 is
-
-    back : (k : Kind) → InferredAs t k → Some (Native Point p.0 p.1) ≡ Some k
-    back (Native Point b e) h = ap (λ x. Some (Native Point x.0 x.1)) (same_Some p (b, e) (sym is ∙ (a b e).1 h))
-    back _ h = absurd (grind (arith, here, h))
 
 -- what is inferred of a tree and a metadata
 pub type_inferred : (f : FieldTree) (k : Kind) (m : Arc Metadata Global) (g : GeoArrowType) → kind_of g ≡ k → metadata_of g ≡ m → ¬ HasGeoArrowName f → DenotesMetadata (extension_metadata f) (arc_value m) → InferredAs f.tree k → Infers f g

@@ -1,5 +1,5 @@
 -- What is inferred for a field without a GeoArrow name.
-use Rattle.std.specs.Prelude.{◌≡◌, ◌⊎◌, ◌↔◌, Option, Some, None, Result, MatchResult, cond, codes, string_bytes, ⊤}
+use Rattle.std.specs.Prelude.{◌≡◌, ◌⊎◌, None, Result, MatchResult, cond, codes, string_bytes, ⊤}
 use Rattle.arrow_values.specs.Tree.{Text, Tree, fixed_size_list, struct, FieldTree}
 use Rattle.arrow_values.specs.Texts.{extension_name, extension_metadata}
 use Rattle.arrow_values.specs.Errors.{IsGeoMemory}
@@ -8,25 +8,13 @@ use Rattle.arrow_values.specs.declared.error.GeoArrowError.TheVariants.{Arrow, I
 use Rattle.geoarrow_layout.specs.declared.encodings.NativeKind.TheVariants.{Point}
 use Rattle.geoarrow_layout.specs.declared.encodings.Kind.{Kind}
 use Rattle.geoarrow_layout.specs.declared.encodings.Kind.TheVariants.{Native, Wkb, Wkt}
-use Rattle.geoarrow_layout.specs.Shapes.{IsBytes, IsText}
-use Rattle.geoarrow_layout.specs.Inferred.{Inferred, is_float64, are_float64}
+use Rattle.geoarrow_layout.specs.Inferred.{InferredAs, is_float64, are_float64}
 use Rattle.geoarrow_layout.specs.Layouts.{layout}
 use Rattle.geoarrow_meta.specs.declared.metadata.Metadata.{Metadata}
 use Rattle.geoarrow_meta.specs.Read.{DenotesMetadata, TextRefusedAs}
 use Rattle.geoarrow_schema.specs.declared.types.GeoArrowType.{GeoArrowType}
 use Rattle.geoarrow_schema.specs.Types.{kind_of, meta_of}
 use Rattle.geoarrow_schema.specs.Reads.{HasGeoArrowName, Reads, ReadsAlone, ReadsAsNone, FieldRefusedAs}
-
--- the tree is well-known binary or text, in some width
-abbrev pub IsStored : Tree → Kind → Type 0
-IsStored t (Wkb w) = IsBytes w t
-IsStored t (Wkt w) = IsText w t
-IsStored t _ = ⊥
-
--- the kind is inferred from the tree: a point, well-known binary or well-known text
-abbrev pub InferredAs : Tree → Kind → Type 0
-InferredAs t (Native Point c d) = Inferred t c d
-InferredAs t k = IsStored t k
 
 -- the field has no GeoArrow name, its metadata text denotes the metadata, and the kind is inferred from its tree
 unfoldable pub InfersAs : FieldTree → Kind → Metadata → Type 0
@@ -72,10 +60,6 @@ IsInferenceRefusal f e = IsGeoMemory e ⊎ (ReadsAsNone f × InfersNone f × ((H
 -- what a field is read as or, without a GeoArrow name, what is inferred for it
 abbrev pub IsInference : FieldTree → Result GeoArrowType GeoArrowError → Type 0
 IsInference f r = MatchResult r (ReadsOrInfers f) (IsInferenceRefusal f)
-
--- the result is the one kind that is inferred from the tree, or `None` if there is none
-abbrev pub YieldsInferred : Tree → Option Kind → Type 0
-YieldsInferred t r = (k : Kind) → (r ≡ Some k) ↔ InferredAs t k
 
 -- a kind that can be inferred from its data type: points, well-known binary and text
 abbrev pub IsInferable : Kind → Type 0

@@ -1,17 +1,15 @@
 //! Which type is inferred for a field without a GeoArrow name.
 ghost use Rattle.std.specs.Prelude.{◌≡◌, ◌⊎◌, Some, IfOk};
 ghost use Rattle.arrow_values.specs.Texts.{extension_name};
-ghost use Rattle.geoarrow_layout.specs.Cited.{IsGeoMemory, tree};
+ghost use Rattle.geoarrow_layout.specs.Cited.{InferredAs, IsGeoMemory, tree};
 ghost use Rattle.geoarrow_layout.specs.declared.encodings.Kind.{Kind};
 ghost use Rattle.geoarrow_schema.specs.Reads.{HasGeoArrowName};
-ghost use Rattle.geoarrow_schema.specs.Infers.{InferredAs, ReadsOrInfersAlone, InfersNone, uninferred_text, UninferredAs, IsInference, YieldsInferred};
+ghost use Rattle.geoarrow_schema.specs.Infers.{ReadsOrInfersAlone, InfersNone, uninferred_text, UninferredAs, IsInference};
 
 use crate::read::read_named;
 use crate::types::GeoArrowType;
 use arrow_values::{DataType, Field, GeoArrowError, GeoArrowResult};
-use geoarrow_layout::{
-    Bottom, ExtensionName, Kind, NativeKind, infer_point, parse_wkb, parse_wkt, summarize,
-};
+use geoarrow_layout::{Bottom, ExtensionName, infer_kind, summarize};
 use geoarrow_meta::Metadata;
 use std::alloc::Global;
 
@@ -85,24 +83,6 @@ fn inference_error(alloc: Global, field: &Field) -> GeoArrowError
         Ok(_) => GeoArrowError::invalid_geoarrow(alloc, fault_text(field.data_type())),
         Err(error) => GeoArrowError::Arrow(error),
     }
-}
-
-/// The kind that `from_arrow_field` infers from a data type (docs/FORMAT.md, 1.7), if it infers one. Allocates nothing.
-///
-/// ```rust
-/// assert_eq!(rt; infer_kind(&DataType::LargeUtf8), Some(Kind::Wkt(Width::Large)));
-/// assert_eq!(rt; infer_kind(&DataType::Boolean), None);
-/// ```
-pub fn infer_kind(data_type: &DataType) -> Option<Kind>
-    ensures { YieldsInferred (tree data_type.now) result }
-{
-    if let Some((coord_type, dimension)) = infer_point(data_type) {
-        return Some(Kind::Native(NativeKind::Point, coord_type, dimension));
-    }
-    if let Ok(width) = parse_wkb(data_type) {
-        return Some(Kind::Wkb(width));
-    }
-    parse_wkt(data_type).ok().map(Kind::Wkt)
 }
 
 /// Why a data type is taken for none.

@@ -10,9 +10,9 @@ ghost use Rattle.geoarrow_schema.specs.Types.{kind_of, meta_of, SameType};
 ghost use Rattle.geoarrow_schema.specs.Reads.{Reads};
 ghost use Rattle.geoarrow_schema.specs.Infers.{Infers, ReadsOrInfers, IsInferable, IsBareColumn};
 
-use crate::infer::infer_kind;
 use crate::types::GeoArrowType;
 use arrow_values::Field;
+use geoarrow_layout::infer_kind;
 use geoarrow_meta::laws::equality_test_is_exact;
 use geoarrow_native::laws::reads_as_one_column;
 use geoarrow_native::{

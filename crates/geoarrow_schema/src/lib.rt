@@ -25,7 +25,7 @@ mod read;
 mod types;
 mod write;
 
-pub use geoarrow_layout::{CoordType, Dimension, Kind, NativeKind, Width};
+pub use geoarrow_layout::{CoordType, Dimension, Kind, NativeKind, Width, infer_kind};
 pub use geoarrow_meta::{Crs, CrsType, Edges, Metadata};
 pub use geoarrow_multi::{
     GeometryCollectionType, MultiLineStringType, MultiPointType, MultiPolygonType,
@@ -33,7 +33,6 @@ pub use geoarrow_multi::{
 pub use geoarrow_native::{
     BoxType, GeometryType, LineStringType, PointType, PolygonType, RectType, WkbType, WktType,
 };
-pub use infer::infer_kind;
 pub use types::GeoArrowType;
 
 /// Coordinate reference systems, and how they are transformed from one form to another.

@@ -6,7 +6,7 @@ use Rattle.arrow_columns.specs.Column.{ColumnTree}
 use Rattle.geoarrow_layout.specs.declared.encodings.Kind.{Kind}
 use Rattle.geoarrow_layout.specs.declared.encodings.Kind.TheVariants.{Wkb, Wkt}
 use Rattle.geoarrow_layout.specs.Kinds.{coord_type_of, dimension_of}
-use Rattle.geoarrow_fields.specs.Answer.{kind_word, coord_type_word, dimension_word}
+use Rattle.geoarrow_layout.specs.KindWords.{kind_word, coord_type_word, dimension_word}
 use Rattle.column_check.specs.declared.finding.Geometry.{Geometry as GeometryColumn}
 use Rattle.column_reports.specs.Report.{kind_text}
 use Rattle.report_words.specs.declared.wants.Found.{Found}

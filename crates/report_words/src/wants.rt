@@ -11,8 +11,7 @@ use crate::text::shown;
 use arrow_columns::Column;
 use column_check::{Finding, Geometry};
 use column_reports::type_word;
-use geoarrow_fields::{coord_type_word, dimension_word, kind_word};
-use geoarrow_layout::Kind;
+use geoarrow_layout::{Kind, coord_type_word, dimension_word, kind_word};
 use std::alloc::{AllocError, Global};
 
 /// What is found of an expectation while the columns of a file are looked at, one after another.

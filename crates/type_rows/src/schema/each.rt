@@ -2,8 +2,9 @@
 use crate::metadata::say_text;
 use crate::schema::columns::{own_data_type, own_field};
 use crate::schema::spelled::{field_of, tree_of};
-use crate::schema::words::{dimension_word, say_type};
+use crate::schema::words::say_type;
 use arrow_values::{ArrowError, DataType, ExtensionType, Field};
+use geoarrow_layout::dimension_word;
 use geoarrow_native::{ColumnType, KindEncoding};
 use geoarrow_schema::generic::{Encoding, SerializedType, Wkb, Wkt};
 use geoarrow_schema::type_id::GeometryTypeId;

@@ -1,7 +1,7 @@
 //! Fields and types that a text spells. Where it spells none, the answer is lacking, so that a row of it is wrong.
-use crate::schema::words::{coord_type_word, dimension_word, kind_word};
 use arrow_values::{DataType, EXTENSION_TYPE_METADATA_KEY, EXTENSION_TYPE_NAME_KEY, Field};
-use geoarrow_schema::{GeoArrowType, Kind, Metadata};
+use geoarrow_layout::{Kind, coord_type_word, dimension_word, kind_word};
+use geoarrow_schema::{GeoArrowType, Metadata};
 use rows::notation::{column, data_type, field, made};
 use rows::said::Said;
 use rows::texts::{first_word, halves, is_line};

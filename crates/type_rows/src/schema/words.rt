@@ -1,6 +1,7 @@
 //! What the answers say, in words.
 use arrow_values::{ArrowError, GeoArrowError};
-use geoarrow_schema::{CoordType, Dimension, GeoArrowType, Kind, Metadata, NativeKind, Width};
+use geoarrow_layout::{coord_type_word, dimension_word, kind_word};
+use geoarrow_schema::{GeoArrowType, Metadata};
 use rows::said::Said;
 use std::mem::ManuallyDrop;
 
@@ -40,52 +41,4 @@ pub fn say_error(said: &mut Said, error: &GeoArrowError) {
     said.push(variant);
     said.push(": ");
     said.shown(error);
-}
-
-/// The word of a kind.
-pub fn kind_word(kind: Kind) -> &'static str {
-    match kind {
-        Kind::Native(kind, _, _) => native_word(kind),
-        Kind::Geometry(_) => "geometry",
-        Kind::Rect(_) => "box",
-        Kind::Wkb(Width::Plain) => "wkb",
-        Kind::Wkb(Width::Large) => "large_wkb",
-        Kind::Wkb(Width::View) => "wkb_view",
-        Kind::Wkt(Width::Plain) => "wkt",
-        Kind::Wkt(Width::Large) => "large_wkt",
-        Kind::Wkt(Width::View) => "wkt_view",
-    }
-}
-
-/// The word of a native kind.
-fn native_word(kind: NativeKind) -> &'static str {
-    match kind {
-        NativeKind::Point => "point",
-        NativeKind::LineString => "linestring",
-        NativeKind::Polygon => "polygon",
-        NativeKind::MultiPoint => "multipoint",
-        NativeKind::MultiLineString => "multilinestring",
-        NativeKind::MultiPolygon => "multipolygon",
-        NativeKind::GeometryCollection => "geometrycollection",
-    }
-}
-
-/// The word of a coordinate type, or a dash.
-pub fn coord_type_word(coord_type: Option<CoordType>) -> &'static str {
-    match coord_type {
-        Some(CoordType::Interleaved) => "interleaved",
-        Some(CoordType::Separated) => "separated",
-        None => "-",
-    }
-}
-
-/// The word of a dimension, or a dash.
-pub fn dimension_word(dimension: Option<Dimension>) -> &'static str {
-    match dimension {
-        Some(Dimension::XY) => "XY",
-        Some(Dimension::XYZ) => "XYZ",
-        Some(Dimension::XYM) => "XYM",
-        Some(Dimension::XYZM) => "XYZM",
-        None => "-",
-    }
 }
