@@ -71,12 +71,6 @@ The columns as an Arrow stream, which is read back
   ../crates/geoarrow_check/data/other.arrows: column 1 has a type that no message can hold
   [2]
 
-  $ geoarrow_check --ipc --lines x 2>&1 | head -n 1
-  geoarrow_check: --ipc excludes --json and --lines
-
-  $ geoarrow_check --ipc x y 2>&1 | head -n 1
-  geoarrow_check: --ipc takes one file
-
 Columns of Parquet files
 
   $ geoarrow_check ../crates/geoarrow_check/data/stored.parquet
@@ -255,7 +249,7 @@ Names of files that would control a terminal, or stand on two lines: above a tab
   a?b?[1m: column 0 has a type that no message can hold
   a?b?[1m: line 1: is JSON, but no object
   a?b?[1m.parquet: No such file or directory (os error 2)
-  geoarrow_check: a?b?[1m is no COLUMN=WANT
+  error: 'a?b?[1m' is no COLUMN=WANT
 
   $ cd "$TMPDIR" && file=$(printf 'a\nb\033[1m') && echo '{"name":"a","nullable":true,"type":"null"}' > "$file" && geoarrow_check --json "$file"
   {"column":"a","file":"a\nb\u001b[1m","index":0,"state":"plain","type":"null"}
@@ -295,6 +289,10 @@ A report that is too large: no column is printed, also of those before the one t
   2
 
 A file without geometries where some are required
+
+  $ geoarrow_check --require-geometry ../crates/geoarrow_check/data/stream.arrows > /dev/null
+  ../crates/geoarrow_check/data/stream.arrows: no column of geometries
+  [1]
 
   $ geoarrow_check --json --require-geometry ../crates/geoarrow_check/data/stream.arrows
   {"column":"a","file":"../crates/geoarrow_check/data/stream.arrows","index":0,"state":"plain","type":"int64"}
@@ -427,56 +425,138 @@ Words that are answered at once
   $ geoarrow_check --version
   geoarrow_check 1.0.0 (rattle-kit-13f)
 
-  $ geoarrow_check --help | head -n 1
-  usage: geoarrow_check [--json | --lines | --ipc] [--infer] [--notes] [--all-checks] [--quiet] [--require-geometry] [--expect COLUMN=WANT].. FILE..
+  $ geoarrow_check --help | cmp - ../docs/check_help.txt
 
   $ geoarrow_check -V x
   geoarrow_check 1.0.0 (rattle-kit-13f)
 
-  $ geoarrow_check -h > "$TMPDIR/h" && geoarrow_check --help | cmp - "$TMPDIR/h"
+  $ geoarrow_check --json --lines -h --jsno | cmp - ../docs/check_help.txt
 
-A file whose name begins with a hyphen
+Files whose names begin with a hyphen
 
   $ cd "$TMPDIR" && echo '{"name":"a","nullable":true,"type":"null"}' > -f && geoarrow_check ./-f
   column  holds  CRS  edges
   a       null
 
+  $ cd "$TMPDIR" && echo '{"name":"a","nullable":true,"type":"null"}' > --json && geoarrow_check --lines -- --json
+  {"name":"a","nullable":true,"type":"null"}
+
+Options behind files, options that stand twice, and what is expected behind `=`, or beginning with a hyphen
+
+  $ geoarrow_check ../crates/geoarrow_check/data/file.arrow --lines --lines
+  {"metadata":{"ARROW:extension:name":"geoarrow.linestring"},"name":"g","nullable":true,"type":{"list":{"name":"vertices","nullable":false,"type":{"fixed_size_list":{"name":"xym","nullable":false,"type":"float64"},"size":3}}}}
+
+  $ geoarrow_check --quiet --expect=g=XY --expect --json=point --expect g=XYM ../crates/geoarrow_check/data/file.arrow
+  ../crates/geoarrow_check/data/file.arrow: column g is not XY: linestring interleaved XYM, no CRS
+  ../crates/geoarrow_check/data/file.arrow: no column --json
+  [1]
+
 Words that are refused
 
-  $ for word in --jsno --line --infre --all-check --quite --require-geometri --expct --hlep --versoin --note -q -json
+  $ for word in --jsno --line --ip --infre --note --all-check --quite --require-geometri --expct --hlep --versoin
   > do
-  >     geoarrow_check $word x 2>&1 | head -n 1
+  >     geoarrow_check $word x 2>&1 | sed '/Usage/,$d' | grep .
   > done
-  geoarrow_check: --jsno is unknown; --json is near it
-  geoarrow_check: --line is unknown; --lines is near it
-  geoarrow_check: --infre is unknown; --infer is near it
-  geoarrow_check: --all-check is unknown; --all-checks is near it
-  geoarrow_check: --quite is unknown; --quiet is near it
-  geoarrow_check: --require-geometri is unknown; --require-geometry is near it
-  geoarrow_check: --expct is unknown; --expect is near it
-  geoarrow_check: --hlep is unknown; --help is near it
-  geoarrow_check: --versoin is unknown; --version is near it
-  geoarrow_check: --note is unknown; --notes is near it
-  geoarrow_check: -q is unknown; -h is near it
-  geoarrow_check: -json is unknown; --json is near it
+  error: unexpected argument '--jsno' found
+    tip: a similar argument exists: '--json'
+  error: unexpected argument '--line' found
+    tip: a similar argument exists: '--lines'
+  error: unexpected argument '--ip' found
+    tip: a similar argument exists: '--ipc'
+  error: unexpected argument '--infre' found
+    tip: a similar argument exists: '--infer'
+  error: unexpected argument '--note' found
+    tip: a similar argument exists: '--notes'
+  error: unexpected argument '--all-check' found
+    tip: a similar argument exists: '--all-checks'
+  error: unexpected argument '--quite' found
+    tip: a similar argument exists: '--quiet'
+  error: unexpected argument '--require-geometri' found
+    tip: a similar argument exists: '--require-geometry'
+  error: unexpected argument '--expct' found
+    tip: a similar argument exists: '--expect'
+  error: unexpected argument '--hlep' found
+    tip: a similar argument exists: '--help'
+  error: unexpected argument '--versoin' found
+    tip: a similar argument exists: '--version'
+
+  $ for word in -q -json --xyzzy "$(printf -- '--a\nb\033[1m')" --json=a
+  > do
+  >     geoarrow_check "$word" x 2>&1 | grep .
+  > done
+  error: unexpected argument '-q' found
+    tip: to pass '-q' as a value, use '-- -q'
+  Usage: geoarrow_check [OPTIONS] <FILE>...
+  For more information, try '--help'.
+  error: unexpected argument '-j' found
+    tip: to pass '-j' as a value, use '-- -j'
+  Usage: geoarrow_check [OPTIONS] <FILE>...
+  For more information, try '--help'.
+  error: unexpected argument '--xyzzy' found
+    tip: to pass '--xyzzy' as a value, use '-- --xyzzy'
+  Usage: geoarrow_check [OPTIONS] <FILE>...
+  For more information, try '--help'.
+  error: unexpected argument '--a?b?[1m' found
+    tip: to pass '--a?b?[1m' as a value, use '-- --a?b?[1m'
+  Usage: geoarrow_check [OPTIONS] <FILE>...
+  For more information, try '--help'.
+  error: unexpected value 'a' for '--json' found; no more were expected
+  Usage: geoarrow_check --json <FILE>...
+  For more information, try '--help'.
+
+  $ for words in '--json --lines' '--lines --json' '--json --ipc' '--ipc --json' '--lines --ipc' '--ipc --lines' '--ipc --lines --json'
+  > do
+  >     geoarrow_check $words x 2>&1 | sed '/^$/,$d'
+  > done
+  error: the argument '--json' cannot be used with '--lines'
+  error: the argument '--lines' cannot be used with '--json'
+  error: the argument '--json' cannot be used with '--ipc'
+  error: the argument '--ipc' cannot be used with '--json'
+  error: the argument '--lines' cannot be used with '--ipc'
+  error: the argument '--ipc' cannot be used with '--lines'
+  error: the argument '--ipc' cannot be used with:
+    --lines
+    --json
 
   $ geoarrow_check --line x 2> /dev/null
   [2]
 
-  $ geoarrow_check 2>&1 | head -n 1
-  geoarrow_check: no file is named
-
-  $ geoarrow_check --json --lines x 2>&1 | head -n 1
-  geoarrow_check: --json and --lines exclude one another
-
-  $ geoarrow_check x --expect 2>&1 | head -n 1
-  geoarrow_check: --expect is the last word: COLUMN=WANT is missing
-
-  $ geoarrow_check --expect point x 2>&1 | head -n 1
-  geoarrow_check: point is no COLUMN=WANT
-
-  $ geoarrow_check --json 2> /dev/null
+  $ geoarrow_check --json --lines x 2> /dev/null
   [2]
+
+  $ for words in '' --json '--ipc x y' 'x --expect' '--expect point x'
+  > do
+  >     geoarrow_check $words 2>&1 | grep .
+  >     geoarrow_check $words 2> /dev/null || echo "status $?"
+  > done
+  error: the following required arguments were not provided:
+    <FILE>...
+  Usage: geoarrow_check <FILE>...
+  For more information, try '--help'.
+  status 2
+  error: the following required arguments were not provided:
+    <FILE>...
+  Usage: geoarrow_check --json <FILE>...
+  For more information, try '--help'.
+  status 2
+  error: --ipc takes one file
+  Usage: geoarrow_check [OPTIONS] <FILE>...
+  For more information, try '--help'.
+  status 2
+  error: a value is required for '--expect <COLUMN=WANT>' but none was supplied
+  For more information, try '--help'.
+  status 2
+  error: 'point' is no COLUMN=WANT
+  Usage: geoarrow_check [OPTIONS] <FILE>...
+  For more information, try '--help'.
+  status 2
+
+  $ for want in '' --json
+  > do
+  >     geoarrow_check --expect "$want" x 2>&1 | head -n 1
+  > done
+  error: '' is no COLUMN=WANT
+  error: '--json' is no COLUMN=WANT
 
 Output that fails
 

@@ -103,35 +103,38 @@ Words of the other program for which nothing is built, without `rt`: the first l
   > touch 'a b'
   > for script in bin/geoarrow_check 'bin/try check'
   > do
-  >     for words in --help '--infer a -h' -V 'a --version' '' --quiet '--jsno a' '--expect --jsno --jsno a' 'nowhere a' '--expect a=b nowhere a/b crates -'
+  >     for words in --help '--infer a -hq' -V 'a --version --jsno' '' --quiet '--jsno a' '-q a' '--expect --jsno --jsno=b a' 'nowhere a' '--expect=a=b nowhere a/b crates -' '-- --jsno'
   >     do
-  >         $script $words 2>&1 | sed 's/ \[--json .*/ .../' | head -n 3 | grep . || :
+  >         $script $words 2>&1 | head -n 3 | grep . || :
   >         $script $words > /dev/null 2>&1
   >         echo "status $?"
   >     done
   >     $script "$(printf 'no\033where\nat all')" 2>&1 || ls build crates/geoarrow_check
   > done
-  usage: geoarrow_check ...
-  Says what each column of each file holds, and why it is invalid; and which checks of GeoParquet metadata do not hold.
+  Says what each column of each file holds, and why it is invalid;
+  and which checks of GeoParquet metadata do not hold
   status 0
-  usage: geoarrow_check ...
-  Says what each column of each file holds, and why it is invalid; and which checks of GeoParquet metadata do not hold.
-  status 0
-  geoarrow_check 1.0.0 (rattle-kit-13f)
+  Says what each column of each file holds, and why it is invalid;
+  and which checks of GeoParquet metadata do not hold
   status 0
   geoarrow_check 1.0.0 (rattle-kit-13f)
   status 0
-  geoarrow_check: no file is named
-  usage: geoarrow_check ...
+  geoarrow_check 1.0.0 (rattle-kit-13f)
+  status 0
+  error: the following required arguments were not provided:
+    <FILE>...
   status 2
-  geoarrow_check: no file is named
-  usage: geoarrow_check ...
+  error: the following required arguments were not provided:
+    <FILE>...
   status 2
-  geoarrow_check: --jsno is unknown
-  usage: geoarrow_check ...
+  error: unexpected argument '--jsno' found
+  Usage: geoarrow_check [OPTIONS] <FILE>...
   status 2
-  geoarrow_check: --jsno is unknown
-  usage: geoarrow_check ...
+  error: unexpected argument '-q' found
+  Usage: geoarrow_check [OPTIONS] <FILE>...
+  status 2
+  error: unexpected argument '--jsno=b' found
+  Usage: geoarrow_check [OPTIONS] <FILE>...
   status 2
   nowhere: No such file or directory (os error 2)
   a: No such file or directory (os error 2)
@@ -139,32 +142,37 @@ Words of the other program for which nothing is built, without `rt`: the first l
   nowhere: No such file or directory (os error 2)
   a/b: No such file or directory (os error 2)
   crates: Is a directory (os error 21)
+  status 2
+  --jsno: No such file or directory (os error 2)
   status 2
   no?where?at all: No such file or directory (os error 2)
   ls: cannot access 'build': No such file or directory
   crates/geoarrow_check:
   src
-  usage: geoarrow_check ...
-  Says what each column of each file holds, and why it is invalid; and which checks of GeoParquet metadata do not hold.
+  Says what each column of each file holds, and why it is invalid;
+  and which checks of GeoParquet metadata do not hold
   status 0
-  usage: geoarrow_check ...
-  Says what each column of each file holds, and why it is invalid; and which checks of GeoParquet metadata do not hold.
-  status 0
-  geoarrow_check 1.0.0 (rattle-kit-13f)
+  Says what each column of each file holds, and why it is invalid;
+  and which checks of GeoParquet metadata do not hold
   status 0
   geoarrow_check 1.0.0 (rattle-kit-13f)
   status 0
-  geoarrow_check: no file is named
-  usage: geoarrow_check ...
+  geoarrow_check 1.0.0 (rattle-kit-13f)
+  status 0
+  error: the following required arguments were not provided:
+    <FILE>...
   status 2
-  geoarrow_check: no file is named
-  usage: geoarrow_check ...
+  error: the following required arguments were not provided:
+    <FILE>...
   status 2
-  geoarrow_check: --jsno is unknown
-  usage: geoarrow_check ...
+  error: unexpected argument '--jsno' found
+  Usage: geoarrow_check [OPTIONS] <FILE>...
   status 2
-  geoarrow_check: --jsno is unknown
-  usage: geoarrow_check ...
+  error: unexpected argument '-q' found
+  Usage: geoarrow_check [OPTIONS] <FILE>...
+  status 2
+  error: unexpected argument '--jsno=b' found
+  Usage: geoarrow_check [OPTIONS] <FILE>...
   status 2
   nowhere: No such file or directory (os error 2)
   a: No such file or directory (os error 2)
@@ -172,6 +180,8 @@ Words of the other program for which nothing is built, without `rt`: the first l
   nowhere: No such file or directory (os error 2)
   a/b: No such file or directory (os error 2)
   crates: Is a directory (os error 21)
+  status 2
+  --jsno: No such file or directory (os error 2)
   status 2
   no?where?at all: No such file or directory (os error 2)
   ls: cannot access 'build': No such file or directory
@@ -184,8 +194,8 @@ Words that need a program, without `rt`
   $ . ./stand_in.sh
   > export PATH=/usr/bin:/bin
   > touch a
-  > bin/geoarrow_check --expect --jsno a
-  > bin/try check a
+  > bin/geoarrow_check --expect --jsno --json=b a
+  > bin/try check -- a
   geoarrow_check: there is no rt on the path, which the kit of Rattle has
   geoarrow_check: there is no rt on the path, which the kit of Rattle has
   [2]
@@ -329,7 +339,7 @@ A build that fails says so and runs nothing, also where an older program is ther
 
 The script of the other program: its own words, what it builds, and what it runs, word by word
 
-  $ env PATH=/usr/bin:/bin "$top/bin/geoarrow_check" --help | head -n 1 | cut -c 1-21
+  $ env PATH=/usr/bin:/bin "$top/bin/geoarrow_check" --help | cmp - ../docs/check_help.txt
   > env PATH=/usr/bin:/bin "$top/bin/geoarrow_check" --version | head -n 1
   > . ./stand_in.sh
   > touch 'a  b' c '*'
@@ -337,7 +347,6 @@ The script of the other program: its own words, what it builds, and what it runs
   > bin/geoarrow_check --expect '' -
   > bin/try check --json 'a  b' c '*' 2> /dev/null
   > bin/try check --expect '' - 2> /dev/null
-  usage: geoarrow_check
   geoarrow_check 1.0.0 (rattle-kit-13f)
   geoarrow_check: proving and building the program
   geoarrow_check: proved low

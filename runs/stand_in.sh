@@ -11,14 +11,16 @@ mkdir crates/low/specs crates/low/proofs
 echo more > crates/low/src/more.rt
 echo specs > crates/low/specs/Low.antt
 echo proofs > crates/low/proofs/Low.antt
-cp "$top/crates/geoarrow_check/src/main.rt" crates/geoarrow_check/src
+mkdir -p crates/check_options/src docs
+cp "$top/crates/check_options/src/command.rt" crates/check_options/src
+cp "$top/docs/check_help.txt" docs
 touch HANDLES include/geoarrow.h
 printf '# low\nlow: json\nfields_program: low\ngeoarrow_check: low json\ngeoarrow_c staticlib: json low\nother:\n' > crates.txt
 echo 'kit 1' > "$TMPDIR/kit/KIT-ID"
 # What a crate of the folder that it is started in is built as: FILE is made of the sources of the crates that are there.
 cat > "$TMPDIR/kit/bin/made" << 'END'
 #!/bin/sh
-sources=$(find crates -name out -prune -o -path 'crates/*/src/*' ! -path 'crates/geoarrow_check/*' -type f -print -o -path 'crates/*/specs/*' -type f -print -o -path 'crates/*/proofs/*' -type f -print | LC_ALL=C sort | xargs cat | cat - "$TMPDIR/kit/KIT-ID" | tr '\n' ' ')
+sources=$(find crates -name out -prune -o -path 'crates/*/src/*' ! -path 'crates/geoarrow_check/*' ! -path 'crates/check_options/*' -type f -print -o -path 'crates/*/specs/*' -type f -print -o -path 'crates/*/proofs/*' -type f -print | LC_ALL=C sort | xargs cat | cat - "$TMPDIR/kit/KIT-ID" | tr '\n' ' ')
 printf '#!/bin/sh\nprintf runs\nprintf " <%%s>" "$@"\necho " %s"\n' "of ${sources% }" > "$1"
 chmod +x "$1"
 END

@@ -1,24 +1,7 @@
-//! The words that stand alone.
-ghost use Rattle.std.specs.Prelude.{◌≡◌, ◌↔◌, None, Some};
-ghost use Rattle.check_options.specs.declared.flags.Flag.{Flag};
-ghost use Rattle.check_options.specs.Flags.{IsWordOf, no_flags, with_flag, output_of};
+//! The options that stand alone.
+use clap::ArgMatches;
 
-/// A word that stands alone.
-#[derive(Clone, Copy)]
-pub(crate) enum Flag {
-    Json,
-    Lines,
-    Ipc,
-    Infer,
-    Notes,
-    AllChecks,
-    Quiet,
-    RequireGeometry,
-    Help,
-    Version,
-}
-
-/// Which words that stand alone there are.
+/// Which options that stand alone there are.
 #[derive(Debug, Clone, Copy)]
 pub struct Flags {
     /// `--json`: lines of JSON.
@@ -37,10 +20,6 @@ pub struct Flags {
     pub quiet: bool,
     /// `--require-geometry`: a file has a column of geometries.
     pub require_geometry: bool,
-    /// `--help` or `-h`: the usage.
-    pub help: bool,
-    /// `--version` or `-V`: the version.
-    pub version: bool,
 }
 
 /// What is printed of columns.
@@ -59,79 +38,33 @@ pub enum Output {
 }
 
 impl Flags {
-    /// What is printed of columns: of several the first of lines of fields, a stream, nothing, lines of JSON; and a table where none is asked for.
-    pub fn output(&self) -> Output
-        ensures { result ≡ output_of self.now }
-    {
+    /// The options among what is read.
+    pub(crate) fn of(matches: &ArgMatches<'_>) -> Flags {
+        Flags {
+            json: matches.get_flag("json"),
+            lines: matches.get_flag("lines"),
+            ipc: matches.get_flag("ipc"),
+            infer: matches.get_flag("infer"),
+            notes: matches.get_flag("notes"),
+            all_checks: matches.get_flag("all-checks"),
+            quiet: matches.get_flag("quiet"),
+            require_geometry: matches.get_flag("require-geometry"),
+        }
+    }
+
+    /// Returns what is printed of columns: of several the first of lines of fields, a stream,
+    /// nothing, lines of JSON; and a table where none is asked for.
+    pub fn output(&self) -> Output {
         if self.lines {
-            return Output::Lines;
+            Output::Lines
+        } else if self.ipc {
+            Output::Ipc
+        } else if self.quiet {
+            Output::Nothing
+        } else if self.json {
+            Output::Json
+        } else {
+            Output::Table
         }
-        if self.ipc {
-            return Output::Ipc;
-        }
-        if self.quiet {
-            return Output::Nothing;
-        }
-        if self.json {
-            return Output::Json;
-        }
-        Output::Table
     }
-}
-
-/// The flag that a word names, or `None`.
-pub(crate) fn flag_named(word: &str) -> Option<Flag>
-    ensures named { (f : Flag) → result ≡ Some f → IsWordOf f word.now }
-    ensures none { result ≡ None → (f : Flag) → IsWordOf f word.now → ⊥ }
-{
-    match word {
-        "--json" => Some(Flag::Json),
-        "--lines" => Some(Flag::Lines),
-        "--ipc" => Some(Flag::Ipc),
-        "--infer" => Some(Flag::Infer),
-        "--notes" => Some(Flag::Notes),
-        "--all-checks" => Some(Flag::AllChecks),
-        "--quiet" => Some(Flag::Quiet),
-        "--require-geometry" => Some(Flag::RequireGeometry),
-        "--help" | "-h" => Some(Flag::Help),
-        "--version" | "-V" => Some(Flag::Version),
-        _ => None,
-    }
-}
-
-/// No flag.
-pub(crate) fn no_flags() -> Flags
-    ensures { result ≡ no_flags }
-{
-    Flags {
-        json: false,
-        lines: false,
-        ipc: false,
-        infer: false,
-        notes: false,
-        all_checks: false,
-        quiet: false,
-        require_geometry: false,
-        help: false,
-        version: false,
-    }
-}
-
-/// One more flag.
-pub(crate) fn with_flag(mut flags: Flags, flag: Flag) -> Flags
-    ensures { result ≡ with_flag flags flag }
-{
-    match flag {
-        Flag::Json => flags.json = true,
-        Flag::Lines => flags.lines = true,
-        Flag::Ipc => flags.ipc = true,
-        Flag::Infer => flags.infer = true,
-        Flag::Notes => flags.notes = true,
-        Flag::AllChecks => flags.all_checks = true,
-        Flag::Quiet => flags.quiet = true,
-        Flag::RequireGeometry => flags.require_geometry = true,
-        Flag::Help => flags.help = true,
-        Flag::Version => flags.version = true,
-    }
-    flags
 }

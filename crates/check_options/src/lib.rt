@@ -1,9 +1,9 @@
-//! What the words on the command line of `geoarrow_check` ask: [`asked_by`] reads them, or says why they are refused.
+//! What the words on the command line of `geoarrow_check` ask: [`asked_by`] reads them, or gives what is said in place of a report.
 #![tactic(auto)]
 
 mod asked;
+mod command;
 mod flags;
-mod nearest;
 
-pub use asked::{Asked, Want, asked_by};
+pub use asked::{Asked, Said, Want, asked_by};
 pub use flags::{Flags, Output};

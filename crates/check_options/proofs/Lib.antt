@@ -1,3 +1,0 @@
-pub mod Nearer
-pub mod Reading
-pub mod Words

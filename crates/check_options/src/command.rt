@@ -1,0 +1,91 @@
+//! The options, with the help and the version. `docs/check_help.txt` is the help as it is printed.
+use clap::{Arg, ArgAction, Command};
+use std::alloc::{AllocError, Global};
+
+/// What stands behind the options in the help.
+const AFTER: &str = "--json, --lines and --ipc exclude one another.
+
+--expect may stand several times. COLUMN is the name of a column, WANT what it is to hold, with
+commas between: a kind, a coordinate type, a dimension, an encoding (native, WKB, WKT), a CRS;
+as outline=point,XY,EPSG:4326.
+
+Status: 0 if no column is invalid, each check holds and all that is expected is met, 1 otherwise,
+2 if a file or the words cannot be read or the output fails,
+141 if nobody reads the output any more.";
+
+/// An option that stands alone.
+fn flag<'a>(alloc: Global, name: &'a str, help: &'a str) -> Arg<'a> {
+    Arg::new(alloc, name)
+        .long(name)
+        .help(help)
+        .action(ArgAction::SetTrue)
+}
+
+/// The options that say what is printed of columns.
+fn with_outputs<'a>(alloc: Global, command: Command<'a>) -> Result<Command<'a>, AllocError> {
+    let json = "Print a line of JSON for each column, in place of a table";
+    let lines = "Print the columns as lines of fields, in place of what they hold";
+    let ipc = "Print the columns of one file as an Arrow stream of its schema alone";
+    command
+        .arg(flag(alloc, "json", json))?
+        .arg(flag(alloc, "lines", lines).conflicts_with("json")?)?
+        .arg(
+            flag(alloc, "ipc", ipc)
+                .conflicts_with("json")?
+                .conflicts_with("lines")?,
+        )
+}
+
+/// The options that add to what is said.
+fn with_more<'a>(alloc: Global, command: Command<'a>) -> Result<Command<'a>, AllocError> {
+    let infer = "Infer a type for columns without an extension name";
+    let notes = "Also warn of what is allowed: a number in a CRS that is not whole";
+    let all_checks = "Also print the checks of GeoParquet metadata that hold";
+    command
+        .arg(flag(alloc, "infer", infer))?
+        .arg(flag(alloc, "notes", notes))?
+        .arg(flag(alloc, "all-checks", all_checks))
+}
+
+/// The options for which the status counts.
+fn with_demands<'a>(alloc: Global, command: Command<'a>) -> Result<Command<'a>, AllocError> {
+    let quiet = "Print nothing of the columns";
+    let require_geometry = "Give status 1 where a file has no column of geometries";
+    let expect = "Give status 1 where the column holds other geometries, or none";
+    command
+        .arg(flag(alloc, "quiet", quiet))?
+        .arg(flag(alloc, "require-geometry", require_geometry))?
+        .arg(
+            Arg::new(alloc, "expect")
+                .long("expect")
+                .value_name("COLUMN=WANT")
+                .allow_hyphen_values(true)
+                .help(expect)
+                .action(ArgAction::Append),
+        )
+}
+
+/// The command: its options, and the files.
+pub(crate) fn command<'a>(alloc: Global) -> Result<Command<'a>, AllocError> {
+    let command = Command::new(alloc, "geoarrow_check")
+        .version("1.0.0 (rattle-kit-13f)")
+        .about(
+            "Says what each column of each file holds, and why it is invalid;
+and which checks of GeoParquet metadata do not hold",
+        )
+        .after_help(AFTER)
+        .no_binary_name(true)
+        .args_override_self(true);
+    let command = with_outputs(alloc, command)?;
+    let command = with_more(alloc, command)?;
+    let command = with_demands(alloc, command)?;
+    command.arg(
+        Arg::new(alloc, "FILE")
+            .help(
+                "An Arrow file (Feather), an Arrow stream, a Parquet file, or lines of fields;
+- is standard input",
+            )
+            .required(true)
+            .action(ArgAction::Append),
+    )
+}
