@@ -150,7 +150,7 @@ What runs the examples of the docs: one that fails, one that does not compile, a
 What refuses requests for memory: a program whose rows fail, and one that is not there
 
   $ . ./gate.sh
-  > for program in layout_rows type_rows file_rows
+  > for program in type_rows file_rows
   > do
   >     mkdir -p crates/$program/data crates/$program/out
   >     printf '#!/bin/sh\necho "2 passed, 0 failed"\n' > crates/$program/out/$program
@@ -163,27 +163,27 @@ What refuses requests for memory: a program whose rows fail, and one that is not
   > rm crates/type_rows/out/type_rows
   > bin/faults 2> /dev/null
   > echo "status $?"
-  6 passed, 0 failed
+  4 passed, 0 failed
   rows:1: wrong
-  5 passed, 1 failed
+  3 passed, 1 failed
   status 1
-  4 passed, 1 failed
+  2 passed, 1 failed
   status 1
 
 What judges rows: an answer that is right, more, less or something else, a command that is not there, a question without an answer, and no rows
 
-  $ mkdir -p "$TMPDIR/rows/layouts"
+  $ mkdir -p "$TMPDIR/rows/layouts" "$TMPDIR/rows/metadata" "$TMPDIR/rows/schema"
   > cd "$TMPDIR/rows"
   > asked='parts Native(Point, Interleaved, XY)'
   > right='geoarrow.point Interleaved XY'
   > printf '%s\n' '# Rows' "$asked" "$right" "$asked" "$right more" "$asked" "${right% XY}" "$asked" '' "no $asked" "$right" "= $asked" "$asked" > layouts/a.rows
-  > "$top/crates/layout_rows/out/layout_rows"
+  > "$top/crates/type_rows/out/type_rows"
   > echo "status $?"
   > printf '%s\n' "$asked" "$right" '' "$asked" "$right" > layouts/a.rows
-  > "$top/crates/layout_rows/out/layout_rows"
+  > "$top/crates/type_rows/out/type_rows"
   > echo "status $?"
   > echo '# No rows' > layouts/b.rows
-  > "$top/crates/layout_rows/out/layout_rows"
+  > "$top/crates/type_rows/out/type_rows"
   > echo "status $?"
   layouts/a.rows:4: parts Native(Point, Interleaved, XY): found `geoarrow.point Interleaved XY`, wanted `geoarrow.point Interleaved XY more`
   layouts/a.rows:6: parts Native(Point, Interleaved, XY): found `geoarrow.point Interleaved XY`, wanted `geoarrow.point Interleaved`
