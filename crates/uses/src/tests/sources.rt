@@ -1,5 +1,5 @@
 //! The columns of lines, and the bytes of a schema, from sources that are slow, that fail, that signals interrupt and that do not seek.
-use crate::reading::{OneByte, Repeated};
+use crate::tests::reading::{OneByte, Repeated};
 use arrow_columns::Column;
 use arrow_ipc::IpcError;
 use column_files::{

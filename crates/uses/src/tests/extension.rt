@@ -1,4 +1,5 @@
 //! The extension type of one's own that `uses` has: how it is written on fields, and read from them.
+use crate::Marked;
 use arrow_values::{
     ArrowError, DataType, EXTENSION_TYPE_METADATA_KEY, EXTENSION_TYPE_NAME_KEY, ExtensionType,
     Field,
@@ -8,7 +9,6 @@ use std::alloc::{AllocError, Global};
 use std::collections::BTreeMap;
 use std::mem::ManuallyDrop;
 use std::test::Fail;
-use uses::Marked;
 
 /// A map of those keys and texts.
 pub fn texts(

@@ -1,6 +1,6 @@
 //! What no row says of types, fields, structs and unions: clones of a type by its own call, parts that are handed out, what `Debug`
 //! prints, fields that are changed, and members by their places.
-use crate::extension::{column, texts};
+use crate::tests::extension::{column, texts};
 use arrow_values::{ArrowError, DataType, Dimensions, Field, Fields, UnionFields};
 use geoarrow_schema::CoordType::Interleaved;
 use geoarrow_schema::Dimension::XYM;

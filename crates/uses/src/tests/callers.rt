@@ -1,4 +1,8 @@
 //! The callers of `uses`, each once where it answers.
+use crate::{
+    any_type, are_written_alike, column_kind, join_unions, keep_wanted, projjson_text,
+    survey_columns, write_column,
+};
 use arrow_values::{DataType, Field, UnionFields};
 use geoarrow_schema::{
     BoxType, Crs, Dimension, GeoArrowType, GeometryType, Kind, Metadata, PointType,
@@ -8,10 +12,6 @@ use std::alloc::{AllocError, Global};
 use std::mem::ManuallyDrop;
 use std::sync::Arc;
 use std::test::Fail;
-use uses::{
-    any_type, are_written_alike, column_kind, join_unions, keep_wanted, projjson_text,
-    survey_columns, write_column,
-};
 
 /// A CRS in PROJJSON.
 const PROJJSON: &str = r#"{"type":"GeographicCRS"}"#;
