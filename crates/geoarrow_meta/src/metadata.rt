@@ -33,8 +33,8 @@ use serde_json::Value;
 use std::alloc::{AllocError, Global};
 use std::sync::Arc;
 use tokens::read_noting;
-use value_tokens::text_of;
 pub use tokens::read_values;
+use value_tokens::text_of;
 use write::{print_object, written_value};
 
 /// The metadata of an extension type (GeoArrow, "Extension types", "Extension metadata"): a CRS, and how edges run. The
