@@ -7,13 +7,11 @@
 //! out of memory.
 //!
 //! `Adds` of `specs/Adds` says what is printed: the tokens that a call added after the earlier ones, which it kept.
-//! The tokens of a value are those of its `outline`, whose text is `serde_json`'s `compact_text` (`proofs/Printed`).
+//! The tokens of a value are those of its `outline`, whose text is `serde_json`'s `compact_text` (`specs/Printed`).
 //!
-//! Two calls make a tree, for what is kept as JSON: [`read_value`] one of `serde_json`, and
-//! [`read_json`] one of `json`, in which each number stands as it is written; [`JsonText`] is the text
-//! of such a value without blanks.
+//! Only [`read_value`] makes a tree: it returns the value itself, for what is kept as JSON.
 //!
-//! `proofs/` has the lemmas on one more token that a reader of objects or a printer of values needs.
+//! `specs/` also has the laws of these definitions that a reader of objects or a printer of values needs.
 #![tactic(auto)]
 
 mod json_text;
