@@ -6,8 +6,8 @@ use crate::read::{infer_point, parse_wkb, parse_wkt};
 use arrow_values::DataType;
 
 /// Returns the kind that is inferred from a data type without an extension name (docs/FORMAT.md,
-/// 1.7): a point, as `infer_point` finds it, well-known binary or well-known text. `None` if none
-/// is inferred. Allocates nothing.
+/// 1.7): a point, as `infer_point` finds it, well-known binary or well-known text. `None` if none is
+/// inferred. Allocates nothing.
 ///
 /// ```rust
 /// assert_eq!(rt; infer_kind(&DataType::LargeUtf8), Some(Kind::Wkt(Width::Large)));

@@ -34,8 +34,8 @@ pub fn kind_word(kind: Kind) -> &'static str
     }
 }
 
-/// Returns the word of a coordinate type, as answers have it (docs/FORMAT.md, 2.2): `interleaved`
-/// or `separated`; where there is none, a dash. Allocates nothing.
+/// Returns the word of a coordinate type, as answers have it (docs/FORMAT.md, 2.2): `interleaved` or
+/// `separated`; where there is none, a dash. Allocates nothing.
 ///
 /// ```rust
 /// assert_eq!(rt; coord_type_word(Some(CoordType::Separated)), "separated");
