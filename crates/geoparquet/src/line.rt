@@ -33,7 +33,7 @@ pub fn check_line(
     Ok(text_of(out))
 }
 
-// Writes the object of a finding with that path.
+/// Writes the object of a finding with that path.
 fn put_finding(
     out: &mut Writer,
     file: Option<&str>,
@@ -52,7 +52,7 @@ fn put_finding(
     out.end_object()
 }
 
-// The column that a finding is on.
+/// The column that a finding is on.
 fn column_of(finding: &GeoFinding) -> Option<&str>
     ensures { text_of result ≡ option_map string_bytes finding.now.column }
 {
@@ -73,7 +73,7 @@ pub(crate) fn put_text(out: &mut Writer, name: &str, text: Option<&str>) -> Resu
     Ok(())
 }
 
-// Writes whether the check holds.
+/// Writes whether the check holds.
 fn put_ok(out: &mut Writer, ok: bool) -> Result<(), AllocError>
     ensures { OnOk result (Adds (key (codes "ok") ∷ boolean ok ∷ []) out.old out.new) }
 {
@@ -81,7 +81,7 @@ fn put_ok(out: &mut Writer, ok: bool) -> Result<(), AllocError>
     out.boolean(ok)
 }
 
-// Writes the path.
+/// Writes the path.
 fn put_path(out: &mut Writer, path: &[String]) -> Result<(), AllocError>
     ensures { OnOk result (Adds (path_tokens (map string_bytes path.now)) out.old out.new) }
 {
@@ -91,7 +91,7 @@ fn put_path(out: &mut Writer, path: &[String]) -> Result<(), AllocError>
     out.end_array()
 }
 
-// Writes the names of a path.
+/// Writes the names of a path.
 fn put_names(out: &mut Writer, path: &[String]) -> Result<(), AllocError>
     ensures { OnOk result (Adds (map (λ name. string (string_bytes name)) path.now) out.old out.new) }
 {

@@ -32,7 +32,7 @@ pub fn check_lines(
     Ok(text)
 }
 
-// Adds the line of a finding, if it is shown.
+/// Adds the line of a finding, if it is shown.
 fn add_shown(
     alloc: Global,
     text: &mut String,

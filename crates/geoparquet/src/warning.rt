@@ -41,7 +41,7 @@ pub fn no_geo_line(alloc: Global, file: Option<&str>) -> Result<String, AllocErr
     Ok(text_of(out))
 }
 
-// Writes the object of the warning.
+/// Writes the object of the warning.
 fn put_warning(out: &mut Writer, file: Option<&str>) -> Result<(), AllocError>
     ensures { OnOk result (Adds (no_geo_tokens (text_of file.entry)) out.old out.new) }
 {
