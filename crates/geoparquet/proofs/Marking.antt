@@ -12,7 +12,7 @@ use Rattle.json.specs.Value.{members_view, value_view}
 use Rattle.json.specs.declared.value.Value.{Value}
 use Rattle.serde_json.specs.Data.{Data, null}
 use Rattle.serde_json.specs.Find.{get}
-use Rattle.serde_json.specs.Read.{of_json, read}
+use Rattle.serde_json.specs.Read.{read}
 use Rattle.arrow_values.specs.Tree.{Text}
 use Rattle.arrow_columns.specs.Column.{ColumnTree, column_tree}
 use Rattle.arrow_columns.specs.Names.{first_of}
@@ -78,7 +78,7 @@ module _ (geo : Text) (j : Json) (is : IsJson geo j) where
     option_and_then (find.get (codes "crs")) (named_in j name),
     (j, is, refl),
     ap (λ o. text_with (crs_of (option_and_then (find.get (codes "crs")) o)) (edges_of (text_at (codes "edges") m))) (sym e)
-    ∙ ap (λ t. text_with (crs_of (option_and_then (find.get (codes "crs")) (named_in j name))) (edges_of t)) (same_text (codes "edges") name m e),
+        ∙ ap (λ t. text_with (crs_of (option_and_then (find.get (codes "crs")) (named_in j name))) (edges_of t)) (same_text (codes "edges") name m e),
   )
 
   of_left : (before : List ColumnTree) (c d : ColumnTree) (x : Option ColumnTree) (m : Option Json) → first_of before c.name ≡ x → named_in j c.name ≡ m

@@ -1,5 +1,5 @@
 -- The members of a value that was read: what `serde_json` reads of them, and how deep they nest.
-use Rattle.std.proofs.Common.{◌≡◌, ℕ, ◌<◌, ◌≤◌, Bool, true, false, cond, bytes_eq, List, [], ◌++◌, append-nil, Option, None, Some, option_map, option_and_then, codes, refl, sym, ap, ◌∙◌, subst, arith}
+use Rattle.std.proofs.Common.{◌≡◌, ℕ, ◌<◌, ◌≤◌, Bool, true, false, cond, bytes_eq, [], append-nil, Option, None, Some, option_map, option_and_then, codes, refl, sym, ap, ◌∙◌, subst, arith}
 use Rattle.std.specs.Cmp.Lexicographic.{nat_list_eq_equiv}
 use Rattle.std.proofs.lemmas.Option.{option_and_then_some}
 use Rattle.json.specs.Json as json

@@ -31,11 +31,7 @@ pub(crate) fn extension_text(alloc: Global, member: &Value<'_>) -> Result<String
 }
 
 /// The text of the metadata with the CRS that is that value, and those edges. Errs only when out of memory.
-fn text_with(
-    alloc: Global,
-    crs: &Value<'_>,
-    edges: Option<Edges>,
-) -> Result<String, AllocError>
+fn text_with(alloc: Global, crs: &Value<'_>, edges: Option<Edges>) -> Result<String, AllocError>
     requires read { IsRead (value_view crs.now) }
     requires shallow { depth (value_view crs.now) ≤ 126 }
     ensures { IfOk result (λ text. string_bytes text ≡ text_with (crs_of (Some (value_view crs.now))) edges) }
