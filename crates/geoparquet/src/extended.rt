@@ -18,13 +18,17 @@ use std::alloc::{AllocError, Global};
 use std::collections::BTreeMap;
 use value_tokens::{Refusal, member_of, read_json};
 
-/// The columns of a Parquet file whose metadata at the key `geo` are that text (GeoParquet 1.1, "Column metadata"; docs/FORMAT.md, 5.2). A column that has no
-/// extension name, that is the first of its name, and of whose member of `columns` the rule `Encoding` of `GeoCheck` holds, has the extension name of GeoArrow
-/// of its encoding, and as its extension metadata the CRS and the edges of that member: a CRS that is absent is `OGC:CRS84`, and the tokens of
-/// PROJJSON are those that the text has, so each number stays as it is written. All else, every other column and the order are as they were. A text
-/// that is no JSON object changes nothing. Errs only when out of memory.
+/// Returns the columns of a Parquet file whose metadata at the key `geo` are that text (GeoParquet
+/// 1.1, "Column metadata"; docs/FORMAT.md, 5.2). A column that has no extension name, that is the
+/// first of its name, and of whose member of `columns` the rule `Encoding` of `GeoCheck` holds, has
+/// the extension name of GeoArrow of its encoding, and as its extension metadata the CRS and the
+/// edges of that member: a CRS that is absent is `OGC:CRS84`, and PROJJSON keeps its tokens, so each
+/// number stays as it is written, and each key in its place. All else, every other column and the
+/// order are as they were. A text that is no JSON object changes nothing. Errs only when out of
+/// memory.
 ///
-/// Takes time that grows with the length of the text and the number of columns, times the logarithm of the number of members of `columns`.
+/// Takes time that grows with the length of the text and the number of columns, times the logarithm
+/// of the number of members of `columns`.
 ///
 /// ```rust
 /// let column = Column {

@@ -15,7 +15,8 @@ use value_tokens::{JsonText, member_of};
 /// The CRS where `crs` is absent.
 const DEFAULT_CRS: &str = "OGC:CRS84";
 
-/// The text of the extension metadata of a column, by its member of `columns`. Errs only when out of memory.
+/// Returns the text of the extension metadata of a column, by its member of `columns`. Errs only
+/// when out of memory.
 pub(crate) fn extension_text(alloc: Global, member: &Value<'_>) -> Result<String, AllocError>
     requires { IsRead (value_view member.now) }
     ensures { IfOk result (λ text. string_bytes text ≡ member_text (value_view member.now)) }
@@ -30,7 +31,8 @@ pub(crate) fn extension_text(alloc: Global, member: &Value<'_>) -> Result<String
     }
 }
 
-/// The text of the metadata with the CRS that is that value, and those edges. Errs only when out of memory.
+/// Returns the text of the metadata with the CRS that is that value, and those edges. Errs only when
+/// out of memory.
 fn text_with(alloc: Global, crs: &Value<'_>, edges: Option<Edges>) -> Result<String, AllocError>
     requires read { IsRead (value_view crs.now) }
     requires shallow { depth (value_view crs.now) ≤ 126 }
@@ -62,7 +64,7 @@ fn edges_of(text: Option<&str>) -> Option<Edges>
     }
 }
 
-/// The text at a key of a member, where there is one.
+/// Returns the text at a key of a member, where there is one.
 pub(crate) fn text_at<'a>(member: &Value<'a>, key: &str) -> Option<&'a str>
     requires { IsReadable (value_view member.now) }
     ensures { text_of result ≡ text_at key.now (value_view member.now) }

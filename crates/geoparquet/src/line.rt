@@ -10,9 +10,10 @@ use json::Writer;
 use std::alloc::{AllocError, Global};
 use value_tokens::text_of;
 
-/// The line of a finding: a JSON object with the keys `check`, `column`, `file`, `message`, `ok` and `path`, in this order and without blanks
-/// (`docs/FORMAT.md`, 5.1), and without a line feed. `column` is left out of a finding on all the metadata, and `file` where none is named.
-/// Errs only when out of memory.
+/// Returns the line of a finding: a JSON object with the keys `check`, `column`, `file`, `message`,
+/// `ok` and `path`, in this order and without blanks (`docs/FORMAT.md`, 5.1), and without a line
+/// feed. `column` is left out of a finding on all the metadata, and `file` where none is named. Errs
+/// only when out of memory.
 ///
 /// ```rust
 /// let finding = GeoFinding { check: GeoCheck::Version, column: None, ok: true };
