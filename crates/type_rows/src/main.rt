@@ -1,4 +1,4 @@
-//! Rows of metadata and of types: calls of `geoarrow_meta` and `crs_text`; of `geoarrow_schema`, `geoarrow_columns` and the crates of native types.
+//! Rows of metadata and of types: calls of `geoarrow_meta`, of `geoarrow_schema`, `geoarrow_columns` and the crates of native types.
 #![tactic(auto)]
 
 mod metadata;
