@@ -20,7 +20,8 @@ pub use Rattle.arrow_values.specs.Tree.{field, field_tree, fields_depth, FieldTr
 pub use Rattle.arrow_values.specs.Union.{are_distinct, is_type_id}
 pub use Rattle.arrow_values.specs.View.{field_trees, member_trees, texts_of, tree}
 pub use Rattle.arrow_values.specs.declared.tree.UnionMode.{UnionMode}
-pub use Rattle.value_tokens.specs.Adds.{added, Adds, Prints, prints_array, prints_end, prints_item, PrintsItems, sent, then}
+pub use Rattle.value_tokens.specs.Adds.{Adds, Prints, PrintsItems}
+pub use Rattle.value_tokens.proofs.Adding.{added, prints_array, prints_end, prints_item, sent, then}
 pub use Rattle.value_tokens.specs.Next.{after, next_after, next_items, next_members, next_value, ReadsAfter, ReadsItems, ReadsMembers, ReadsValue}
 pub use Rattle.value_tokens.proofs.Printed.{printed, reads_back}
 pub use Rattle.value_tokens.proofs.Turns.{after_some, item_read, item_refused, items_over, key_refused, member_read, members_over, named, no_value, object_too_deep, taken, value-object, value_takes}
