@@ -1,3 +1,4 @@
+pub mod Keys
 pub mod Texts
 pub mod Faults
 pub mod Unicity

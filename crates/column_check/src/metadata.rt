@@ -7,7 +7,7 @@ ghost use Rattle.serde_json.specs.Find.{as_object};
 ghost use Rattle.serde_json.specs.Read.{of_json, read};
 ghost use Rattle.arrow_values.specs.Tree.{Text};
 ghost use Rattle.arrow_values.specs.Texts.{text_of};
-ghost use Rattle.value_tokens.specs.Values.{IsReadable};
+ghost use Rattle.value_tokens.specs.Values.{IsReadable, is_object};
 ghost use Rattle.geoarrow_meta.specs.Read.{at_key, crs_type_data, edges_data};
 ghost use Rattle.geoarrow_meta.specs.KeyValues.{IsNamed, IsWord, AreValuesOf};
 ghost use Rattle.column_check.specs.Metadata.{no_values, values_of, unless_null, HasCrs, IsJsonRead, IsMetadataRead};
@@ -91,11 +91,18 @@ fn read_json(
         Err(Refusal::Text) => return Ok(Err(MetadataFault::NotJson)),
         Err(Refusal::Memory) => return Err(AllocError),
     };
-    if !matches!(value, Value::Object(_)) {
+    if !is_object(&value) {
         return Ok(Err(MetadataFault::NotObject));
     }
     let crs = crs_at(alloc, &value)?;
     Ok(of_values(crs, crs_type_at(&value), edges_at(&value)))
+}
+
+/// Whether a value is an object.
+fn is_object(value: &Value<'_>) -> bool
+    ensures { result ≡ is_object (value_view value.now) }
+{
+    matches!(value, Value::Object(_))
 }
 
 /// The member with that key, if there is one that is not null.
