@@ -1,7 +1,7 @@
+pub mod Keys
 pub mod Texts
 pub mod Faults
 pub mod Unicity
-pub mod Agreement
 pub mod Findings
 pub mod Paths
 pub mod Ways

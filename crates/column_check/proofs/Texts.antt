@@ -1,6 +1,9 @@
 -- A metadata text denotes one thing: values, or a fault.
 use Rattle.std.proofs.Common.{◌≡◌, [], ◌∷◌, codes, Option, None, Some, option_map, refl, sym, ap, ◌∙◌, subst}
 use Rattle.std.specs.Prelude.{IsSome}
+use Rattle.json.specs.Json.{Json}
+use Rattle.json.specs.Find.{get}
+use Rattle.json.specs.Tree.{json_tokens}
 use Rattle.serde_json.specs.Data.{Data, null, object, no_members, member}
 use Rattle.serde_json.specs.Find.{as_object}
 use Rattle.arrow_values.specs.Tree.{Text}
@@ -9,7 +12,8 @@ use Rattle.geoarrow_meta.specs.declared.crs.crs_type.CrsType.{CrsType}
 use Rattle.geoarrow_meta.specs.declared.metadata.Metadata.{Metadata}
 use Rattle.geoarrow_meta.specs.Read.{crs_type_data, edges_data, at_key, Denotes}
 use Rattle.geoarrow_meta.specs.Laws.{denotes_one}
-use Rattle.column_check.specs.Metadata.{Values, DataDenotes, TextDenotes, NamesCrsType, NamesEdges, HasTextFault, HasMetadataFault}
+use Rattle.value_tokens.specs.Codes.{json_from, json_from-json_tokens}
+use Rattle.column_check.specs.Metadata.{Values, DataDenotes, TextDenotes, TextHasCrs, unless_null, NamesCrsType, NamesEdges, HasTextFault, HasMetadataFault}
 use Rattle.column_check.specs.declared.metadata.MetadataFault.{MetadataFault}
 use Rattle.column_check.specs.declared.metadata.MetadataFault.TheVariants.{NotJson, NotObject, UnknownCrsType, UnknownEdges, UnknownCrsTypeAndEdges}
 
@@ -58,6 +62,18 @@ pub one_values : (t : Option Text) (v w : Values) → TextDenotes t v → TextDe
 one_values None v w h k = h ∙ sym k
 one_values (Some []) v w h k = h ∙ sym k
 one_values (Some (b ∷ s)) v w (d, reads, is) (e, others, here) = one_data e v w (subst (λ x. DataDenotes x v) (one_read _ d e reads others) is) here
+
+-- ---- the CRS as it is written
+
+-- a JSON value is told by its tokens
+one_json : (i j : Json) → json_tokens i ≡ json_tokens j → i ≡ j
+one_json i j same = sym (json_from-json_tokens i) ∙ ap json_from same ∙ json_from-json_tokens j
+
+-- a text has one CRS
+pub one_crs : (t : Option Text) (a b : Option Json) → TextHasCrs t a → TextHasCrs t b → a ≡ b
+one_crs None a b h k = h ∙ sym k
+one_crs (Some []) a b h k = h ∙ sym k
+one_crs (Some (x ∷ s)) a b (i, reads, is) (j, others, here) = is ∙ ap (λ v. unless_null (get (codes "crs") v)) (one_json i j (sym reads ∙ others)) ∙ sym here
 
 -- ---- faults
 

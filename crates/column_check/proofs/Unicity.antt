@@ -12,13 +12,14 @@ use Rattle.geoarrow_layout.specs.FaultAt.{Path, FaultAt}
 use Rattle.column_check.specs.Metadata.{Values, values_of}
 use Rattle.column_check.specs.Types.{TypeAccepted, HasTypeFault, TypeInferred}
 use Rattle.column_check.specs.Finding.{HasName, HasOtherName, IsReserved, IsOfKind, IsInvalidFor, IsFinding}
-use Rattle.column_check.specs.Unique.{SameTypeFault, SameReasons, SameFinding}
+use Rattle.column_check.specs.Unique.{SameTypeFault, SameGeometry, SameReasons, SameFinding}
 use Rattle.column_check.specs.declared.data_type.TypeFault.{TypeFault}
 use Rattle.column_check.specs.declared.finding.Reasons.{Reasons}
 use Rattle.column_check.specs.declared.finding.Reasons.TheVariants.{UnknownExtension, DataType, Metadata, DataTypeAndMetadata}
+use Rattle.column_check.specs.declared.finding.Geometry.{Geometry as GeometryColumn}
 use Rattle.column_check.specs.declared.finding.Finding.{Finding}
 use Rattle.column_check.specs.declared.finding.Finding.TheVariants.{Geometry, Invalid, Extension, Inferred, Plain}
-use Rattle.column_check.proofs.Texts.{one_values, text_apart, one_metadata_fault}
+use Rattle.column_check.proofs.Texts.{one_values, one_crs, text_apart, one_metadata_fault}
 use Rattle.column_check.proofs.Faults.{type_apart, one_type_fault}
 
 not_both : (o : Option Text) (s : Text) → o ≡ Some s → o ≡ None → ⊥
@@ -84,36 +85,48 @@ module _ (c : ColumnTree) where
     one_reasons (DataTypeAndMetadata t m) (Metadata n) h k = absurd (types_apart k.0 h.0 k.2.0 t k.1 h.1 k.2.1 h.2)
     one_reasons (DataTypeAndMetadata t m) (DataTypeAndMetadata u n) h k = (one_fault_there h.0 k.0 t u h.1 k.1 h.2 k.2, one_metadata_fault (metadata_on c) m n h.3 k.3)
 
-    one_geometry : (j k : Kind) (v w : Values) → IsOfKind c j v → IsOfKind c k w → (j ≡ k) × (v ≡ w)
-    one_geometry j k v w h g = (one_accepted c.data_type h.2 g.2, one_values (metadata_on c) v w h.3 g.3)
+    same_kind : (j k : Kind) (v w : Values) → IsOfKind c j v → IsOfKind c k w → j ≡ k
+    same_kind j k v w h g = one_accepted c.data_type h.2 g.2
       where
         one_accepted : (t : TypeTree) → TypeAccepted h.0 t j → TypeAccepted g.0 t k → j ≡ k
         one_accepted (known t) one two = one_kind (name_text g.0) t j k (subst (λ x. TypeAccepted x (known t) j) (one_name h.0 g.0 h.1 g.1) one) two
         one_accepted (other s) one two = absurd one
 
     module _ (one_inferred : (k l : Kind) → TypeInferred c.data_type k → TypeInferred c.data_type l → k ≡ l) (infer : Bool) where
+      one_geometry : (g h : GeometryColumn) → IsFinding infer c (Geometry g) → IsFinding infer c (Geometry h) → SameGeometry g h
+      one_geometry g h is k =
+          let v = values_of g.metadata in
+          let w = values_of h.metadata in
+          (same_kind g.kind h.kind v w is.0 k.0, one_values (metadata_on c) v w is.0.3 k.0.3, one_crs (metadata_on c) g.metadata.crs h.metadata.crs is.1 k.1)
+
+      one_taken : (g h : GeometryColumn) → IsFinding infer c (Inferred g) → IsFinding infer c (Inferred h) → SameGeometry g h
+      one_taken g h is k =
+          let v = values_of g.metadata in
+          let w = values_of h.metadata in
+          (one_inferred g.kind h.kind is.1.1 k.1.1, one_values (metadata_on c) v w is.1.2 k.1.2, one_crs (metadata_on c) g.metadata.crs h.metadata.crs is.2 k.2)
+
       pub one_finding : (f g : Finding) → IsFinding infer c f → IsFinding infer c g → SameFinding f g
-      one_finding (Geometry g) (Geometry h) is k = one_geometry g.kind h.kind (values_of g.metadata) (values_of h.metadata) is k
-      one_finding (Geometry g) (Invalid r) is k = absurd (kind_apart r g.kind (values_of g.metadata) is k)
-      one_finding (Geometry g) Extension is k = absurd (other_apart k.0 is.0 k.1 is.1)
-      one_finding (Geometry g) (Inferred h) is k = absurd (not_both _ (name_text is.0) is.1 k.1.0)
-      one_finding (Geometry g) Plain is k = absurd (not_both _ (name_text is.0) is.1 k.0)
-      one_finding (Invalid r) (Geometry g) is k = absurd (kind_apart r g.kind (values_of g.metadata) k is)
+      one_finding (Geometry g) (Geometry h) is k = one_geometry g h is k
+      one_finding (Geometry g) (Invalid r) is k = absurd (kind_apart r g.kind (values_of g.metadata) is.0 k)
+      one_finding (Geometry g) Extension is k = absurd (other_apart k.0 is.0.0 k.1 is.0.1)
+      one_finding (Geometry g) (Inferred h) is k = absurd (not_both _ (name_text is.0.0) is.0.1 k.1.0)
+      one_finding (Geometry g) Plain is k = absurd (not_both _ (name_text is.0.0) is.0.1 k.0)
+      one_finding (Invalid r) (Geometry g) is k = absurd (kind_apart r g.kind (values_of g.metadata) k.0 is)
       one_finding (Invalid r) (Invalid s) is k = one_reasons r s is k
       one_finding (Invalid r) Extension is k = absurd (reserved_there r k.0 is k.1 k.2)
       one_finding (Invalid r) (Inferred h) is k = absurd (name_there r is k.1.0)
       one_finding (Invalid r) Plain is k = absurd (name_there r is k.0)
-      one_finding Extension (Geometry g) is k = absurd (other_apart is.0 k.0 is.1 k.1)
+      one_finding Extension (Geometry g) is k = absurd (other_apart is.0 k.0.0 is.1 k.0.1)
       one_finding Extension (Invalid r) is k = absurd (reserved_there r is.0 k is.1 is.2)
       one_finding Extension Extension is k = tt
       one_finding Extension (Inferred h) is k = absurd (not_both _ is.0 is.1.0 k.1.0)
       one_finding Extension Plain is k = absurd (not_both _ is.0 is.1.0 k.0)
-      one_finding (Inferred g) (Geometry h) is k = absurd (not_both _ (name_text k.0) k.1 is.1.0)
+      one_finding (Inferred g) (Geometry h) is k = absurd (not_both _ (name_text k.0.0) k.0.1 is.1.0)
       one_finding (Inferred g) (Invalid r) is k = absurd (name_there r k is.1.0)
       one_finding (Inferred g) Extension is k = absurd (not_both _ k.0 k.1.0 is.1.0)
-      one_finding (Inferred g) (Inferred h) is k = (one_inferred g.kind h.kind is.1.1 k.1.1, one_values (metadata_on c) (values_of g.metadata) (values_of h.metadata) is.1.2 k.1.2)
+      one_finding (Inferred g) (Inferred h) is k = one_taken g h is k
       one_finding (Inferred g) Plain is k = absurd (k.1 is.0 g.kind (values_of g.metadata) is.1)
-      one_finding Plain (Geometry g) is k = absurd (not_both _ (name_text k.0) k.1 is.0)
+      one_finding Plain (Geometry g) is k = absurd (not_both _ (name_text k.0.0) k.0.1 is.0)
       one_finding Plain (Invalid r) is k = absurd (name_there r k is.0)
       one_finding Plain Extension is k = absurd (not_both _ k.0 k.1.0 is.0)
       one_finding Plain (Inferred g) is k = absurd (is.1 k.0 g.kind (values_of g.metadata) k.1)

@@ -6,7 +6,7 @@ use Rattle.arrow_columns.specs.Column.{ColumnTree, name_on, metadata_on}
 use Rattle.geoarrow_layout.specs.declared.names.ExtensionName.{ExtensionName}
 use Rattle.geoarrow_layout.specs.declared.encodings.Kind.{Kind}
 use Rattle.geoarrow_layout.specs.Kinds.{name_text}
-use Rattle.column_check.specs.Metadata.{Values, values_of, TextDenotes, HasMetadataFault}
+use Rattle.column_check.specs.Metadata.{Values, values_of, TextDenotes, TextHasCrs, HasMetadataFault}
 use Rattle.column_check.specs.Types.{TypeAccepted, HasTypeFault, TypeInferred}
 use Rattle.column_check.specs.declared.finding.Reasons.{Reasons}
 use Rattle.column_check.specs.declared.finding.Reasons.TheVariants.{UnknownExtension, DataType, Metadata, DataTypeAndMetadata}
@@ -43,12 +43,12 @@ IsInvalidFor c (DataType t) = (n : ExtensionName) × HasName c n × HasTypeFault
 IsInvalidFor c (Metadata m) = (n : ExtensionName) × HasName c n × ((k : Kind) × TypeAccepted n c.data_type k) × HasMetadataFault (metadata_on c) m
 IsInvalidFor c (DataTypeAndMetadata t m) = (n : ExtensionName) × HasName c n × HasTypeFault n c.data_type t × HasMetadataFault (metadata_on c) m
 
--- what is said of a column, where types are inferred or not
+-- what is said of a column, where types are inferred or not; of geometries with the CRS as it is written
 abbrev pub IsFinding : Bool → ColumnTree → ColumnFinding → Type 0
-IsFinding infer c (Geometry g) = IsOfKind c g.kind (values_of g.metadata)
+IsFinding infer c (Geometry g) = IsOfKind c g.kind (values_of g.metadata) × TextHasCrs (metadata_on c) g.metadata.crs
 IsFinding infer c (Invalid r) = IsInvalidFor c r
 IsFinding infer c Extension = (s : Text) × HasOtherName c s × ¬ IsReserved s
-IsFinding infer c (Inferred g) = IsTrue infer × IsTakenFor c g.kind (values_of g.metadata)
+IsFinding infer c (Inferred g) = IsTrue infer × IsTakenFor c g.kind (values_of g.metadata) × TextHasCrs (metadata_on c) g.metadata.crs
 IsFinding infer c Plain = (name_on c ≡ None) × (IsTrue infer → (k : Kind) (v : Values) → ¬ IsTakenFor c k v)
 
 -- one finding for each column, in order

@@ -6,4 +6,3 @@ pub mod States
 pub mod Parts
 pub mod Warnings
 pub mod Walk
-pub mod Agrees

@@ -1,9 +1,12 @@
 -- Which values a metadata text denotes, whatever numbers its CRS holds, and why a text denotes none (GeoArrow, "Extension metadata").
-use Rattle.std.specs.Prelude.{◌≡◌, [], codes, Option, None, Some, IsSome, option_map, Result, Ok, Err}
+use Rattle.std.specs.Prelude.{◌≡◌, [], codes, Option, None, Some, IsSome, option_map, option_and_then, Result, Ok, Err}
+use Rattle.json.specs.Json.{Json, null}
+use Rattle.json.specs.Find.{get}
+use Rattle.json.specs.Lex.{tokens}
+use Rattle.json.specs.Tree.{json_tokens}
 use Rattle.serde_json.specs.Data.{Data}
 use Rattle.serde_json.specs.Find.{as_object}
-use Rattle.serde_json.specs.Read.{read}
-use Rattle.serde_json.specs.View.{view}
+use Rattle.serde_json.specs.Read.{of_json, read}
 use Rattle.arrow_values.specs.Tree.{Text}
 use Rattle.geoarrow_meta.specs.declared.edges.Edges.{Edges}
 use Rattle.geoarrow_meta.specs.declared.crs.crs_type.CrsType.{CrsType}
@@ -19,7 +22,7 @@ pub record Values : Type 0 where
   pub edges : Option Edges
 
 abbrev pub values_of : ColumnMetadata → Values
-values_of m = record { crs = option_map view m.crs; crs_type = m.crs_type; edges = m.edges }
+values_of m = record { crs = option_and_then of_json m.crs; crs_type = m.crs_type; edges = m.edges }
 
 abbrev pub no_values : Values
 no_values = record { crs = None; crs_type = None; edges = None }
@@ -40,6 +43,22 @@ abbrev pub TextDenotes : Option Text → Values → Type 0
 TextDenotes None v = v ≡ no_values
 TextDenotes (Some []) v = v ≡ no_values
 TextDenotes (Some s) v = JsonDenotes s v
+
+-- the value, if it is there and not null
+abbrev pub unless_null : Option Json → Option Json
+unless_null None = None
+unless_null (Some null) = None
+unless_null (Some j) = Some j
+
+-- the text is a JSON value, and this is its last member `crs` as it is written, if there is one that is not null
+abbrev pub HasCrs : Text → Option Json → Type 0
+HasCrs s crs = (j : Json) × (tokens s ≡ json_tokens j) × (crs ≡ unless_null (get (codes "crs") j))
+
+-- the CRS of a metadata text as it is written; a missing text and an empty one have none
+abbrev pub TextHasCrs : Option Text → Option Json → Type 0
+TextHasCrs None crs = crs ≡ None
+TextHasCrs (Some []) crs = crs ≡ None
+TextHasCrs (Some s) crs = HasCrs s crs
 
 -- the object has a CRS type of the format at its key, or none; and so for edges
 abbrev pub NamesCrsType : Data → Type 0
@@ -66,12 +85,12 @@ HasMetadataFault None f = ⊥
 HasMetadataFault (Some []) f = ⊥
 HasMetadataFault (Some s) f = HasTextFault s f
 
--- what a text is read as that is not empty: the values that it denotes as JSON, or why it denotes none
+-- what a text is read as that is not empty: the values that it denotes as JSON, with its CRS as it is written, or why it denotes none
 abbrev pub IsJsonRead : Text → Result ColumnMetadata MetadataFault → Type 0
-IsJsonRead s (Ok m) = JsonDenotes s (values_of m)
+IsJsonRead s (Ok m) = JsonDenotes s (values_of m) × HasCrs s m.crs
 IsJsonRead s (Err f) = HasTextFault s f
 
--- what a metadata text is read as: the values that it denotes, or why it denotes none
+-- what a metadata text is read as: the values that it denotes, with its CRS as it is written, or why it denotes none
 abbrev pub IsMetadataRead : Option Text → Result ColumnMetadata MetadataFault → Type 0
-IsMetadataRead t (Ok m) = TextDenotes t (values_of m)
+IsMetadataRead t (Ok m) = TextDenotes t (values_of m) × TextHasCrs t m.crs
 IsMetadataRead t (Err f) = HasMetadataFault t f

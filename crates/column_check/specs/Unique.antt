@@ -9,9 +9,9 @@ use Rattle.column_check.specs.declared.finding.Geometry.{Geometry as GeometryCol
 use Rattle.column_check.specs.declared.finding.Finding.{Finding as ColumnFinding}
 use Rattle.column_check.specs.declared.finding.Finding.TheVariants.{Geometry, Invalid, Extension, Inferred, Plain}
 
--- the same kind and the same values
+-- the same kind, the same values, and the same CRS as it is written
 abbrev pub SameGeometry : GeometryColumn → GeometryColumn → Type 0
-SameGeometry g h = (g.kind ≡ h.kind) × (values_of g.metadata ≡ values_of h.metadata)
+SameGeometry g h = (g.kind ≡ h.kind) × (values_of g.metadata ≡ values_of h.metadata) × (g.metadata.crs ≡ h.metadata.crs)
 
 -- the same fault, on the way of the same names
 abbrev pub SameTypeFault : TypeFault → TypeFault → Type 0

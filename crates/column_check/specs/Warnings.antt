@@ -4,7 +4,7 @@ use Rattle.std.specs.Cmp.Lexicographic.{pointwise}
 use Rattle.std.specs.Option.{is_some}
 use Rattle.std.specs.List.{list_any}
 use Rattle.std.specs.Str.{bytes_eq}
-use Rattle.serde_json.specs.Data.{Data, string, object}
+use Rattle.json.specs.Json.{Json}
 use Rattle.arrow_values.specs.Tree.{Text, Metadata, Tree, fixed_size_list, struct}
 use Rattle.arrow_values.specs.Texts.{text_at, name_key}
 use Rattle.arrow_columns.specs.Column.{TypeTree, known, other, ColumnTree, metadata_on}
@@ -20,7 +20,9 @@ use Rattle.geoarrow_layout.specs.Shapes.{names_of, has_name}
 use Rattle.geoarrow_layout.specs.Layouts.{coordinate_names, box_names}
 use Rattle.geoarrow_layout.specs.Inferred.{is_float64, are_float64}
 use Rattle.geoarrow_meta.specs.Read.{some_has_float}
-use Rattle.column_check.specs.Metadata.{Values, values_of}
+use Rattle.value_tokens.specs.Values.{is_object, is_string}
+use Rattle.column_check.specs.Metadata.{values_of}
+use Rattle.column_check.specs.declared.metadata.ColumnMetadata.{ColumnMetadata}
 use Rattle.column_check.specs.States.{geometry_in}
 use Rattle.column_check.specs.Parts.{Names, coordinates_in, fields_in, ways_to}
 use Rattle.column_check.specs.declared.finding.Finding.{Finding as ColumnFinding}
@@ -65,24 +67,23 @@ is_empty_text (Some s) = false
 -- ---- of a CRS
 
 -- there is a CRS, and it is neither an object nor a text
-abbrev pub is_odd_crs : Option Data → Bool
+abbrev pub is_odd_crs : Option Json → Bool
 is_odd_crs None = false
-is_odd_crs (Some (object ms)) = false
-is_odd_crs (Some (string s)) = false
-is_odd_crs (Some d) = true
+is_odd_crs (Some j) = not (is_object j) && not (is_string j)
 
--- the CRS is an object
-abbrev pub is_object_crs : Option Data → Bool
-is_object_crs (Some (object ms)) = true
-is_object_crs d = false
+-- there is a CRS that is no object, which can only be PROJJSON
+abbrev pub is_untyped_crs : Option Json → Bool
+is_untyped_crs None = false
+is_untyped_crs (Some j) = not (is_object j)
 
--- there is a CRS that is no object, and not its type; an object can only be PROJJSON
-abbrev pub lacks_type : Values → Bool
-lacks_type v = is_some v.crs && not (is_object_crs v.crs) && not (is_some v.crs_type)
+-- there is such a CRS, and not its type
+abbrev pub lacks_type : ColumnMetadata → Bool
+lacks_type m = is_untyped_crs m.crs && not (is_some m.crs_type)
 
 -- that numbers are not whole is a note: it is said where notes are asked for
-abbrev pub crs_warnings : Bool → Values → List Said
-crs_warnings notes v = of_column CrsNotWhole (notes && some_has_float v.crs) ++ of_column CrsWithoutType (lacks_type v) ++ of_column CrsNumber (is_odd_crs v.crs)
+abbrev pub crs_warnings : Bool → ColumnMetadata → List Said
+crs_warnings notes m =
+    of_column CrsNotWhole (notes && some_has_float (values_of m).crs) ++ of_column CrsWithoutType (lacks_type m) ++ of_column CrsNumber (is_odd_crs m.crs)
 
 -- ---- of coordinates
 
@@ -141,7 +142,7 @@ nested_warnings (other s) = []
 abbrev pub geometry_warnings : Bool → ColumnTree → Option GeometryColumn → List Said
 geometry_warnings notes c None = []
 geometry_warnings notes c (Some g) =
-    of_column MetadataEmpty (is_empty_text (metadata_on c)) ++ crs_warnings notes (values_of g.metadata) ++ coordinate_warnings g.kind c.data_type
+    of_column MetadataEmpty (is_empty_text (metadata_on c)) ++ crs_warnings notes g.metadata ++ coordinate_warnings g.kind c.data_type
 
 -- the warnings of a column of which that is said, with notes or without: those of its metadata text, of its CRS, of its coordinates, and of
 -- the fields below it

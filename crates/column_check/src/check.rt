@@ -12,6 +12,7 @@ use crate::finding::{Finding, Geometry, Reasons};
 use crate::metadata::{ColumnMetadata, MetadataFault, read_metadata};
 use arrow_columns::{Column, ColumnType};
 use geoarrow_layout::{ExtensionName, Kind, infer_kind};
+use json::Scratch;
 use std::alloc::{AllocError, Global};
 
 /// What each column of a schema holds: one finding for each, in order, which depends only on its own column. Errs only when out
@@ -23,16 +24,18 @@ pub fn check_columns(
 ) -> Result<Vec<Finding>, AllocError>
     ensures { IfOk result (λ findings. AreFindings infer (map column_tree columns.now) findings.items) }
 {
+    let mut scratch = Scratch::new(alloc);
     let mut findings = Vec::new(alloc);
     for column in columns {
-        findings.push(check_column(alloc, column, infer)?)?;
+        findings.push(check_column(alloc, &mut scratch, column, infer)?)?;
     }
     Ok(findings)
 }
 
 /// What a column holds: geometries, where it has one of GeoArrow's extension names and its type and its metadata go with it, whatever
 /// its coordinate reference system is; or why not. With `infer`, a column without an extension name is taken for what
-/// `from_arrow_field` of `geoarrow_schema` infers from its data type. Errs only when out of memory.
+/// `from_arrow_field` of `geoarrow_schema` infers from its data type. The scratch buffer is kept by the
+/// caller from column to column. Errs only when out of memory.
 ///
 /// ```rust
 /// let column = Column {
@@ -41,20 +44,26 @@ pub fn check_columns(
 ///     data_type: ColumnType::Data(DataType::Binary),
 ///     metadata: BTreeMap::new(alloc),
 /// };
-/// assert!(rt; matches!(check_column(alloc, &column, false)?, Finding::Plain));
-/// assert!(rt; matches!(check_column(alloc, &column, true)?, Finding::Inferred(_)));
+/// let mut scratch = Scratch::new(alloc);
+/// assert!(rt; matches!(check_column(alloc, &mut scratch, &column, false)?, Finding::Plain));
+/// assert!(rt; matches!(check_column(alloc, &mut scratch, &column, true)?, Finding::Inferred(_)));
 /// ```
-pub fn check_column(alloc: Global, column: &Column, infer: bool) -> Result<Finding, AllocError>
+pub fn check_column(
+    alloc: Global,
+    scratch: &mut Scratch,
+    column: &Column,
+    infer: bool,
+) -> Result<Finding, AllocError>
     ensures { IfOk result (IsFinding infer (column_tree column.now)) }
 {
     match column.extension_type_name() {
         Some(text) => match ExtensionName::from_text(text) {
-            Some(name) => check_named(alloc, column, name),
+            Some(name) => check_named(alloc, scratch, column, name),
             None => other_name(alloc, text),
         },
         None => {
             if infer {
-                check_unnamed(alloc, column)
+                check_unnamed(alloc, scratch, column)
             } else {
                 Ok(Finding::Plain)
             }
@@ -63,11 +72,16 @@ pub fn check_column(alloc: Global, column: &Column, infer: bool) -> Result<Findi
 }
 
 /// What a column holds that has one of GeoArrow's extension names.
-fn check_named(alloc: Global, column: &Column, name: ExtensionName) -> Result<Finding, AllocError>
+fn check_named(
+    alloc: Global,
+    scratch: &mut Scratch,
+    column: &Column,
+    name: ExtensionName,
+) -> Result<Finding, AllocError>
     requires { HasName (column_tree column.now) name }
     ensures { (infer : Bool) → IfOk result (IsFinding infer (column_tree column.now)) }
 {
-    let metadata = read_metadata(alloc, column.extension_type_metadata())?;
+    let metadata = read_metadata(alloc, column.extension_type_metadata(), scratch)?;
     let kind = kind_under(alloc, name, &column.data_type)?;
     Ok(named_finding(kind, metadata))
 }
@@ -112,7 +126,11 @@ fn is_reserved(alloc: Global, name: &str) -> Result<bool, AllocError>
 }
 
 /// What a column without an extension name is taken for.
-fn check_unnamed(alloc: Global, column: &Column) -> Result<Finding, AllocError>
+fn check_unnamed(
+    alloc: Global,
+    scratch: &mut Scratch,
+    column: &Column,
+) -> Result<Finding, AllocError>
     requires { name_on (column_tree column.now) ≡ None }
     ensures { (infer : Bool) → IsTrue infer → IfOk result (IsFinding infer (column_tree column.now)) }
 {
@@ -122,7 +140,7 @@ fn check_unnamed(alloc: Global, column: &Column) -> Result<Finding, AllocError>
     let Some(kind) = infer_kind(data_type) else {
         return Ok(Finding::Plain);
     };
-    match read_metadata(alloc, column.extension_type_metadata())? {
+    match read_metadata(alloc, column.extension_type_metadata(), scratch)? {
         Ok(metadata) => Ok(Finding::Inferred(Geometry { kind, metadata })),
         Err(_) => Ok(Finding::Plain),
     }

@@ -1,17 +1,19 @@
 //! Laws of what is said of a column: functions whose contract is the law.
-ghost use Rattle.std.specs.Prelude.{◌≡◌, Bool};
-ghost use Rattle.arrow_columns.specs.Column.{column_tree, type_tree};
+ghost use Rattle.std.specs.Prelude.{◌≡◌, Bool, Option};
+ghost use Rattle.arrow_values.specs.Tree.{Text};
+ghost use Rattle.arrow_columns.specs.Column.{TypeTree, column_tree, type_tree};
+ghost use Rattle.geoarrow_layout.specs.declared.names.ExtensionName.{ExtensionName};
 ghost use Rattle.geoarrow_layout.specs.declared.encodings.Kind.{Kind};
-ghost use Rattle.column_check.specs.Types.{TypeInferred};
+ghost use Rattle.column_check.specs.Metadata.{Values, TextDenotes, HasMetadataFault};
+ghost use Rattle.column_check.specs.Types.{TypeAccepted, HasTypeFault, TypeInferred};
 ghost use Rattle.column_check.specs.Finding.{IsFinding};
 ghost use Rattle.column_check.specs.Unique.{SameFinding};
-ghost use Rattle.column_check.specs.Agrees.{AgreesWithType, IsReadWhereWhole, RefusesWithReading, ReadsNoEmptyText, AgreesWithInference, IsInferredWhereWhole, InfersNoEmptyText};
+ghost use Rattle.column_check.specs.declared.data_type.TypeFault.{TypeFault};
+ghost use Rattle.column_check.specs.declared.metadata.MetadataFault.{MetadataFault};
 
 use crate::finding::Finding;
 use arrow_columns::{Column, ColumnType};
-use arrow_values::Field;
 use geoarrow_layout::{infer_kind, names_are_distinct, no_fault_if_accepted, one_fault, one_kind};
-use geoarrow_native::laws::reads_as_one_column;
 
 /// A law: of a column one thing is said, with or without inference: two findings of it say the same. There is no need to run this.
 pub fn finding_is_unique(column: &Column, _one: &Finding, _other: &Finding)
@@ -33,31 +35,18 @@ fn one_kind_inferred(column_type: &ColumnType)
     }
 }
 
-/// A law: what is said of a column goes together with what `from_extension_field` of `geoarrow_schema` answers for its field.
-/// Where that answers a type, the finding is its kind and the values of its metadata. Where the
-/// finding is a kind, each number in the CRS is whole, and the metadata text is not the empty one,
-/// the field is read as that kind. Where the finding is invalid under one of GeoArrow's names, the
-/// field is refused; under any other name, and under none, nothing is read. With an empty metadata
-/// text, which denotes no values here, nothing is read. There is no need to run this.
-pub fn agrees_with_reading(field: &Field, _finding: &Finding)
-    ensures types { (infer : Bool) → AgreesWithType infer _finding.now field.now }
-    ensures whole { (infer : Bool) → IsReadWhereWhole infer _finding.now field.now }
-    ensures refused { (infer : Bool) → RefusesWithReading infer _finding.now field.now }
-    ensures empty { ReadsNoEmptyText field.now }
+/// A law: a type that is of a kind under an extension name has no fault under it. There is no need to
+/// run this.
+pub fn kind_or_fault()
+    ensures { (n : ExtensionName) (t : TypeTree) (k : Kind) (f : TypeFault) → TypeAccepted n t k → ¬ HasTypeFault n t f }
 {
-    reads_as_one_column(field);
     no_fault_if_accepted();
 }
 
-/// A law: what is said of a column goes together with what `from_arrow_field` of `geoarrow_schema` infers for its field. Where that
-/// infers a type for a field without an extension name, the finding, with inference, is its kind and the values of its metadata. Where
-/// the finding is inferred, each number in the CRS is whole, and the metadata text is not the empty
-/// one, that kind is inferred for the field. With an empty metadata text nothing is inferred. There
-/// is no need to run this.
-pub fn agrees_with_inference(field: &Field, _finding: &Finding)
-    ensures types { AgreesWithInference _finding.now field.now }
-    ensures whole { (infer : Bool) → IsInferredWhereWhole infer _finding.now field.now }
-    ensures empty { InfersNoEmptyText field.now }
-{
-    infer_kind(field.data_type());
-}
+/// A law: a metadata text denotes one set of values, and a text with a fault denotes none. There is
+/// no need to run this.
+#[tactic(auto, using(crate::proofs::Texts::one_values, crate::proofs::Texts::text_apart))]
+pub fn metadata_is_unique()
+    ensures values { (t : Option Text) (v w : Values) → TextDenotes t v → TextDenotes t w → v ≡ w }
+    ensures values_or_fault { (t : Option Text) (f : MetadataFault) (v : Values) → HasMetadataFault t f → ¬ TextDenotes t v }
+{}

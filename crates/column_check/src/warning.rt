@@ -1,19 +1,18 @@
 //! What is doubtful of a column that is not invalid for it.
 ghost use Rattle.std.specs.Prelude.{◌≡◌, ◌++◌, map, option_map, IfOk, OnOk};
-ghost use Rattle.serde_json.specs.View.{view};
+ghost use Rattle.serde_json.specs.Read.{of_json};
 ghost use Rattle.arrow_values.specs.Texts.{text_of};
 ghost use Rattle.geoarrow_meta.specs.Read.{some_has_float};
 ghost use Rattle.arrow_columns.specs.Column.{column_tree, type_tree};
-ghost use Rattle.column_check.specs.Metadata.{values_of};
-ghost use Rattle.column_check.specs.Warnings.{said, of_column, is_empty_text, is_object_crs, is_odd_crs, lacks_type, crs_warnings, geometry_warnings, nested_warnings, AreWarnings};
+ghost use Rattle.column_check.specs.Warnings.{said, of_column, is_empty_text, crs_warnings, geometry_warnings, nested_warnings, AreWarnings};
 
 use crate::finding::{Finding, Geometry};
 use crate::metadata::ColumnMetadata;
 use crate::walk::{Sought, push_sought};
 use arrow_columns::{Column, ColumnType};
 use geoarrow_meta::holds_whole_numbers;
-use serde_json::Value;
 use std::alloc::{AllocError, Global};
+use value_tokens::JsonText;
 
 /// What a warning says.
 #[derive(Debug, Clone, Copy, PartialEq, Eq)]
@@ -44,7 +43,7 @@ pub struct Warning {
     pub code: WarningCode,
     /// The names of the child fields from the column down to where it is; none where it is of the column itself.
     pub path: Vec<String>,
-    /// How many more of its code there are that are not told one by one; 0 but of a sixteenth.
+    /// How many more of its code there are that are not told one by one; 0 except in the sixteenth.
     pub more: usize,
 }
 
@@ -56,7 +55,7 @@ pub struct Warning {
 /// Errs only when out of memory.
 ///
 /// ```rust
-/// let finding = check_column(alloc, &column, false)?;
+/// let finding = check_column(alloc, &mut scratch, &column, false)?;
 /// for warning in warnings(alloc, &column, &finding, false)?.iter() {
 ///     println!(rt; "{:?}", warning.code)?;
 /// }
@@ -138,29 +137,25 @@ fn push_crs(
     metadata: &ColumnMetadata,
     notes: bool,
 ) -> Result<(), AllocError>
-    ensures { OnOk result (map said warnings.new.items ≡ map said warnings.old.items ++ crs_warnings notes (values_of metadata.now)) }
+    ensures { OnOk result (map said warnings.new.items ≡ map said warnings.old.items ++ crs_warnings notes metadata.now) }
 {
     let Some(crs) = &metadata.crs else {
         return Ok(());
     };
-    let is_noted = notes && !holds_whole_numbers(crs);
-    let lacks_type = !is_object_crs(crs) && metadata.crs_type.is_none();
-    let is_odd = is_odd_crs(crs);
+    let is_noted = notes && has_fraction(alloc, crs)?;
+    let lacks_type = !crs.is_object() && metadata.crs_type.is_none();
+    let is_odd = !crs.is_object() && !crs.is_string();
     push_if(alloc, warnings, WarningCode::CrsNotWhole, is_noted)?;
     push_if(alloc, warnings, WarningCode::CrsWithoutType, lacks_type)?;
     push_if(alloc, warnings, WarningCode::CrsNumber, is_odd)
 }
 
-/// Whether a CRS is an object.
-fn is_object_crs(crs: &Value) -> bool
-    ensures { result ≡ is_object_crs (Some (view crs.now)) }
+/// Whether a CRS has a number that is not whole.
+fn has_fraction(alloc: Global, crs: &JsonText) -> Result<bool, AllocError>
+    ensures { IfOk result (λ answer. answer ≡ some_has_float (of_json crs.now)) }
 {
-    matches!(crs, Value::Object(_))
-}
-
-/// Whether a CRS is neither an object nor a text.
-fn is_odd_crs(crs: &Value) -> bool
-    ensures { result ≡ is_odd_crs (Some (view crs.now)) }
-{
-    !matches!(crs, Value::Object(_) | Value::String(_))
+    match crs.to_value(alloc)? {
+        Some(value) => Ok(!holds_whole_numbers(&value)),
+        None => Ok(false),
+    }
 }

@@ -1,4 +1,2 @@
 mod Adding
-mod NoFeed
-mod OneLine
 mod Places

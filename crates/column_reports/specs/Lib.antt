@@ -1,5 +1,4 @@
-pub mod Appended
-pub mod Parts
+pub mod Objects
 pub mod Reasons
 pub mod Report
 pub mod Warnings

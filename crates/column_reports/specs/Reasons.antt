@@ -1,7 +1,7 @@
 -- The reasons of a column that is invalid, as JSON.
 use Rattle.std.specs.Prelude.{ℕ, ◌==◌, List, [], ◌∷◌, ◌++◌, codes, decimal, map, string_bytes, if◌then◌else◌}
 use Rattle.std.specs.List.{join_by}
-use Rattle.json.specs.Print.{quoted}
+use Rattle.json.specs.Json.{Json, number, string}
 use Rattle.arrow_values.specs.Tree.{Text}
 use Rattle.geoarrow_layout.specs.declared.fault.LayoutFault.{LayoutFault}
 use Rattle.geoarrow_layout.specs.declared.fault.LayoutFault.TheVariants.{UnexpectedType, BadInterleavedName, BadSize, BadFieldNames, BadFieldCount, MixedWidths, BadTypeId, MemberDimension, EmptyUnion, SeveralCoordTypes, SeveralDimensions}
@@ -12,20 +12,20 @@ use Rattle.column_check.specs.declared.metadata.MetadataFault.{MetadataFault}
 use Rattle.column_check.specs.declared.metadata.MetadataFault.TheVariants.{NotJson, NotObject, UnknownCrsType, UnknownEdges, UnknownCrsTypeAndEdges}
 use Rattle.column_check.specs.declared.finding.Reasons.{Reasons}
 use Rattle.column_check.specs.declared.finding.Reasons.TheVariants.{UnknownExtension, DataType, Metadata, DataTypeAndMetadata}
-use Rattle.column_reports.specs.Parts.{array_text, object_text, member_text}
+use Rattle.column_reports.specs.Objects.{array_of, object_of}
 
 -- how many more there are, if there are any
-abbrev pub more_if : ℕ → List Text
-more_if more = if more == 0 then [] else member_text (codes "more") (decimal more) ∷ []
+abbrev pub more_if : ℕ → List (Text × Json)
+more_if more = if more == 0 then [] else (codes "more", number (decimal more)) ∷ []
 
 -- a reason: a code, a message, how many more it stands for, and the names of the child fields from the column down to where it is
-abbrev pub reason_text : Text → Text → ℕ → List Text → Text
-reason_text code message more path =
-    object_text (member_text (codes "code") (quoted code) ∷ member_text (codes "message") (quoted message) ∷ (more_if more ++ member_text (codes "path") (array_text (map quoted path)) ∷ []))
+abbrev pub reason_value : Text → Text → ℕ → List Text → Json
+reason_value code message more path =
+    object_of ((codes "code", string code) ∷ (codes "message", string message) ∷ (more_if more ++ (codes "path", array_of (map string path)) ∷ []))
 
 -- a reason of the column itself
-abbrev pub own_reason : Text → Text → Text
-own_reason code message = reason_text code message 0 []
+abbrev pub own_reason : Text → Text → Json
+own_reason code message = reason_value code message 0 []
 
 -- the code of a layout's fault
 abbrev pub fault_code : LayoutFault → Text
@@ -48,10 +48,10 @@ type_message WrongStorage = codes "well-known binary needs a binary type, and we
 type_message (Layout fault names) = fault_text fault
 
 -- the reason of a type
-abbrev pub type_reason : TypeFault → Text
+abbrev pub type_reason : TypeFault → Json
 type_reason UnsupportedType = own_reason (codes "UnsupportedType") (type_message UnsupportedType)
 type_reason WrongStorage = own_reason (codes "WrongStorage") (type_message WrongStorage)
-type_reason (Layout fault names) = reason_text (fault_code fault) (type_message (Layout fault names)) 0 (map string_bytes names.items)
+type_reason (Layout fault names) = reason_value (fault_code fault) (type_message (Layout fault names)) 0 (map string_bytes names.items)
 
 -- the other messages
 abbrev pub crs_type_message : Text
@@ -70,13 +70,13 @@ abbrev pub extension_message : Text
 extension_message = codes "GeoArrow has no extension type of this name"
 
 -- the reasons of a metadata text
-abbrev pub crs_type_reason : Text
+abbrev pub crs_type_reason : Json
 crs_type_reason = own_reason (codes "UnknownCrsType") crs_type_message
 
-abbrev pub edges_reason : Text
+abbrev pub edges_reason : Json
 edges_reason = own_reason (codes "UnknownEdges") edges_message
 
-abbrev pub metadata_reasons : MetadataFault → List Text
+abbrev pub metadata_reasons : MetadataFault → List Json
 metadata_reasons NotJson = own_reason (codes "MetadataNotJson") not_json_message ∷ []
 metadata_reasons NotObject = own_reason (codes "MetadataNotObject") not_object_message ∷ []
 metadata_reasons UnknownCrsType = crs_type_reason ∷ []
@@ -84,7 +84,7 @@ metadata_reasons UnknownEdges = edges_reason ∷ []
 metadata_reasons UnknownCrsTypeAndEdges = crs_type_reason ∷ edges_reason ∷ []
 
 -- all reasons of a column, that of its type first
-abbrev pub reasons_of : Reasons → List Text
+abbrev pub reasons_of : Reasons → List Json
 reasons_of UnknownExtension = own_reason (codes "UnknownExtension") extension_message ∷ []
 reasons_of (DataType t) = type_reason t ∷ []
 reasons_of (Metadata m) = metadata_reasons m

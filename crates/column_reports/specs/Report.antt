@@ -1,6 +1,6 @@
--- The report of a column: what is said of it, as a line of JSON.
-use Rattle.std.specs.Prelude.{ℕ, List, ◌++◌, codes, decimal, Option, None, Some, is_some, option_map, if◌then◌else◌}
-use Rattle.json.specs.Print.{quoted}
+-- The report of a column: what is said of it, as a JSON value.
+use Rattle.std.specs.Prelude.{ℕ, List, ◌++◌, codes, decimal, Option, None, Some, option_map}
+use Rattle.json.specs.Json.{Json, number, string}
 use Rattle.arrow_values.specs.Tree.{Text}
 use Rattle.arrow_columns.specs.Column.{ColumnTree, name_on}
 use Rattle.arrow_columns.specs.Notation.{type_text}
@@ -14,7 +14,7 @@ use Rattle.column_check.specs.declared.finding.Finding.{Finding as ColumnFinding
 use Rattle.column_check.specs.declared.finding.Finding.TheVariants.{Geometry, Invalid, Extension, Inferred, Plain}
 use Rattle.column_check.specs.States.{geometry_in}
 use Rattle.column_check.specs.declared.warning.Warning.{Warning}
-use Rattle.column_reports.specs.Parts.{array_text, object_text, member_if, on_one_line}
+use Rattle.column_reports.specs.Objects.{array_of, object_of, member_if}
 use Rattle.column_reports.specs.Reasons.{reasons_of}
 use Rattle.column_reports.specs.Warnings.{warnings_in}
 
@@ -39,10 +39,10 @@ abbrev pub type_word : ColumnTree → Option GeometryColumn → Text
 type_word c (Some g) = kind_text g.kind
 type_word c None = type_text c.data_type
 
--- of geometries: the text of their CRS, if they have one; the CRS type; the edges
-abbrev pub crs_of : Option GeometryColumn → Option Text → Option Text
-crs_of (Some g) crs = if is_some g.metadata.crs then crs else None
-crs_of None crs = None
+-- of geometries: their CRS as it is written, if they have one; the CRS type; the edges
+abbrev pub crs_of : Option GeometryColumn → Option Json
+crs_of (Some g) = g.metadata.crs
+crs_of None = None
 
 abbrev pub crs_type_of : Option GeometryColumn → Option Text
 crs_type_of (Some g) = option_map crs_type_text g.metadata.crs_type
@@ -53,37 +53,37 @@ edges_of (Some g) = Some (edges_word g.metadata.edges)
 edges_of None = None
 
 -- of an invalid column: its reasons
-abbrev pub reasons_in : ColumnFinding → Option Text
-reasons_in (Invalid r) = Some (array_text (reasons_of r))
+abbrev pub reasons_in : ColumnFinding → Option Json
+reasons_in (Invalid r) = Some (array_of (reasons_of r))
 reasons_in f = None
 
 -- a member whose value is a string, if there is one
-abbrev pub string_if : Text → Option Text → List Text
-string_if key text = member_if key (option_map quoted text)
+abbrev pub string_if : Text → Option Text → List (Text × Json)
+string_if key text = member_if key (option_map string text)
 
 -- the members, in the order of their keys: the column and its CRS; what geometries are like, and names; the column's place and what is found of it
-abbrev pub names_of : Option Text → ColumnTree → Option GeometryColumn → List Text
+abbrev pub names_of : Option Text → ColumnTree → Option GeometryColumn → List (Text × Json)
 names_of file c g =
     string_if (codes "crs_type") (crs_type_of g)
     ++ string_if (codes "edges") (edges_of g)
     ++ string_if (codes "extension") (name_on c)
     ++ string_if (codes "file") file
 
-abbrev pub found_of : ℕ → ColumnFinding → Text → List Warning → List Text
+abbrev pub found_of : ℕ → ColumnFinding → Text → List Warning → List (Text × Json)
 found_of index f word ws =
-    member_if (codes "index") (Some (decimal index))
+    member_if (codes "index") (Some (number (decimal index)))
     ++ member_if (codes "reasons") (reasons_in f)
     ++ string_if (codes "state") (Some (state_word f))
     ++ string_if (codes "type") (Some word)
     ++ member_if (codes "warnings") (warnings_in ws)
 
-abbrev pub members_of : Option Text → ℕ → ColumnTree → Option Text → ColumnFinding → List Warning → List Text
-members_of file index c crs f ws =
+abbrev pub members_of : Option Text → ℕ → ColumnTree → ColumnFinding → List Warning → List (Text × Json)
+members_of file index c f ws =
     string_if (codes "column") (Some c.name)
-    ++ member_if (codes "crs") (option_map on_one_line (crs_of (geometry_in f) crs))
+    ++ member_if (codes "crs") (crs_of (geometry_in f))
     ++ names_of file c (geometry_in f)
     ++ found_of index f (type_word c (geometry_in f)) ws
 
--- the report: the file, where it is named, the place of the column, the column, the text of its CRS, what is said of it, and its warnings
-abbrev pub line_text : Option Text → ℕ → ColumnTree → Option Text → ColumnFinding → List Warning → Text
-line_text file index c crs f ws = object_text (members_of file index c crs f ws)
+-- the report: the file, where it is named, the place of the column, the column, what is said of it, and its warnings
+abbrev pub report : Option Text → ℕ → ColumnTree → ColumnFinding → List Warning → Json
+report file index c f ws = object_of (members_of file index c f ws)

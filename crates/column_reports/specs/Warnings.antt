@@ -1,11 +1,12 @@
 -- The warnings of a column, as JSON and in words.
 use Rattle.std.specs.Prelude.{ℕ, ◌==◌, List, [], ◌∷◌, ◌++◌, codes, decimal, map, Option, None, Some, string_bytes, if◌then◌else◌}
+use Rattle.json.specs.Json.{Json}
 use Rattle.arrow_values.specs.Tree.{Text}
 use Rattle.column_check.specs.declared.warning.WarningCode.{WarningCode}
 use Rattle.column_check.specs.declared.warning.WarningCode.TheVariants.{MetadataEmpty, CrsNotWhole, CrsWithoutType, CrsNumber, CoordinatesNotDouble, AxisNames, NestedGeometry}
 use Rattle.column_check.specs.declared.warning.Warning.{Warning}
-use Rattle.column_reports.specs.Parts.{array_text}
-use Rattle.column_reports.specs.Reasons.{reason_text, place_words}
+use Rattle.column_reports.specs.Objects.{array_of}
+use Rattle.column_reports.specs.Reasons.{reason_value, place_words}
 
 -- the code of a warning, and its message
 abbrev code_and_message : WarningCode → Text × Text
@@ -24,13 +25,13 @@ abbrev pub warning_message : WarningCode → Text
 warning_message code = (code_and_message code).1
 
 -- a warning, as a reason is written
-abbrev pub warning_text : Warning → Text
-warning_text w = reason_text (code_text w.code) (warning_message w.code) w.more (map string_bytes w.path.items)
+abbrev pub warning_value : Warning → Json
+warning_value w = reason_value (code_text w.code) (warning_message w.code) w.more (map string_bytes w.path.items)
 
 -- of a column with warnings: all of them
-abbrev pub warnings_in : List Warning → Option Text
+abbrev pub warnings_in : List Warning → Option Json
 warnings_in [] = None
-warnings_in (w ∷ ws) = Some (array_text (map warning_text (w ∷ ws)))
+warnings_in (w ∷ ws) = Some (array_of (map warning_value (w ∷ ws)))
 
 -- ---- in words
 

@@ -2,8 +2,6 @@
 //! in words for people.
 #![tactic(auto)]
 
-mod crs;
-pub mod laws;
 mod line;
 mod plain;
 mod put;

@@ -1,29 +1,33 @@
 //! The line of a column.
-ghost use Rattle.std.specs.Prelude.{◌≡◌, IfOk, OnOk, option_map, string_bytes};
+ghost use Rattle.std.specs.Prelude.{◌≡◌, ◌≢◌, All, IfOk, OnOk, codes, option_map, string_bytes};
+ghost use Rattle.json.specs.Print.{print};
+ghost use Rattle.json.specs.Tree.{json_tokens};
 ghost use Rattle.arrow_values.specs.Texts.{text_of};
 ghost use Rattle.arrow_columns.specs.Column.{column_tree};
-ghost use Rattle.column_reports.specs.Report.{names_of, found_of, line_text};
-ghost use Rattle.column_reports.specs.Appended.{AddsParts};
+ghost use Rattle.column_reports.specs.Objects.{member_if, AddsMembers};
+ghost use Rattle.column_reports.specs.Report.{crs_of, names_of, found_of, report};
 
-use crate::crs::put_crs;
 use crate::put::{put_number, put_text, put_text_if};
 use crate::reasons::put_reasons;
 use crate::warnings::put_warnings;
 use crate::words::{crs_of, crs_type_of, edges_of, state_word, type_word};
 use arrow_columns::Column;
 use column_check::{Finding, Geometry, Warning};
-use json::Writer;
+use json::{Scratch, Writer};
 use std::alloc::{AllocError, Global};
+use value_tokens::text_of;
 
 /// The room that a line is given at first, in bytes. Most lines take no more.
 const LINE_ROOM: usize = 512;
 
-/// The report of one column as a line of JSON, without a line feed and without blanks between its parts (`docs/FORMAT.md`, 2.5): what
-/// `finding` and `warnings` say of the column, with the name of the file, where one is given, and the place of the column in its schema, from 0.
+/// Returns the report of one column as a line of JSON, without a line feed and without blanks
+/// between its parts (`docs/FORMAT.md`, 2.5): what `finding` and `warnings` say of the column, with
+/// the name of the file, where one is given, and the place of the column in its schema, from 0.
 ///
-/// The text `crs` is the value of the CRS in the column's extension metadata, as `crs_text` answers it. It is kept byte for byte, but
-/// for a blank in place of each line feed, which can only stand where a blank may. It is left out of a column that is
-/// not found to hold geometries with a CRS. Errs only when out of memory.
+/// The member `crs` is the value of the CRS with its digits, the order of its members and repeated
+/// members as in the metadata, without blanks. It is left out of a column that is not found to hold
+/// geometries with a CRS. The scratch buffer is kept by the caller from column to column. Errs only
+/// when out of memory.
 ///
 /// ```rust
 /// let column = Column {
@@ -32,50 +36,66 @@ const LINE_ROOM: usize = 512;
 ///     data_type: ColumnType::Data(DataType::Int64),
 ///     metadata: BTreeMap::new(alloc),
 /// };
-/// let line = json_line(alloc, None, 3, &column, None, &Finding::Plain, &[])?;
+/// let mut scratch = Scratch::new(alloc);
+/// let line = json_line(alloc, &mut scratch, None, 3, &column, &Finding::Plain, &[])?;
 /// assert_eq!(rt; line.as_str(), r#"{"column":"geom","index":3,"state":"plain","type":"int64"}"#);
 ///
-/// let metadata = ColumnMetadata {
-///     crs: Some(Value::String(String::from_str(alloc, "EPSG:4326")?)),
-///     crs_type: Some(CrsType::AuthorityCode),
-///     edges: None,
-/// };
+/// let text = r#"{"crs": {"id": 1.50, "id": [2]}, "crs_type": "projjson"}"#;
+/// let metadata = read_metadata(alloc, Some(text), &mut scratch)?;
+/// let Ok(metadata) = metadata else { return Ok(()); };
 /// let kind = Kind::Native(NativeKind::Point, CoordType::Separated, Dimension::XY);
 /// let finding = Finding::Geometry(Geometry { kind, metadata });
-/// let line = json_line(alloc, Some("a.arrow"), 0, &column, Some("\"EPSG:4326\""), &finding, &[])?;
-/// assert_eq!(rt; line.as_str(), r#"{"column":"geom","crs":"EPSG:4326","crs_type":"authority_code","edges":"planar","file":"a.arrow","index":0,"state":"geometry","type":"point separated XY"}"#);
+/// let line = json_line(alloc, &mut scratch, Some("a.arrow"), 0, &column, &finding, &[])?;
+/// assert_eq!(rt; line.as_str(), r#"{"column":"geom","crs":{"id":1.50,"id":[2]},"crs_type":"projjson","edges":"planar","file":"a.arrow","index":0,"state":"geometry","type":"point separated XY"}"#);
 ///
 /// let path = vec![in alloc; String::from_str(alloc, "x\ny")?]?;
 /// let fault = TypeFault::Layout(LayoutFault::BadSize, path);
 /// let finding = Finding::Invalid(Reasons::DataType(fault));
-/// let line = json_line(alloc, None, 0, &column, None, &finding, &[])?;
+/// let line = json_line(alloc, &mut scratch, None, 0, &column, &finding, &[])?;
 /// assert_eq!(rt; line.as_str(), r#"{"column":"geom","index":0,"reasons":[{"code":"BadSize","message":"list size differs from the field name","path":["x\ny"]}],"state":"invalid","type":"int64"}"#);
 ///
-/// let warning = Warning { code: WarningCode::NestedGeometry, path: vec![in alloc; String::from_str(alloc, "child")?]?, more: 0 };
-/// let line = json_line(alloc, None, 0, &column, None, &Finding::Extension, &[warning])?;
+/// let path = vec![in alloc; String::from_str(alloc, "child")?]?;
+/// let warning = Warning { code: WarningCode::NestedGeometry, path, more: 0 };
+/// let line = json_line(alloc, &mut scratch, None, 0, &column, &Finding::Extension, &[warning])?;
 /// assert_eq!(rt; line.as_str(), r#"{"column":"geom","index":0,"state":"extension","type":"int64","warnings":[{"code":"NestedGeometry","message":"child field has a GeoArrow extension name","path":["child"]}]}"#);
 /// ```
 pub fn json_line(
     alloc: Global,
+    scratch: &mut Scratch,
     file: Option<&str>,
     index: usize,
     column: &Column,
-    crs: Option<&str>,
     finding: &Finding,
     warnings: &[Warning],
 ) -> Result<String, AllocError>
-    ensures { IfOk result (λ text. string_bytes text ≡ line_text (text_of file.entry) index (column_tree column.now) (text_of crs.entry) finding.now warnings.now) }
+    ensures text { IfOk result (λ text. string_bytes text ≡ print (json_tokens (report (text_of file.entry) index (column_tree column.now) finding.now warnings.now))) }
+    ensures one_line { IfOk result (λ text. All (λ b. b ≢ 10) (string_bytes text)) }
 {
     let geometry = finding.geometry();
     let type_word = type_word(alloc, column, geometry)?;
     let mut out = Writer::new(Vec::with_capacity(alloc, LINE_ROOM)?);
     out.begin_object()?;
     put_text(&mut out, "column", column.name.as_str())?;
-    let mut out = put_crs(out, crs_of(geometry, crs))?;
+    put_crs(&mut out, scratch, geometry)?;
     put_names(&mut out, geometry, column, file)?;
     put_found(&mut out, index, finding, type_word.as_str(), warnings)?;
     out.end_object()?;
-    Ok(unsafe { String::from_utf8_unchecked(out.into_inner()) })
+    Ok(text_of(out))
+}
+
+/// Writes the member of the CRS, if the geometries have one.
+fn put_crs(
+    out: &mut Writer,
+    scratch: &mut Scratch,
+    geometry: Option<&Geometry>,
+) -> Result<(), AllocError>
+    ensures { OnOk result (AddsMembers (member_if (codes "crs") (crs_of (option_map (λ g. g.now) geometry.entry))) out.old out.new) }
+{
+    let Some(crs) = crs_of(geometry) else {
+        return Ok(());
+    };
+    out.key("crs")?;
+    crs.put(scratch, out)
 }
 
 /// Writes what geometries are like, and the names of the extension and the file: those that there are.
@@ -85,7 +105,7 @@ fn put_names(
     column: &Column,
     file: Option<&str>,
 ) -> Result<(), AllocError>
-    ensures { OnOk result (AddsParts (names_of (text_of file.entry) (column_tree column.now) (option_map (λ g. g.now) geometry.entry)) out.old out.new) }
+    ensures { OnOk result (AddsMembers (names_of (text_of file.entry) (column_tree column.now) (option_map (λ g. g.now) geometry.entry)) out.old out.new) }
 {
     put_text_if(out, "crs_type", crs_type_of(geometry))?;
     put_text_if(out, "edges", edges_of(geometry))?;
@@ -101,7 +121,7 @@ fn put_found(
     word: &str,
     warnings: &[Warning],
 ) -> Result<(), AllocError>
-    ensures { OnOk result (AddsParts (found_of index finding.now word.now warnings.now) out.old out.new) }
+    ensures { OnOk result (AddsMembers (found_of index finding.now word.now warnings.now) out.old out.new) }
 {
     put_number(out, "index", index)?;
     put_reasons(out, finding)?;

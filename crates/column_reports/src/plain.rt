@@ -11,8 +11,9 @@ use crate::warnings::code_and_message;
 use column_check::{MetadataFault, Reasons, TypeFault, Warning};
 use std::alloc::{AllocError, Global};
 
-/// All reasons of an invalid column in words, one text for each, in the order in which the report has them (`docs/FORMAT.md`, 2.5):
-/// its message and, where a child field is at fault, ` at ` and the names of the fields on the way, with dots between them. Errs only when out of
+/// Returns all reasons of an invalid column in words, one text for each, in the order in which the
+/// report has them (`docs/FORMAT.md`, 2.5): its message and, where a child field is at fault,
+/// ` at ` and the names of the fields on the way, with dots between them. Errs only when out of
 /// memory.
 ///
 /// ```rust
@@ -35,8 +36,10 @@ pub fn reason_words(alloc: Global, reasons: &Reasons) -> Result<Vec<String>, All
     Ok(words)
 }
 
-/// The warnings of a column in words, one text for each, in their order (`docs/FORMAT.md`, 2.5): its message and, where a child field is meant,
-/// ` at ` and the names of the fields on the way, with dots between them; and, where it stands for more, how many. Errs only when out of memory.
+/// Returns the warnings of a column in words, one text for each, in their order (`docs/FORMAT.md`,
+/// 2.5): its message and, where a child field is meant, ` at ` and the names of the fields on the
+/// way, with dots between them; and, where it stands for more, how many. Errs only when out of
+/// memory.
 ///
 /// ```rust
 /// let path = vec![in alloc; String::from_str(alloc, "rings")?, String::from_str(alloc, "vertices")?]?;

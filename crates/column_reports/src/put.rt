@@ -1,17 +1,16 @@
-//! The parts of a line of JSON, written one after another.
-ghost use Rattle.std.specs.Prelude.{◌≡◌, ◌∷◌, [], OnOk, codes, decimal, map, option_map, string_bytes};
-ghost use Rattle.json.specs.Print.{quoted};
+//! The members of a JSON object, written one after another.
+ghost use Rattle.std.specs.Prelude.{◌≡◌, ◌∷◌, [], OnOk, codes, decimal, map, string_bytes};
+ghost use Rattle.json.specs.Json.{number, string};
 ghost use Rattle.arrow_values.specs.Texts.{text_of};
-ghost use Rattle.column_reports.specs.Parts.{array_text, member_text, member_if};
+ghost use Rattle.column_reports.specs.Objects.{array_of, AddsMembers};
 ghost use Rattle.column_reports.specs.Report.{string_if};
-ghost use Rattle.column_reports.specs.Appended.{AddsParts};
 
 use json::Writer;
 use std::alloc::AllocError;
 
 /// Writes a member whose value is a string.
 pub(crate) fn put_text(out: &mut Writer, key: &str, text: &str) -> Result<(), AllocError>
-    ensures { OnOk result (AddsParts (member_text key.now (quoted text.now) ∷ []) out.old out.new) }
+    ensures { OnOk result (AddsMembers ((key.now, string text.now) ∷ []) out.old out.new) }
 {
     out.key(key)?;
     out.string(text)
@@ -19,7 +18,7 @@ pub(crate) fn put_text(out: &mut Writer, key: &str, text: &str) -> Result<(), Al
 
 /// Writes a member whose value is a string, if there is one.
 pub(crate) fn put_text_if(out: &mut Writer, key: &str, text: Option<&str>) -> Result<(), AllocError>
-    ensures { OnOk result (AddsParts (string_if key.now (text_of text.entry)) out.old out.new) }
+    ensures { OnOk result (AddsMembers (string_if key.now (text_of text.entry)) out.old out.new) }
 {
     match text {
         Some(text) => put_text(out, key, text),
@@ -28,16 +27,16 @@ pub(crate) fn put_text_if(out: &mut Writer, key: &str, text: Option<&str>) -> Re
 }
 
 /// Writes a member whose value is a number.
-pub(crate) fn put_number(out: &mut Writer, key: &str, number: usize) -> Result<(), AllocError>
-    ensures { OnOk result (AddsParts (member_text key.now (decimal number) ∷ []) out.old out.new) }
+pub(crate) fn put_number(out: &mut Writer, key: &str, n: usize) -> Result<(), AllocError>
+    ensures { OnOk result (AddsMembers ((key.now, number (decimal n)) ∷ []) out.old out.new) }
 {
     out.key(key)?;
-    out.u64(number as u64)
+    out.u64(n as u64)
 }
 
 /// Writes a member whose value is an array of strings.
 pub(crate) fn put_texts(out: &mut Writer, key: &str, texts: &[String]) -> Result<(), AllocError>
-    ensures { OnOk result (AddsParts (member_text key.now (array_text (map quoted (map string_bytes texts.now))) ∷ []) out.old out.new) }
+    ensures { OnOk result (AddsMembers ((key.now, array_of (map string (map string_bytes texts.now))) ∷ []) out.old out.new) }
 {
     out.key(key)?;
     out.begin_array()?;

@@ -1,9 +1,8 @@
 //! The reasons of a column that is invalid.
 ghost use Rattle.std.specs.Prelude.{◌≡◌, ◌∷◌, [], OnOk, codes, map, string_bytes};
-ghost use Rattle.column_reports.specs.Parts.{member_if};
-ghost use Rattle.column_reports.specs.Reasons.{more_if, reason_text, own_reason, fault_code, type_message, type_reason, metadata_reasons, reasons_of};
+ghost use Rattle.column_reports.specs.Reasons.{more_if, reason_value, own_reason, fault_code, type_message, type_reason, metadata_reasons, reasons_of};
 ghost use Rattle.column_reports.specs.Report.{reasons_in};
-ghost use Rattle.column_reports.specs.Appended.{AddsParts};
+ghost use Rattle.column_reports.specs.Objects.{member_if, AddsMembers, AddsValues};
 
 use crate::put::{put_number, put_text, put_texts};
 use column_check::{Finding, MetadataFault, Reasons, TypeFault};
@@ -61,7 +60,7 @@ pub(crate) fn put_reason(
     more: usize,
     path: &[String],
 ) -> Result<(), AllocError>
-    ensures { OnOk result (AddsParts (reason_text code.now message.now more (map string_bytes path.now) ∷ []) out.old out.new) }
+    ensures { OnOk result (AddsValues (reason_value code.now message.now more (map string_bytes path.now) ∷ []) out.old out.new) }
 {
     out.begin_object()?;
     put_text(out, "code", code)?;
@@ -73,7 +72,7 @@ pub(crate) fn put_reason(
 
 /// Writes how many more there are, if there are any.
 fn put_more(out: &mut Writer, more: usize) -> Result<(), AllocError>
-    ensures { OnOk result (AddsParts (more_if more) out.old out.new) }
+    ensures { OnOk result (AddsMembers (more_if more) out.old out.new) }
 {
     if more == 0 {
         return Ok(());
@@ -83,14 +82,14 @@ fn put_more(out: &mut Writer, more: usize) -> Result<(), AllocError>
 
 /// Writes a reason of the column itself.
 fn put_own(out: &mut Writer, code: &str, message: &str) -> Result<(), AllocError>
-    ensures { OnOk result (AddsParts (own_reason code.now message.now ∷ []) out.old out.new) }
+    ensures { OnOk result (AddsValues (own_reason code.now message.now ∷ []) out.old out.new) }
 {
     put_reason(out, code, message, 0, &[])
 }
 
 /// Writes the reason of a type.
 fn put_type(out: &mut Writer, fault: &TypeFault) -> Result<(), AllocError>
-    ensures { OnOk result (AddsParts (type_reason fault.now ∷ []) out.old out.new) }
+    ensures { OnOk result (AddsValues (type_reason fault.now ∷ []) out.old out.new) }
 {
     let message = type_message(fault);
     match fault {
@@ -104,7 +103,7 @@ fn put_type(out: &mut Writer, fault: &TypeFault) -> Result<(), AllocError>
 
 /// Writes the reasons of a metadata text.
 fn put_metadata(out: &mut Writer, fault: MetadataFault) -> Result<(), AllocError>
-    ensures { OnOk result (AddsParts (metadata_reasons fault) out.old out.new) }
+    ensures { OnOk result (AddsValues (metadata_reasons fault) out.old out.new) }
 {
     match fault {
         MetadataFault::NotJson => put_own(out, "MetadataNotJson", NOT_JSON_MESSAGE),
@@ -120,7 +119,7 @@ fn put_metadata(out: &mut Writer, fault: MetadataFault) -> Result<(), AllocError
 
 /// Writes all reasons of a column.
 fn put_all(out: &mut Writer, reasons: &Reasons) -> Result<(), AllocError>
-    ensures { OnOk result (AddsParts (reasons_of reasons.now) out.old out.new) }
+    ensures { OnOk result (AddsValues (reasons_of reasons.now) out.old out.new) }
 {
     match reasons {
         Reasons::UnknownExtension => put_own(out, "UnknownExtension", EXTENSION_MESSAGE),
@@ -135,7 +134,7 @@ fn put_all(out: &mut Writer, reasons: &Reasons) -> Result<(), AllocError>
 
 /// Writes the member of the reasons, if the column is invalid.
 pub(crate) fn put_reasons(out: &mut Writer, finding: &Finding) -> Result<(), AllocError>
-    ensures { OnOk result (AddsParts (member_if (codes "reasons") (reasons_in finding.now)) out.old out.new) }
+    ensures { OnOk result (AddsMembers (member_if (codes "reasons") (reasons_in finding.now)) out.old out.new) }
 {
     let Finding::Invalid(reasons) = finding else {
         return Ok(());

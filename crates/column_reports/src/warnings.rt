@@ -1,8 +1,7 @@
 //! The warnings of a column.
 ghost use Rattle.std.specs.Prelude.{◌≡◌, ◌∷◌, [], OnOk, codes};
-ghost use Rattle.column_reports.specs.Parts.{member_if};
-ghost use Rattle.column_reports.specs.Warnings.{code_text, warning_message, warning_text, warnings_in};
-ghost use Rattle.column_reports.specs.Appended.{AddsParts};
+ghost use Rattle.column_reports.specs.Warnings.{code_text, warning_message, warning_value, warnings_in};
+ghost use Rattle.column_reports.specs.Objects.{member_if, AddsMembers, AddsValues};
 
 use crate::reasons::put_reason;
 use column_check::{Warning, WarningCode};
@@ -35,7 +34,7 @@ pub(crate) fn code_and_message(code: WarningCode) -> (&'static str, &'static str
 
 /// Writes the member of the warnings, if there are any.
 pub(crate) fn put_warnings(out: &mut Writer, warnings: &[Warning]) -> Result<(), AllocError>
-    ensures { OnOk result (AddsParts (member_if (codes "warnings") (warnings_in warnings.now)) out.old out.new) }
+    ensures { OnOk result (AddsMembers (member_if (codes "warnings") (warnings_in warnings.now)) out.old out.new) }
 {
     if warnings.is_empty() {
         return Ok(());
@@ -50,7 +49,7 @@ pub(crate) fn put_warnings(out: &mut Writer, warnings: &[Warning]) -> Result<(),
 
 /// Writes a warning.
 fn put_warning(out: &mut Writer, warning: &Warning) -> Result<(), AllocError>
-    ensures { OnOk result (AddsParts (warning_text warning.now ∷ []) out.old out.new) }
+    ensures { OnOk result (AddsValues (warning_value warning.now ∷ []) out.old out.new) }
 {
     let (code, message) = code_and_message(warning.code);
     put_reason(out, code, message, warning.more, warning.path.as_slice())

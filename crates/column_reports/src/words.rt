@@ -9,6 +9,7 @@ use column_check::{Finding, Geometry};
 use geoarrow_layout::{Kind, coord_type_word, dimension_word, kind_word};
 use geoarrow_meta::Edges;
 use std::alloc::{AllocError, Global};
+use value_tokens::JsonText;
 
 /// The word of a state.
 pub(crate) fn state_word(finding: &Finding) -> &'static str
@@ -45,8 +46,9 @@ fn edges_word(edges: Option<Edges>) -> &'static str
     }
 }
 
-/// The type of a column, as the report has it (`docs/FORMAT.md`, 2.5): of geometries, which `Finding::geometry` finds, their kind, coordinate type and
-/// dimension; of any other column its type in Arrow's usual notation. Errs only when out of memory.
+/// Returns the type of a column, as the report has it (`docs/FORMAT.md`, 2.5): of geometries, which
+/// `Finding::geometry` finds, their kind, coordinate type and dimension; of any other column its
+/// type in Arrow's usual notation. Errs only when out of memory.
 pub fn type_word(
     alloc: Global,
     column: &Column,
@@ -60,14 +62,11 @@ pub fn type_word(
     }
 }
 
-/// The text of a CRS, if the geometries have one.
-pub(crate) fn crs_of<'a>(geometry: Option<&Geometry>, crs: Option<&'a str>) -> Option<&'a str>
-    ensures { text_of result ≡ crs_of (option_map (λ g. g.now) geometry.entry) (text_of crs.entry) }
+/// The CRS as it is written, if the geometries have one.
+pub(crate) fn crs_of(geometry: Option<&Geometry>) -> Option<&JsonText>
+    ensures { option_map (λ crs. crs.now) result ≡ crs_of (option_map (λ g. g.now) geometry.entry) }
 {
-    match geometry {
-        Some(geometry) if geometry.metadata.crs.is_some() => crs,
-        _ => None,
-    }
+    geometry?.metadata.crs.as_ref()
 }
 
 /// The word of a CRS type, if the geometries have one.

@@ -1,5 +1,5 @@
 //! Examples of how to use the crates: small callers, each with a contract that a user would want, and an extension type of one's
-//! own; proved only from the public contracts of the crates below.
+//! own; proved only from the public contracts of the crates below. Its tests are those of the repository in code.
 #![tactic(auto)]
 
 mod checker;
@@ -10,6 +10,8 @@ mod joiner;
 mod own_extension_type;
 mod planner;
 mod reader;
+#[cfg(test)]
+mod tests;
 mod writer;
 
 pub use checker::{Survey, survey_columns};

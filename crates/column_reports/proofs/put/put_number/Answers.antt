@@ -1,7 +1,6 @@
-use Rattle.std.proofs.Common.{refl}
 use Rattle.value_tokens.proofs.Adding.{sent}
-use Rattle.column_reports.proofs.Adding.{finished, opens, value, named}
+use Rattle.column_reports.proofs.Adding.{finished, named}
 use Rattle.column_reports.proofs.put.put_number.Goals as goal
 
 pub returns : goal.returns
-returns c = finished c.u64.result (λ e. named c.args.key.now (opens (sent c.in_ok-key.ensures) refl refl) (value e refl refl)) c.u64.ensures
+returns c = finished c.u64.result (λ e. named (sent c.in_ok-key.ensures) e) c.u64.ensures

@@ -1,0 +1,7 @@
+//! Laws that tie what `column_check` says of a column to what `geoarrow_schema` reads its field as,
+//! or infers for it.
+#![tactic(auto)]
+
+mod laws;
+
+pub use laws::{agrees_with_inference, agrees_with_reading};
