@@ -6,11 +6,12 @@ use arrow_ipc::{Endianness, Schema, write_schema};
 use check_options::{Asked, Output};
 use column_check::{Finding, check_column};
 use column_files::{FileFault, Form, MAX_LINE_BYTES, column_line};
-use column_tables::{Row, table_text};
 use file_reports::{column_line_of, report_budget};
 use geoparquet::GeoFinding;
 use json::Scratch;
-use report_words::{Found, checked_lines, checked_text, has_failed, row_of, shown};
+use report_words::{
+    Found, Row, checked_lines, checked_text, has_failed, row_of, shown, table_text,
+};
 use std::alloc::{AllocError, Global};
 use std::collections::BTreeMap;
 use std::io::Write;

@@ -1,2 +1,4 @@
 pub mod Marks
 pub mod Parts
+pub mod Blanks
+pub mod Rows

@@ -11,7 +11,7 @@ use Rattle.column_check.specs.Warnings.{AreWarnings}
 use Rattle.column_reports.specs.Reasons.{words_of}
 use Rattle.column_reports.specs.Report.{type_word, edges_of}
 use Rattle.column_reports.specs.Warnings.{warning_words}
-use Rattle.column_tables.specs.Table.{Line, cut}
+use Rattle.report_words.specs.Table.{Line, cut}
 use Rattle.report_words.specs.Crs.{crs_of_geometry}
 use Rattle.report_words.specs.Shown.{shown}
 

@@ -7,7 +7,7 @@ use Rattle.arrow_values.specs.Tree.{Text}
 use Rattle.column_check.specs.declared.finding.Geometry.{Geometry as GeometryColumn}
 use Rattle.geoparquet.specs.Values.{at, text_of_value}
 use Rattle.geoparquet.specs.Identifiers.{code_text}
-use Rattle.column_tables.specs.Table.{cut}
+use Rattle.report_words.specs.Table.{cut}
 use Rattle.report_words.specs.Shown.{shown, blanked}
 
 -- a member of the id of a PROJJSON

@@ -4,3 +4,4 @@ pub mod Crs
 pub mod Problems
 pub mod Shown
 pub mod Wants
+pub mod Table

@@ -5,17 +5,18 @@ ghost use Rattle.arrow_columns.specs.Column.{column_tree};
 ghost use Rattle.column_check.specs.States.{geometry_in};
 ghost use Rattle.column_reports.specs.Report.{edges_of};
 ghost use Rattle.column_reports.specs.Warnings.{warning_words};
-ghost use Rattle.column_tables.specs.Table.{line_of, cut};
+ghost use Rattle.report_words.specs.Table.{line_of, cut};
 ghost use Rattle.report_words.specs.Columns.{extension_word, held, reasons_in, IsRowOf};
 ghost use Rattle.report_words.specs.Crs.{crs_of_geometry};
 ghost use Rattle.report_words.specs.Shown.{shown};
 
+use crate::cell::cut;
 use crate::crs::crs_name;
+use crate::table::Row;
 use crate::text::shown;
 use arrow_columns::Column;
 use column_check::{Finding, Geometry, Warning, warnings};
 use column_reports::{reason_words, type_word, warning_words};
-use column_tables::{Row, cut};
 use std::alloc::{AllocError, Global};
 
 /// Returns the row of a column, of which that is said: its name; the kind, coordinate type and

@@ -7,8 +7,8 @@ ghost use Rattle.geoparquet.specs.Identifiers.{code_text};
 ghost use Rattle.geoparquet.specs.Values.{at, text_of_value};
 ghost use Rattle.report_words.specs.Crs.{in_id, code_shown, identifier_shown, name_shown, value_shown, crs_shown, crs_name};
 
+use crate::cell::cut;
 use crate::text::{blanked, shown};
-use column_tables::cut;
 use geoparquet::text_in;
 use serde_json::Value;
 use std::alloc::{AllocError, Global};

@@ -1,8 +1,7 @@
 //! The text of a table.
 ghost use Rattle.std.specs.Prelude.{◌≡◌, ◌++◌, ◌∷◌, max, IfOk, OnOk, flat_map, map, replicate, string_bytes};
-ghost use Rattle.column_tables.specs.Table.{line_of, head, width, rooms_of, padded, trimmed, note_text, cells_text, line_text, table_text};
+ghost use Rattle.report_words.specs.Table.{line_of, head, width, rooms_of, padded, trimmed, note_text, cells_text, line_text, table_text};
 
-use crate::Row;
 use crate::cell::width;
 use std::alloc::{AllocError, Global};
 
@@ -11,6 +10,22 @@ const LINE_BYTES: usize = 120;
 
 /// As many blanks as a cell has characters at most.
 const BLANKS: &str = "                                        ";
+
+/// What a table says of a column: the cells of its line, each a text that [`cut`](crate::cut) gives,
+/// and the notes below it.
+#[derive(Debug, Drop)]
+pub struct Row {
+    /// The name of the column.
+    pub name: String,
+    /// What the column holds.
+    pub holds: String,
+    /// The coordinate reference system of geometries, or nothing.
+    pub crs: String,
+    /// How the edges of geometries run, or nothing.
+    pub edges: String,
+    /// What else is said of the column, each in a line of its own.
+    pub notes: Vec<String>,
+}
 
 /// How many characters the widest cell of each column has, but for the last column.
 #[derive(Clone, Copy)]

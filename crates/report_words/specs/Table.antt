@@ -2,8 +2,8 @@
 use Rattle.std.specs.Prelude.{ℕ, ◌-◌, max, List, [], ◌∷◌, ◌++◌, length, replicate, take, nat_lt, codes, map, flat_map, string_bytes, if◌then◌else◌}
 use Rattle.std.specs.Str.{chars, encode_utf8_all, trim_end}
 use Rattle.arrow_values.specs.Tree.{Text}
-use Rattle.column_tables.specs.declared.Row.{Row}
-use Rattle.column_tables.specs.declared.table.Rooms.{Rooms}
+use Rattle.report_words.specs.declared.table.Row.{Row}
+use Rattle.report_words.specs.declared.table.Rooms.{Rooms}
 
 -- the cells of a line, and the notes below it
 pub record Line : Type 0 where

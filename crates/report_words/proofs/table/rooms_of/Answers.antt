@@ -1,8 +1,8 @@
 use Rattle.std.proofs.Common.{◌∷◌, List, max, map, take, sym, ap, ◌∙◌}
-use Rattle.column_tables.specs.Table.{Line, line_of, width, rooms_of}
-use Rattle.column_tables.specs.declared.table.Rooms.{Rooms}
-use Rattle.column_tables.proofs.Rows.{map_more, rooms_more}
-use Rattle.column_tables.proofs.table.rooms_of.Goals as goal
+use Rattle.report_words.specs.Table.{Line, line_of, width, rooms_of}
+use Rattle.report_words.specs.declared.table.Rooms.{Rooms}
+use Rattle.report_words.proofs.Rows.{map_more, rooms_more}
+use Rattle.report_words.proofs.table.rooms_of.Goals as goal
 
 pub loop-row-preserved : goal.loop-row-preserved
 loop-row-preserved c =

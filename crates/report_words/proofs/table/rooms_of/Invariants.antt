@@ -1,6 +1,6 @@
 use Rattle.std.proofs.Common.{◌≡◌, ◌∷◌, map, take}
-use Rattle.column_tables.specs.Table.{line_of, rooms_of}
-use Rattle.column_tables.proofs.table.rooms_of.Given as goal
+use Rattle.report_words.specs.Table.{line_of, rooms_of}
+use Rattle.report_words.proofs.table.rooms_of.Given as goal
 
 abbrev pub invariant-loop-row : goal.invariant-loop-row
 invariant-loop-row l = l.rooms ≡ rooms_of (line_of l.head ∷ map line_of (take l.row-index l.rows))

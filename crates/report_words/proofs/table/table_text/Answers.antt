@@ -1,8 +1,8 @@
 use Rattle.std.proofs.Common.{◌≡◌, ◌∷◌, ◌++◌, map, flat_map, take, sym, ap, ◌∙◌, arith}
 use Rattle.std.proofs.lemmas.List.{take_all, flat_map_more}
-use Rattle.column_tables.specs.Table.{line_of, line_text, head, rooms_of}
-use Rattle.column_tables.proofs.Rows.{map_more}
-use Rattle.column_tables.proofs.table.table_text.Goals as goal
+use Rattle.report_words.specs.Table.{line_of, line_text, head, rooms_of}
+use Rattle.report_words.proofs.Rows.{map_more}
+use Rattle.report_words.proofs.table.table_text.Goals as goal
 
 pub loop-row-preserved : goal.loop-row-preserved
 loop-row-preserved c =

@@ -2,8 +2,8 @@
 use Rattle.std.proofs.Common.{◌≡◌, ℕ, ◌+◌, ◌<◌, max, List, [], ◌∷◌, ◌++◌, length, get_or, take, map, sym, ap, ◌∙◌, arith}
 use Rattle.std.proofs.lemmas.List.{take_more, map-append}
 use Rattle.arrow_values.specs.Tree.{Text}
-use Rattle.column_tables.specs.Table.{Line, width, widest, rooms_of}
-use Rattle.column_tables.specs.declared.table.Rooms.{Rooms}
+use Rattle.report_words.specs.Table.{Line, width, widest, rooms_of}
+use Rattle.report_words.specs.declared.table.Rooms.{Rooms}
 
 module _ {A B : Type 0} (view : A → B) (xs : List A) (i : ℕ) (x : A) (lt : i < length xs) (is : x ≡ get_or xs i x) where
   pub map_more : map view (take (i + 1) xs) ≡ map view (take i xs) ++ view x ∷ []

@@ -1,6 +1,6 @@
 use Rattle.std.proofs.Common.{◌*◌, ◌%◌, replicate, take, string_bytes, refl, ap, ◌∙◌, arith}
-use Rattle.column_tables.proofs.Blanks.{behind, ends, is_cut}
-use Rattle.column_tables.proofs.table.push_blanks.Goals as goal
+use Rattle.report_words.proofs.Blanks.{behind, ends, is_cut}
+use Rattle.report_words.proofs.table.push_blanks.Goals as goal
 
 pub loop-preserved : goal.loop-preserved
 loop-preserved c =

@@ -1,7 +1,7 @@
 //! The cells of a table.
 ghost use Rattle.std.specs.Prelude.{◌≡◌, ◌++◌, IfOk, codes, string_bytes, take};
 ghost use Rattle.std.specs.Str.{chars, encode_utf8_all};
-ghost use Rattle.column_tables.specs.Table.{width, cut};
+ghost use Rattle.report_words.specs.Table.{width, cut};
 
 use std::alloc::{AllocError, Global};
 
@@ -24,7 +24,7 @@ pub(crate) fn width(text: &str) -> usize
 ///
 /// ```rust
 /// let type_words = "struct<x: float64 not null, y: float64 not null>";
-/// let cell = column_tables::cut(alloc, type_words)?;
+/// let cell = crate::cut(alloc, type_words)?;
 /// assert_eq!(rt; cell.as_str(), "struct<x: float64 not null, y: float64..");
 /// ```
 pub fn cut(alloc: Global, text: &str) -> Result<String, AllocError>
