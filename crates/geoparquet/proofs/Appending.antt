@@ -3,8 +3,7 @@ use Rattle.std.proofs.Common.{◌≡◌, ℕ, ◌+◌, ◌<◌, ◌≤◌, List,
 use Rattle.std.proofs.lemmas.List.{at_drop_more, drop_all, append-nil, map-append}
 use Rattle.std.specs.Prelude.{String}
 use Rattle.std.specs.declared.alloc.Global.{Global}
-use Rattle.json.specs.Token.{Token, string}
-use Rattle.json.specs.Print.{print}
+use Rattle.json.specs.Token.{string}
 use Rattle.json.specs.Written.{Written}
 use Rattle.value_tokens.specs.Adds.{Adds}
 use Rattle.value_tokens.proofs.Adding.{then}

@@ -3,6 +3,6 @@ pub mod Floats
 pub mod Sizes
 pub mod Naming
 pub mod Soundness
+pub mod Members
 pub mod Marking
 mod Appending
-mod OneLine

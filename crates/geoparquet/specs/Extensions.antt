@@ -1,20 +1,20 @@
 -- The extension metadata that GeoParquet metadata give a column (GeoParquet 1.1, "Column metadata").
-use Rattle.std.specs.Prelude.{◌≡◌, [], ◌∷◌, codes, bytes_eq, List, Option, None, Some, String, if◌then◌else◌}
-use Rattle.std.specs.Borrow.{Bor}
-use Rattle.std.specs.BTreeMap.{BTreeMap}
-use Rattle.std.specs.declared.alloc.Global.{Global}
+use Rattle.std.specs.Prelude.{◌≡◌, [], ◌∷◌, codes, bytes_eq, List, Option, None, Some, option_and_then, if◌then◌else◌}
 use Rattle.json.specs.Token.{Token, string, null}
+use Rattle.json.specs.Json.{Json}
+use Rattle.json.specs.Find as find
 use Rattle.json.specs.Lex.{tokens}
 use Rattle.json.specs.Print.{print}
+use Rattle.json.specs.Tree.{json_tokens}
 use Rattle.serde_json.specs.Data.{Data}
 use Rattle.serde_json.specs.Find.{get}
+use Rattle.serde_json.specs.Read.{of_json, read}
 use Rattle.arrow_values.specs.Tree.{Text}
-use Rattle.crs_text.specs.MemberText.{IsMemberText, text_in}
+use Rattle.value_tokens.specs.Values.{IsReadable, is_object}
 use Rattle.geoarrow_meta.specs.declared.edges.Edges.{Edges}
 use Rattle.geoarrow_meta.specs.declared.edges.Edges.TheVariants.{Spherical}
 use Rattle.geoarrow_meta.specs.declared.crs.crs_type.CrsType.{CrsType}
 use Rattle.geoarrow_meta.specs.declared.crs.crs_type.CrsType.TheVariants.{Projjson, AuthorityCode}
-use Rattle.metadata_text.specs.Crs.{is_projjson}
 use Rattle.metadata_text.specs.Written.{metadata_tokens}
 use Rattle.geoparquet.specs.Checks.{value_of}
 use Rattle.geoparquet.specs.Identifiers.{default_identifier}
@@ -24,20 +24,30 @@ use Rattle.geoparquet.specs.Values.{at, text_of_value}
 abbrev pub member_named : Text → Text → Option Data
 member_named geo name = at name (get (codes "columns") (value_of geo))
 
--- the text of the value at `crs` of that member, as it is written in the metadata, if it has one
-abbrev pub IsCrsWritten : Text → Text → Option Text → Type 0
-IsCrsWritten geo name crs =
-    (columns : Text) × (member : Text) × IsMemberText (codes "columns") geo (Some columns) × IsMemberText name columns (Some member) × IsMemberText (codes "crs") member crs
+-- the text is that JSON value, each number as it is written and the members in their order, and `serde_json` reads it as that value
+pub record IsJson (s : Text) (j : Json) : Type 0 where
+  pub value : Data
+  pub spelled : tokens s ≡ json_tokens j
+  pub reads : read s ≡ Some value
+  pub converts : of_json j ≡ Some value
+
+-- the last member with that name of the last member `columns`
+abbrev pub named_in : Json → Text → Option Json
+named_in j name = option_and_then (find.get name) (find.get (codes "columns") j)
+
+-- the CRS of the column with that name, as it is written in the metadata, if there is one: the last member `crs` of its member of `columns`
+abbrev pub IsCrsWritten : Text → Text → Option Json → Type 0
+IsCrsWritten geo name crs = (j : Json) × IsJson geo j × (crs ≡ option_and_then (find.get (codes "crs")) (named_in j name))
 
 -- a CRS by the tokens that it is written with, and its type
 pub record TypedCrs : Type 0 where
   pub tokens : List Token
   pub crs_type : Option CrsType
 
--- the CRS: where `crs` is absent, the format's default; of an object that object, its tokens as they are written; of any other value none
-abbrev pub crs_of : Option Text → TypedCrs
+-- the CRS: where `crs` is absent, the format's default; of an object that object as it is written; of any other value none
+abbrev pub crs_of : Option Json → TypedCrs
 crs_of None = record { tokens = string default_identifier ∷ []; crs_type = Some AuthorityCode }
-crs_of (Some written) = if is_projjson written then (record { tokens = tokens written; crs_type = Some Projjson }) else (record { tokens = null ∷ []; crs_type = None })
+crs_of (Some j) = if is_object j then (record { tokens = json_tokens j; crs_type = Some Projjson }) else (record { tokens = null ∷ []; crs_type = None })
 
 -- the edges
 abbrev pub edges_of : Option Text → Option Edges
@@ -50,19 +60,19 @@ text_with crs edges = print (metadata_tokens crs.tokens crs.crs_type edges)
 
 -- the text is that of the extension metadata which the column with that name has by its member
 abbrev pub IsExtensionText : Text → Text → Text → Type 0
-IsExtensionText geo name text = (crs : Option Text) × IsCrsWritten geo name crs × (text ≡ text_with (crs_of crs) (edges_of (text_of_value (at (codes "edges") (member_named geo name)))))
+IsExtensionText geo name text =
+    (crs : Option Json) × IsCrsWritten geo name crs × (text ≡ text_with (crs_of crs) (edges_of (text_of_value (at (codes "edges") (member_named geo name)))))
 
 -- ---- for private contracts
 
--- the text of the member of `columns` with that name, as it is written in the metadata, if there is one
-abbrev pub IsColumnText : Text → Text → Option Text → Type 0
-IsColumnText geo name None = member_named geo name ≡ None
-IsColumnText geo name (Some member) = (columns : Text) × IsMemberText (codes "columns") geo (Some columns) × IsMemberText name columns (Some member)
+-- a value that was read from a text
+abbrev pub IsRead : Json → Type 0
+IsRead j = IsReadable j × ((d : Data) × (of_json j ≡ Some d))
 
--- these are the texts of all members of `columns`
-abbrev pub AreColumnTexts : Text → BTreeMap (String Global) (Bor Text) → Type 0
-AreColumnTexts geo texts = (name : Text) → IsColumnText geo name (text_in texts name)
+-- the text of the last member with that key, if it is one
+abbrev pub text_at : Text → Json → Option Text
+text_at key j = option_and_then find.as_str (find.get key j)
 
--- the text is that of the extension metadata by a member, as a text and as a value
-abbrev pub IsTextOfMember : Text → Option Data → Text → Type 0
-IsTextOfMember written member text = (crs : Option Text) × IsMemberText (codes "crs") written crs × (text ≡ text_with (crs_of crs) (edges_of (text_of_value (at (codes "edges") member))))
+-- the text of the extension metadata by a member of `columns`
+abbrev pub member_text : Json → Text
+member_text j = text_with (crs_of (find.get (codes "crs") j)) (edges_of (text_at (codes "edges") j))

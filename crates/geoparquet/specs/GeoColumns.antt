@@ -1,7 +1,14 @@
 -- The columns of a file with GeoParquet metadata (docs/FORMAT.md, 5.2).
-use Rattle.std.specs.Prelude.{◌≡◌, ◌⊎◌, ⊤, List, [], ◌∷◌, ◌++◌, codes, Option, None, Some}
+use Rattle.std.specs.Prelude.{◌≡◌, ◌⊎◌, ⊤, List, [], ◌∷◌, ◌++◌, codes, Option, None, Some, is_some, option_map, if◌then◌else◌}
+use Rattle.std.specs.Borrow.{Bor}
+use Rattle.std.specs.BTreeMap.{BTreeMap, get_by}
+use Rattle.std.specs.Cmp.Lexicographic.{slice_cmp}
+use Rattle.std.specs.Ordering.{nat_cmp}
+use Rattle.std.specs.declared.alloc.Global.{Global}
+use Rattle.json.specs.Json.{Json}
+use Rattle.json.specs.Value.{value_view}
+use Rattle.json.specs.declared.value.Value.{Value}
 use Rattle.serde_json.specs.Data.{Data}
-use Rattle.serde_json.specs.Find.{get}
 use Rattle.arrow_values.specs.Tree.{Text}
 use Rattle.arrow_values.specs.Texts.{set_extension}
 use Rattle.arrow_columns.specs.Column.{ColumnTree, name_on}
@@ -10,7 +17,7 @@ use Rattle.geoarrow_layout.specs.declared.names.ExtensionName.{ExtensionName}
 use Rattle.geoparquet.specs.Encodings.{IsEncodedAs}
 use Rattle.arrow_columns.specs.Names.{first_of}
 use Rattle.geoparquet.specs.Values.{at, text_of_value}
-use Rattle.geoparquet.specs.Extensions.{member_named, IsExtensionText, IsColumnText, IsTextOfMember}
+use Rattle.geoparquet.specs.Extensions.{member_named, named_in, text_at, member_text, IsExtensionText}
 
 -- the column, of which the metadata have that member, takes that extension name by its encoding: it has none, no column before it has its name, and the rule
 -- `GeoEncoding` holds of the member and it
@@ -41,19 +48,22 @@ AreGeoColumns geo cs ds = AreGeoColumnsFrom geo [] cs ds
 
 -- ---- for private contracts
 
--- the extension name that a column takes by its member, if it takes one, where it is the first of its name
-abbrev pub IsNameFor : Option Data → ColumnTree → Option ExtensionName → Type 0
-IsNameFor member c None = (n : ExtensionName) → (name_on c ≡ None) → ¬ IsEncodedAs (text_of_value (at (codes "encoding") member)) n c
-IsNameFor member c (Some n) = (name_on c ≡ None) × IsEncodedAs (text_of_value (at (codes "encoding") member)) n c
+-- the extension name that a column takes by that encoding, if it takes one, where it is the first of its name
+abbrev pub IsNameFor : Option Text → ColumnTree → Option ExtensionName → Type 0
+IsNameFor encoding c None = (n : ExtensionName) → (name_on c ≡ None) → ¬ IsEncodedAs encoding n c
+IsNameFor encoding c (Some n) = (name_on c ≡ None) × IsEncodedAs encoding n c
 
--- what becomes of a column by that text of its member, where the metadata are that value: without a text it is as it was
-abbrev pub IsGeoColumnOf : Data → Option Text → ColumnTree → ColumnTree → Type 0
-IsGeoColumnOf value None c d = d ≡ c
-IsGeoColumnOf value (Some written) c d =
-    ((n : ExtensionName) × (text : Text) × IsNameFor (at c.name (get (codes "columns") value)) c (Some n) × IsTextOfMember written (at c.name (get (codes "columns") value)) text × (d ≡ extended n text c))
-    ⊎ (IsNameFor (at c.name (get (codes "columns") value)) c None × (d ≡ c))
+-- what becomes of a column by the member of `columns` that is left for it, if one is
+abbrev pub IsGeoColumnOf : Option Json → ColumnTree → ColumnTree → Type 0
+IsGeoColumnOf None c d = d ≡ c
+IsGeoColumnOf (Some j) c d =
+    ((n : ExtensionName) × IsNameFor (text_at (codes "encoding") j) c (Some n) × (d ≡ extended n (member_text j) c))
+    ⊎ (IsNameFor (text_at (codes "encoding") j) c None × (d ≡ c))
 
--- the text that is left for the columns of a name behind those: that of their member before the first column of the name, and none behind it or where there is no member
-abbrev pub IsTextLeft : Text → List ColumnTree → Text → Option Text → Type 0
-IsTextLeft geo before name None = (first_of before name ≡ None) → member_named geo name ≡ None
-IsTextLeft geo before name (Some written) = (first_of before name ≡ None) × IsColumnText geo name (Some written)
+-- the value that a map has at a name
+abbrev pub value_in : BTreeMap (Bor Text) (Bor (Value Global)) → Text → Option Json
+value_in members name = option_map (λ v. value_view v.now) (get_by (λ k. slice_cmp nat_cmp name k.now) members)
+
+-- the member of `columns` that is left for the columns of a name behind those: none behind the first column of the name
+abbrev pub left_for : Json → List ColumnTree → Text → Option Json
+left_for j before name = if is_some (first_of before name) then None else named_in j name

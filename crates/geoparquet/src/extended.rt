@@ -1,27 +1,34 @@
 //! The columns of a file with GeoParquet metadata.
-ghost use Rattle.std.specs.Prelude.{IfOk, map, option_map};
-ghost use Rattle.serde_json.specs.View.{view};
+ghost use Rattle.std.specs.Prelude.{◌≡◌, IfOk, IfSome, codes, map, option_and_then, option_map};
+ghost use Rattle.json.specs.Find.{get, get_member};
+ghost use Rattle.json.specs.Value.{members_view, value_view};
 ghost use Rattle.arrow_columns.specs.Column.{column_tree};
-ghost use Rattle.arrow_values.specs.Texts.{text_of};
-ghost use Rattle.geoparquet.specs.GeoColumns.{AreGeoColumns, IsGeoColumnOf, IsNameFor};
+ghost use Rattle.arrow_values.specs.Tree.{Text};
+ghost use Rattle.geoparquet.specs.Extensions.{IsRead, text_at};
+ghost use Rattle.geoparquet.specs.GeoColumns.{AreGeoColumns, IsGeoColumnOf, IsNameFor, value_in};
+ghost use Rattle.value_tokens.specs.Values.{IsReadable};
 
 use crate::encoding::encoded_as;
-use crate::extension::{column_texts, extension_text, text_at};
-use crate::values::{member_of_column, value_of};
+use crate::extension::{extension_text, text_at};
 use arrow_columns::Column;
 use geoarrow_layout::ExtensionName;
-use json::Scratch;
+use json::{Scratch, Value};
 use metadata_text::with_extension;
-use serde_json::Value;
 use std::alloc::{AllocError, Global};
+use std::collections::BTreeMap;
+use value_tokens::{Refusal, member_of, read_json};
 
-/// The columns of a Parquet file whose metadata at the key `geo` are that text (GeoParquet 1.1, "Column metadata"; docs/FORMAT.md, 5.2). A column that has no
-/// extension name, that is the first of its name, and of whose member of `columns` the rule `Encoding` of `GeoCheck` holds, has the extension name of GeoArrow
-/// of its encoding, and as its extension metadata the CRS and the edges of that member: a CRS that is absent is `OGC:CRS84`, and the tokens of
-/// PROJJSON are those that the text has, so each number stays as it is written. All else, every other column and the order are as they were. A text
-/// that is no JSON object changes nothing. Errs only when out of memory.
+/// Returns the columns of a Parquet file whose metadata at the key `geo` are that text (GeoParquet
+/// 1.1, "Column metadata"; docs/FORMAT.md, 5.2). A column that has no extension name, that is the
+/// first of its name, and of whose member of `columns` the rule `Encoding` of `GeoCheck` holds, has
+/// the extension name of GeoArrow of its encoding, and as its extension metadata the CRS and the
+/// edges of that member: a CRS that is absent is `OGC:CRS84`, and PROJJSON keeps its tokens, so each
+/// number stays as it is written, and each key in its place. All else, every other column and the
+/// order are as they were. A text that is no JSON object changes nothing. Errs only when out of
+/// memory.
 ///
-/// Takes time that grows with the length of the text and the number of columns, times the logarithm of the number of members of `columns`.
+/// Takes time that grows with the length of the text and the number of columns, times the logarithm
+/// of the number of members of `columns`.
 ///
 /// ```rust
 /// let column = Column {
@@ -43,42 +50,78 @@ pub fn geo_columns(
 ) -> Result<Vec<Column>, AllocError>
     ensures { IfOk result (λ made. AreGeoColumns geo.now (map column_tree columns.items) (map column_tree made.items)) }
 {
-    let value = value_of(alloc, geo)?;
     let mut scratch = Scratch::new(alloc);
-    let mut members = column_texts(alloc, geo, &mut scratch)?;
+    let value = match read_json(alloc, geo, &mut scratch) {
+        Ok(value) => value,
+        Err(Refusal::Text) => return Ok(columns),
+        Err(Refusal::Memory) => return Err(AllocError),
+    };
+    let mut members = members_of(alloc, member_of(&value, "columns"))?;
     let mut made = Vec::new(alloc);
     for column in columns {
-        let written = members.remove(column.name.as_str());
-        made.push(geo_column(alloc, &mut scratch, &value, written, column)?)?;
+        let member = members.remove(column.name.as_str());
+        made.push(geo_column(alloc, member, column)?)?;
     }
     Ok(made)
 }
 
-/// What becomes of a column, by the text of its member of `columns` as it is written, which only the first column of its name has. Errs
-/// only when out of memory.
+/// The members of a value by their names, the last of each name; none of a value that is no object.
+/// Errs only when out of memory.
+fn members_of<'v, 'a>(
+    alloc: Global,
+    value: Option<&'v Value<'a>>,
+) -> Result<BTreeMap<&'v str, &'v Value<'a>>, AllocError>
+    ensures { IfOk result (λ members. (name : Text) → value_in members name
+        ≡ option_and_then (get name) (option_map (λ v. value_view v.now) value.entry)) }
+{
+    let Some(value) = value else {
+        return Ok(BTreeMap::new(alloc));
+    };
+    match value {
+        Value::Object(members) => by_name(alloc, members.as_slice()),
+        _ => Ok(BTreeMap::new(alloc)),
+    }
+}
+
+/// The values of members by their names, the last of each name. Errs only when out of memory.
+fn by_name<'v, 'a>(
+    alloc: Global,
+    members: &'v [(&'a str, Value<'a>)],
+) -> Result<BTreeMap<&'v str, &'v Value<'a>>, AllocError>
+    ensures { IfOk result (λ values. (name : Text) → value_in values name
+        ≡ get_member name (members_view members.now)) }
+{
+    let mut values = BTreeMap::new(alloc);
+    for member in members {
+        let _ = values.insert(member.0, &member.1)?;
+    }
+    Ok(values)
+}
+
+/// What becomes of a column by the member of `columns` that is left for it, which only the first
+/// column of its name has. Errs only when out of memory.
 fn geo_column(
     alloc: Global,
-    scratch: &mut Scratch,
-    value: &Value,
-    written: Option<&str>,
+    member: Option<&Value<'_>>,
     column: Column,
 ) -> Result<Column, AllocError>
-    ensures { IfOk result (λ new. IsGeoColumnOf (view value.now) (text_of written.entry) (column_tree column) (column_tree new)) }
+    requires { IfSome member (λ v. IsRead (value_view v.now)) }
+    ensures { IfOk result (λ new. IsGeoColumnOf (option_map (λ v. value_view v.now) member.entry) (column_tree column) (column_tree new)) }
 {
-    let Some(written) = written else {
+    let Some(member) = member else {
         return Ok(column);
     };
-    let member = member_of_column(value, column.name.as_str());
     let Some(name) = name_for(member, &column) else {
         return Ok(column);
     };
-    let text = extension_text(alloc, scratch, written, member)?;
+    let text = extension_text(alloc, member)?;
     with_extension(alloc, column, name.as_text(), text)
 }
 
 /// The extension name that a column, the first of its name, takes by its member of `columns`.
-fn name_for(member: Option<&Value>, column: &Column) -> Option<ExtensionName>
-    ensures { IsNameFor (option_map (λ v. view v.now) member.entry) (column_tree column.now) result }
+fn name_for(member: &Value<'_>, column: &Column) -> Option<ExtensionName>
+    requires { IsReadable (value_view member.now) }
+    ensures { IsNameFor (text_at (codes "encoding") (value_view member.now)) (column_tree column.now) result }
 {
     let name = encoded_as(text_at(member, "encoding"), column)?;
     match column.extension_type_name() {

@@ -10,9 +10,10 @@ use json::Writer;
 use std::alloc::{AllocError, Global};
 use value_tokens::text_of;
 
-/// The line of a finding: a JSON object with the keys `check`, `column`, `file`, `message`, `ok` and `path`, in this order and without blanks
-/// (`docs/FORMAT.md`, 5.1), and without a line feed. `column` is left out of a finding on all the metadata, and `file` where none is named.
-/// Errs only when out of memory.
+/// Returns the line of a finding: a JSON object with the keys `check`, `column`, `file`, `message`,
+/// `ok` and `path`, in this order and without blanks (`docs/FORMAT.md`, 5.1), and without a line
+/// feed. `column` is left out of a finding on all the metadata, and `file` where none is named. Errs
+/// only when out of memory.
 ///
 /// ```rust
 /// let finding = GeoFinding { check: GeoCheck::Version, column: None, ok: true };
@@ -33,7 +34,7 @@ pub fn check_line(
     Ok(text_of(out))
 }
 
-// Writes the object of a finding with that path.
+/// Writes the object of a finding with that path.
 fn put_finding(
     out: &mut Writer,
     file: Option<&str>,
@@ -52,7 +53,7 @@ fn put_finding(
     out.end_object()
 }
 
-// The column that a finding is on.
+/// The column that a finding is on.
 fn column_of(finding: &GeoFinding) -> Option<&str>
     ensures { text_of result ≡ option_map string_bytes finding.now.column }
 {
@@ -73,7 +74,7 @@ pub(crate) fn put_text(out: &mut Writer, name: &str, text: Option<&str>) -> Resu
     Ok(())
 }
 
-// Writes whether the check holds.
+/// Writes whether the check holds.
 fn put_ok(out: &mut Writer, ok: bool) -> Result<(), AllocError>
     ensures { OnOk result (Adds (key (codes "ok") ∷ boolean ok ∷ []) out.old out.new) }
 {
@@ -81,7 +82,7 @@ fn put_ok(out: &mut Writer, ok: bool) -> Result<(), AllocError>
     out.boolean(ok)
 }
 
-// Writes the path.
+/// Writes the path.
 fn put_path(out: &mut Writer, path: &[String]) -> Result<(), AllocError>
     ensures { OnOk result (Adds (path_tokens (map string_bytes path.now)) out.old out.new) }
 {
@@ -91,7 +92,7 @@ fn put_path(out: &mut Writer, path: &[String]) -> Result<(), AllocError>
     out.end_array()
 }
 
-// Writes the names of a path.
+/// Writes the names of a path.
 fn put_names(out: &mut Writer, path: &[String]) -> Result<(), AllocError>
     ensures { OnOk result (Adds (map (λ name. string (string_bytes name)) path.now) out.old out.new) }
 {

@@ -7,8 +7,9 @@ use crate::finding::GeoFinding;
 use crate::line::check_line;
 use std::alloc::{AllocError, Global};
 
-/// The lines of findings, each with a line feed: of those whose check does not hold, or with `all` of all. `file` is the name that the lines give the
-/// file, if any. Errs only when out of memory.
+/// Returns the lines of findings, each with a line feed: of those whose check does not hold, or with
+/// `all` of all. `file` is the name that the lines give the file, if any. Errs only when out of
+/// memory.
 ///
 /// ```rust
 /// let mut findings = Vec::new(alloc);
@@ -32,7 +33,7 @@ pub fn check_lines(
     Ok(text)
 }
 
-// Adds the line of a finding, if it is shown.
+/// Adds the line of a finding, if it is shown.
 fn add_shown(
     alloc: Global,
     text: &mut String,

@@ -9,22 +9,24 @@ use json::Writer;
 use std::alloc::{AllocError, Global};
 use value_tokens::text_of;
 
-/// The code of the warning that a file has columns of geometries, and no metadata of GeoParquet (docs/FORMAT.md, 5.1).
+/// Returns the code of the warning that a file has columns of geometries, and no metadata of
+/// GeoParquet (docs/FORMAT.md, 5.1).
 pub fn no_geo_code() -> &'static str
     ensures { result.now ≡ no_geo_code }
 {
     "NoGeoMetadata"
 }
 
-/// What that warning says, in words.
+/// Returns what that warning says, in words.
 pub fn no_geo_message() -> &'static str
     ensures { result.now ≡ no_geo_message }
 {
     "the file has columns of geometries, but no metadata of GeoParquet"
 }
 
-/// The line of that warning: a JSON object with the keys `file`, `message` and `warning`, in this order and without blanks (docs/FORMAT.md, 5.1), and without a
-/// line feed. `file` is left out where none is named. Errs only when out of memory.
+/// Returns the line of that warning: a JSON object with the keys `file`, `message` and `warning`, in
+/// this order and without blanks (docs/FORMAT.md, 5.1), and without a line feed. `file` is left out
+/// where none is named. Errs only when out of memory.
 ///
 /// ```rust
 /// let line = no_geo_line(alloc, Some("a.parquet"))?;
@@ -41,7 +43,7 @@ pub fn no_geo_line(alloc: Global, file: Option<&str>) -> Result<String, AllocErr
     Ok(text_of(out))
 }
 
-// Writes the object of the warning.
+/// Writes the object of the warning.
 fn put_warning(out: &mut Writer, file: Option<&str>) -> Result<(), AllocError>
     ensures { OnOk result (Adds (no_geo_tokens (text_of file.entry)) out.old out.new) }
 {

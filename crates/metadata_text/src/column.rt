@@ -41,7 +41,7 @@ pub fn with_extension(
     })
 }
 
-// The metadata with that extension name and that text.
+/// The metadata with that extension name and that text.
 fn with_texts(
     alloc: Global,
     metadata: BTreeMap<String, String>,

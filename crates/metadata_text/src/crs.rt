@@ -35,7 +35,7 @@ pub fn is_projjson(alloc: Global, text: &str) -> Result<bool, AllocError>
     Ok(is_alone_object(&mut reader))
 }
 
-// Whether an object comes next, and nothing behind it.
+/// Whether an object comes next, and nothing behind it.
 fn is_alone_object(reader: &mut Reader<'_>) -> bool
     ensures { result ≡ is_alone_object reader.old }
 {
@@ -48,7 +48,7 @@ fn is_alone_object(reader: &mut Reader<'_>) -> bool
     }
 }
 
-// Whether the members of an object come next, and nothing behind it.
+/// Whether the members of an object come next, and nothing behind it.
 fn members_end(reader: &mut Reader<'_>) -> bool
     ensures { result ≡ is_alone_object (begin_object ∷ reader.old) }
 {

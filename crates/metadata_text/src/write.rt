@@ -57,7 +57,7 @@ pub fn compact_projjson(alloc: Global, text: &str) -> Result<Option<String>, All
     Ok(Some(json_text(alloc, text)?))
 }
 
-// The text of a JSON value without blanks.
+/// The text of a JSON value without blanks.
 fn json_text(alloc: Global, text: &str) -> Result<String, AllocError>
     requires { (d : Data) × IsJson text.now d }
     ensures { IfOk result (λ made. string_bytes made ≡ print (tokens text.now)) }
@@ -67,7 +67,7 @@ fn json_text(alloc: Global, text: &str) -> Result<String, AllocError>
     Ok(text_of(out))
 }
 
-// Writes the object.
+/// Writes the object.
 fn put_metadata(
     alloc: Global,
     crs: WrittenCrs<'_>,
@@ -86,7 +86,7 @@ fn put_metadata(
     out.end_object()
 }
 
-// Writes a CRS.
+/// Writes a CRS.
 fn put_crs(alloc: Global, crs: WrittenCrs<'_>, out: &mut Writer) -> Result<(), AllocError>
     requires { (d : Data) × IsCrs crs d }
     ensures { OnOk result (Adds (crs_tokens crs.entry) out.old out.new) }
@@ -98,7 +98,7 @@ fn put_crs(alloc: Global, crs: WrittenCrs<'_>, out: &mut Writer) -> Result<(), A
     }
 }
 
-// Copies the tokens of a JSON text.
+/// Copies the tokens of a JSON text.
 fn put_json(alloc: Global, text: &str, out: &mut Writer) -> Result<(), AllocError>
     requires { (d : Data) × IsJson text.now d }
     ensures { OnOk result (Adds (tokens text.now) out.old out.new) }
@@ -111,7 +111,7 @@ fn put_json(alloc: Global, text: &str, out: &mut Writer) -> Result<(), AllocErro
     Ok(())
 }
 
-// Writes a member with a text, where there is one.
+/// Writes a member with a text, where there is one.
 fn put_word(key: &str, word: Option<&str>, out: &mut Writer) -> Result<(), AllocError>
     ensures { OnOk result (Adds (string_tokens key.now (option_map (λ w. w.now) word.entry)) out.old out.new) }
 {

@@ -1,5 +1,6 @@
-//! Rows of data types and their layouts, of metadata and of types: calls of `arrow_values` and `geoarrow_layout`; of `geoarrow_meta` and `crs_text`; of `geoarrow_schema`,
-//! `geoarrow_columns` and the crates of native types.
+//! Rows of data types and their layouts, of metadata and of types: calls of `arrow_values` and
+//! `geoarrow_layout`; of `geoarrow_meta`; of `geoarrow_schema`, `geoarrow_columns` and the crates of
+//! native types.
 #![tactic(auto)]
 
 mod layouts;

@@ -1,4 +1,4 @@
-//! Rows of metadata, of CRS and of their parts: calls of `geoarrow_meta` and `crs_text`.
+//! Rows of metadata, of CRS and of their parts: calls of `geoarrow_meta`.
 mod crs;
 mod texts;
 mod transforms;
@@ -30,7 +30,6 @@ fn read_or_compare(it: &mut Asked<'_>) {
     match it.command {
         "deserialize" => texts::deserialized(it, Some(it.text)),
         "of_no_text" => texts::deserialized(it, None),
-        "crs_text" => texts::crs_as_written(it),
         "from_value" => texts::from_value(it),
         "Metadata::same_written" => texts::same_written(it),
         "equal" => equal::<Spelled>(it),

@@ -1,6 +1,5 @@
 //! Metadata: read from texts, written and compared.
 use arrow_values::ArrowError;
-use crs_text::crs_text;
 use geoarrow_meta::{Crs, Metadata};
 use rows::asked::Asked;
 use rows::compared::{Compared, is_same_hashed};
@@ -123,15 +122,6 @@ pub fn deserialized(it: &mut Asked<'_>, text: Option<&str>) {
     let read = ManuallyDrop::new(Metadata::deserialize(it.alloc, text));
     it.after();
     say_read(&mut it.said, &read);
-}
-
-/// Says the part of a text that is its CRS, as it is written, `-` for none.
-pub fn crs_as_written(it: &mut Asked<'_>) {
-    match crs_text(it.alloc, it.text) {
-        Ok(Some(crs)) => it.said.push(crs),
-        Ok(None) => it.said.push("-"),
-        Err(AllocError) => it.said.fail(),
-    }
 }
 
 /// Says the parts of the metadata of the JSON value of a text.

@@ -6,8 +6,8 @@ use Rattle.geoparquet.specs.Lines.{finding_tokens, line_tokens}
 use Rattle.value_tokens.proofs.Adding.{whole_text}
 use Rattle.geoparquet.proofs.line.check_line.Goals as goal
 
-pub returns : goal.returns
-returns c =
+pub returns-clause-text : goal.returns-clause-text
+returns-clause-text c =
     let f = c.args.finding.now in
     let file = text_of c.args.file in
     let names : map string_bytes c.as_slice.result.now ≡ path_of f.check (option_map string_bytes f.column) = ap (map string_bytes) c.as_slice.ensures.value ∙ c.in_ok-path.ensures in
