@@ -66,8 +66,8 @@ _put_line = _OfALine.__dict__["json"].__set__
 
 @dataclasses.dataclass(frozen=True)
 class Column(_OfALine):
-    """What is said of a column (docs/FORMAT.md, 2.5 and 2.6). `json` is the line of the report, which has the CRS as it is written;
-    `crs` is that as Python's json reads it. The line of a column that `check` gives is read when an attribute is first asked for."""
+    """What is said of a column (docs/FORMAT.md, 2.5 and 2.6). `json` is the line of the report, which has the CRS as it is written, without
+    blanks; `crs` is that as Python's json reads it. The line of a column that `check` gives is read when an attribute is first asked for."""
 
     name: str
     index: int

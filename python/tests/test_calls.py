@@ -107,6 +107,8 @@ class Checks(unittest.TestCase):
         self.assertEqual(column.crs, {"id": {"authority": "OGC", "code": "CRS84"}, "scope": 1.5})
         self.assertEqual((column.crs_type, column.edges), ("projjson", "spherical"))
         self.assertIn('"scope":1.50', column.json)
+        (column,) = check([with_crs('{ "b" : 1.50 , "a" : "\\u00e9 \\n" , "b" : 2 }')])
+        self.assertIn(r'"crs":{"b":1.50,"a":"é \n","b":2},', column.json)
 
     def test_a_crs_with_the_largest_number(self):
         column, other = check([with_crs('{"a":%s,"b":7}' % ("1" * 309)), with_crs("1" * 310)])

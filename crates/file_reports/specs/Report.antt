@@ -3,10 +3,11 @@ use Rattle.std.specs.Prelude.{◌≡◌, ◌⊎◌, ◌<◌, ◌≤◌, ◌+◌,
 use Rattle.std.specs.List.{list_any}
 use Rattle.std.specs.declared.vec.Vec.{Vec}
 use Rattle.std.specs.declared.alloc.Global.{Global}
+use Rattle.json.specs.Print.{print}
+use Rattle.json.specs.Tree.{json_tokens}
 use Rattle.arrow_values.specs.Tree.{Text}
-use Rattle.arrow_columns.specs.Column.{ColumnTree, column_tree, metadata_on}
+use Rattle.arrow_columns.specs.Column.{ColumnTree, column_tree}
 use Rattle.arrow_columns.specs.declared.column.Column.{Column}
-use Rattle.crs_text.specs.Crs.{IsCrsText}
 use Rattle.column_check.specs.Finding.{IsFinding}
 use Rattle.column_check.specs.declared.finding.Finding.{Finding}
 use Rattle.column_check.specs.States.{is_invalid, is_geometry}
@@ -18,7 +19,7 @@ use Rattle.column_files.specs.declared.form.Form.{Form}
 use Rattle.column_files.specs.declared.form.Form.TheVariants.{Parquet}
 use Rattle.column_files.specs.declared.columns.FileFault.{FileFault}
 use Rattle.column_files.specs.declared.columns.FileFault.TheVariants.{ReportTooLarge, OutOfMemory}
-use Rattle.column_reports.specs.Report.{line_text}
+use Rattle.column_reports.specs.Report.{report as report_of}
 use Rattle.parquet_columns.specs.Budget.{budget}
 use Rattle.parquet_columns.specs.Reads.{footer_in}
 use Rattle.parquet_columns.specs.declared.error.SchemaError.{SchemaError}
@@ -30,15 +31,9 @@ use Rattle.file_reports.specs.declared.report.Report.{Report as FileReport}
 abbrev pub line_feed : ℕ
 line_feed = 10
 
--- the text of the CRS in a column's metadata, as it is written there
-abbrev pub IsCrsOf : Option Text → Option Text → Type 0
-IsCrsOf None crs = crs ≡ None
-IsCrsOf (Some metadata) crs = IsCrsText metadata crs
-
--- the line of a column: its place, the column itself, the text of its CRS, what is said of it, and its warnings, with the notes or without them
+-- the line of a column: its place, the column itself, what is said of it, and its warnings, with the notes or without them
 abbrev pub IsLineOf : Option Text → Bool → ℕ → ColumnTree → Finding → Text → Type 0
-IsLineOf file notes index c f line =
-    (crs : Option Text) × (ws : List Warning) × IsCrsOf (metadata_on c) crs × AreWarnings notes c f ws × (line ≡ line_text file index c crs f ws)
+IsLineOf file notes index c f line = (ws : List Warning) × AreWarnings notes c f ws × (line ≡ print (json_tokens (report_of file index c f ws)))
 
 -- what is said of each of the columns, from a place on, and the lines of all, each with its line feed
 abbrev pub AreReported : Option Text → Options → ℕ → List ColumnTree → List Finding → Text → Type 0

@@ -5,18 +5,17 @@ ghost use Rattle.column_files.specs.Forms.{IsForm};
 ghost use Rattle.column_files.specs.declared.form.Form.{Form as FileForm};
 ghost use Rattle.arrow_values.specs.Tree.{Text};
 ghost use Rattle.arrow_values.specs.Texts.{text_of};
-ghost use Rattle.arrow_columns.specs.Column.{column_tree, metadata_on};
+ghost use Rattle.arrow_columns.specs.Column.{column_tree};
 ghost use Rattle.column_check.specs.Finding.{IsFinding};
 ghost use Rattle.column_check.specs.States.{is_invalid, is_geometry};
 ghost use Rattle.column_check.specs.declared.finding.Finding.{Finding};
-ghost use Rattle.file_reports.specs.Report.{line_feed, IsCrsOf, IsLineOf, IsWithin, ReportsOf, ReportsIn, Reports};
+ghost use Rattle.file_reports.specs.Report.{line_feed, IsLineOf, IsWithin, ReportsOf, ReportsIn, Reports};
 
 use crate::checks::parquet_report;
 use arrow_columns::Column;
 use column_check::{Finding, check_column, warnings};
 use column_files::{FileFault, Form, columns_of, form_of};
 use column_reports::json_line;
-use crs_text::crs_text_with_scratch;
 use json::Scratch;
 use parquet_columns::report_budget;
 use std::alloc::{AllocError, Global};
@@ -177,7 +176,7 @@ fn add_column(
         × (report.new.has_geometry ≡ (report.old.has_geometry || is_geometry f))
         × (report.new.has_failed ≡ report.old.has_failed)) }
 {
-    let finding = check_column(alloc, column, options.infer)?;
+    let finding = check_column(alloc, scratch, column, options.infer)?;
     let line = column_line_of(alloc, scratch, file, index, column, &finding, options.notes)?;
     push_line(&mut report.lines, line.as_str())?;
     report.has_invalid = report.has_invalid | finding.is_invalid();
@@ -194,9 +193,9 @@ pub(crate) fn push_line(text: &mut String, line: &str) -> Result<(), AllocError>
 }
 
 /// Returns the line of JSON of a column at that place, of which that is said (docs/FORMAT.md, 2.5),
-/// with what is doubtful of it and the text of its CRS, and without a line feed. `file` is the name
-/// that the line gives the file, if any; with `notes` the notes stand among the warnings. The
-/// scratch buffer is kept by the caller from column to column. Errs only when out of memory.
+/// with what is doubtful of it, and without a line feed. `file` is the name that the line gives the
+/// file, if any; with `notes` the notes stand among the warnings. The scratch buffer is kept by the
+/// caller from column to column. Errs only when out of memory.
 pub fn column_line_of(
     alloc: Global,
     scratch: &mut Scratch,
@@ -209,24 +208,13 @@ pub fn column_line_of(
     ensures { IfOk result (λ line. IsLineOf (text_of file.entry) notes index (column_tree column.now) finding.now (string_bytes line)) }
 {
     let warnings = warnings(alloc, column, finding, notes)?;
-    let crs = written_crs(scratch, column)?;
     json_line(
         alloc,
+        scratch,
         file,
         index,
         column,
-        crs,
         finding,
         warnings.as_slice(),
     )
-}
-
-/// The text of the CRS in a column's metadata.
-fn written_crs<'c>(scratch: &mut Scratch, column: &'c Column) -> Result<Option<&'c str>, AllocError>
-    ensures { IfOk result (λ crs. IsCrsOf (metadata_on (column_tree column.entry.now)) (text_of crs)) }
-{
-    match column.extension_type_metadata() {
-        Some(metadata) => crs_text_with_scratch(metadata, scratch),
-        None => Ok(None),
-    }
 }

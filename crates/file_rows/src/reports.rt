@@ -1,11 +1,13 @@
 //! Rows of reports: calls of `file_reports`, and so of the crates that read files and say what
 //! columns hold. A row's text is lines of fields, with ` & ` between them in place of line feeds;
-//! under `report_file` and `report_size` it is the bytes of a file in hexadecimal digits, and under
-//! `columns_of_end` those of the end of an Arrow file, behind the number of bytes before it.
-use column_check::{Finding, check_column, warnings};
+//! under `report_file` and `report_size` it is the bytes of a file in hexadecimal digits, under
+//! `columns_of_end` those of the end of an Arrow file, behind the number of bytes before it, and
+//! under `crs` a metadata text.
+use column_check::{Finding, check_column, read_metadata, warnings};
 use column_files::{FileFault, Form, columns_in, columns_of_end};
 use column_reports::{reason_words, warning_words};
 use file_reports::{Options, report_file};
+use json::Scratch;
 use parquet_columns::SchemaError;
 use rows::asked::Asked;
 use std::alloc::{AllocError, Global};
@@ -27,6 +29,7 @@ pub fn answer(it: &mut Asked<'_>) {
             Err(_) => it.said.fail(),
         },
         "columns_of_end" => end(it),
+        "crs" => crs(it),
         "reason_words" => words(it, reasons_of(it.alloc, text.as_str())),
         "warning_words" => words(it, warnings_of(it.alloc, text.as_str())),
         _ => it.no_command(),
@@ -59,6 +62,19 @@ fn end(it: &mut Asked<'_>) {
     }
 }
 
+/// Says the CRS of a metadata text as reports have it, or `none`; or why the text denotes no values.
+fn crs(it: &mut Asked<'_>) {
+    let mut scratch = Scratch::new(it.alloc);
+    match read_metadata(it.alloc, Some(it.text), &mut scratch) {
+        Ok(Ok(metadata)) => match &metadata.crs {
+            Some(crs) => it.said.push(crs.as_str()),
+            None => it.said.push("none"),
+        },
+        Ok(Err(fault)) => it.said.name(&fault),
+        Err(AllocError) => it.said.fail(),
+    }
+}
+
 /// Says the report of a file, with ` & ` between its lines.
 fn report(it: &mut Asked<'_>, bytes: &[u8], infer: bool, notes: bool) {
     match report_file(it.alloc, None, bytes, Options { infer, notes }) {
@@ -80,7 +96,7 @@ fn reasons_of(alloc: Global, text: &str) -> Result<Vec<String>, FileFault> {
     let Some(column) = columns.as_slice().first() else {
         return Ok(Vec::new(alloc));
     };
-    match check_column(alloc, column, false)? {
+    match check_column(alloc, &mut Scratch::new(alloc), column, false)? {
         Finding::Invalid(reasons) => Ok(reason_words(alloc, &reasons)?),
         _ => Ok(Vec::new(alloc)),
     }
@@ -92,7 +108,7 @@ fn warnings_of(alloc: Global, text: &str) -> Result<Vec<String>, FileFault> {
     let Some(column) = columns.as_slice().first() else {
         return Ok(Vec::new(alloc));
     };
-    let finding = check_column(alloc, column, false)?;
+    let finding = check_column(alloc, &mut Scratch::new(alloc), column, false)?;
     let warnings = warnings(alloc, column, &finding, true)?;
     Ok(warning_words(alloc, warnings.as_slice())?)
 }

@@ -121,7 +121,7 @@ impl<'a> Report<'a> {
 
     /// Looks at what a column is.
     fn look_at(&mut self, alloc: Global, column: &Column) -> Result<(), FileFault> {
-        let finding = check_column(alloc, column, self.asked.flags.infer)?;
+        let finding = check_column(alloc, &mut self.scratch, column, self.asked.flags.infer)?;
         self.add_finding(alloc, column, &finding)
     }
 

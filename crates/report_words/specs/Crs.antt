@@ -1,8 +1,8 @@
 -- A CRS for people.
-use Rattle.std.specs.Prelude.{[], ◌++◌, codes, Option, None, Some, option_map}
+use Rattle.std.specs.Prelude.{[], ◌++◌, codes, Option, None, Some, option_and_then}
 use Rattle.serde_json.specs.Data.{Data, string}
 use Rattle.serde_json.specs.Find.{get}
-use Rattle.serde_json.specs.View.{view}
+use Rattle.serde_json.specs.Read.{of_json}
 use Rattle.arrow_values.specs.Tree.{Text}
 use Rattle.column_check.specs.declared.finding.Geometry.{Geometry as GeometryColumn}
 use Rattle.geoparquet.specs.Values.{at, text_of_value}
@@ -46,5 +46,5 @@ crs_name crs = cut (crs_shown crs)
 
 -- the CRS of geometries
 abbrev pub crs_of_geometry : Option GeometryColumn → Text
-crs_of_geometry (Some g) = crs_name (option_map view g.metadata.crs)
+crs_of_geometry (Some g) = crs_name (option_and_then of_json g.metadata.crs)
 crs_of_geometry None = []

@@ -1,5 +1,6 @@
 //! A CRS for people.
-ghost use Rattle.std.specs.Prelude.{◌≡◌, ◌++◌, Some, IfOk, OnOk, codes, option_map, string_bytes};
+ghost use Rattle.std.specs.Prelude.{◌≡◌, ◌++◌, Some, IfOk, OnOk, codes, option_map, option_and_then, string_bytes};
+ghost use Rattle.serde_json.specs.Read.{of_json};
 ghost use Rattle.serde_json.specs.View.{view};
 ghost use Rattle.arrow_values.specs.Texts.{text_of};
 ghost use Rattle.geoparquet.specs.Identifiers.{code_text};
@@ -11,20 +12,34 @@ use column_tables::cut;
 use geoparquet::text_in;
 use serde_json::Value;
 use std::alloc::{AllocError, Global};
+use value_tokens::JsonText;
 
 /// Returns a CRS for people: a text itself; PROJJSON by the authority and the code of its id, as
 /// `EPSG:4326`, or else by its name, or as `a CRS`; and nothing where there is none. It is cut by
 /// [`cut`] (`docs/FORMAT.md`, 2.7). Errs only when out of memory.
 ///
 /// ```rust
-/// let crs = Value::from_str(alloc, r#"{"id":{"authority":"EPSG","code":4326},"name":"WGS 84"}"#)?;
-/// assert_eq!(rt; crs_name(alloc, Some(&crs))?.as_str(), "EPSG:4326");
+/// let text = r#"{"crs":{"id":{"authority":"EPSG","code":4326},"name":"WGS 84"}}"#;
+/// let read = read_metadata(alloc, Some(text), &mut Scratch::new(alloc))?;
+/// let Ok(metadata) = read else { return Ok(()); };
+/// assert_eq!(rt; crs_name(alloc, metadata.crs.as_ref())?.as_str(), "EPSG:4326");
 /// ```
-pub fn crs_name(alloc: Global, crs: Option<&Value>) -> Result<String, AllocError>
-    ensures { IfOk result (λ name. string_bytes name ≡ crs_name (option_map (λ v. view v.now) crs.entry)) }
+pub fn crs_name(alloc: Global, crs: Option<&JsonText>) -> Result<String, AllocError>
+    ensures { IfOk result (λ name. string_bytes name ≡ crs_name (option_and_then of_json (option_map (λ c. c.now) crs.entry))) }
 {
-    let shown = crs_shown(alloc, crs)?;
+    let value = value_of(alloc, crs)?;
+    let shown = crs_shown(alloc, value.as_ref())?;
     cut(alloc, shown.as_str())
+}
+
+/// The value of a CRS; none where a number of it is out of range.
+fn value_of(alloc: Global, crs: Option<&JsonText>) -> Result<Option<Value>, AllocError>
+    ensures { IfOk result (λ value. option_map view value ≡ option_and_then of_json (option_map (λ c. c.now) crs.entry)) }
+{
+    match crs {
+        Some(crs) => crs.to_value(alloc),
+        None => Ok(None),
+    }
 }
 
 /// A CRS in full.

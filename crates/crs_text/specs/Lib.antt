@@ -1,3 +1,0 @@
-pub mod Members
-pub mod MemberText
-pub mod Crs

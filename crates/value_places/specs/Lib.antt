@@ -1,4 +1,0 @@
-pub mod Lexemes
-pub mod Nesting
-pub mod Values
-pub mod Members
