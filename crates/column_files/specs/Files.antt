@@ -1,6 +1,8 @@
 -- Which columns the bytes of a file denote, or why they denote none.
-use Rattle.std.specs.Prelude.{◌≡◌, ◌≢◌, ◌⊎◌, ℕ, ◌+◌, ◌-◌, ◌^◌, ◌≤◌, min, List, [], ◌∷◌, ◌++◌, length, drop, map, Result, Ok, Err, ⊤}
+use Rattle.std.specs.Prelude.{◌≡◌, ◌≢◌, ◌⊎◌, ℕ, ◌+◌, ◌-◌, ◌^◌, ◌≤◌, min, List, [], ◌∷◌, ◌++◌, length, drop, map, Option, None, Result, Ok, Err, ⊤, codes}
 use Rattle.std.specs.Int.{w32, from_le_bytes}
+use Rattle.arrow_values.specs.Tree.{Text}
+use Rattle.arrow_values.specs.Texts.{text_of}
 use Rattle.arrow_columns.specs.Column.{ColumnTree, column_tree}
 use Rattle.arrow_columns.specs.declared.column.Column.{Column}
 use Rattle.arrow_ipc.specs.Schema.{SchemaTree, Meets, message_in, footer_in, schema_of_message, schema_of_footer}
@@ -10,12 +12,14 @@ use Rattle.arrow_ipc.specs.declared.fault.IpcError.TheVariants.{Broken, Budget, 
 use Rattle.arrow_ipc.specs.declared.schema.Schema.{Schema}
 use Rattle.std.specs.declared.vec.Vec.{Vec}
 use Rattle.std.specs.declared.alloc.Global.{Global}
+use Rattle.column_files.specs.Forms.{IsForm}
 use Rattle.column_files.specs.Lines.{LinesTo, Denote}
 use Rattle.column_files.specs.LineFaults.{DenotesNone}
 use Rattle.column_files.specs.declared.form.Form.{Form}
 use Rattle.column_files.specs.declared.form.Form.TheVariants.{ArrowFile, ArrowStream, Parquet, Lines}
 use Rattle.column_files.specs.declared.columns.FileFault.{FileFault}
 use Rattle.column_files.specs.declared.columns.FileFault.TheVariants.{NoField, Empty, Ipc, Parquet as ParquetFault, OutOfMemory}
+use Rattle.column_files.specs.declared.opening.File.{File}
 use Rattle.parquet_columns.specs.Reads as parquet
 use Rattle.parquet_columns.specs.declared.error.SchemaError.{SchemaError}
 
@@ -88,3 +92,23 @@ HasFooter tail start end = (tail + size_in (drop (length end - tail) end) ≤ le
 abbrev pub IsEndRead : Form → ℕ → List ℕ → Result (Vec Column Global) FileFault → Type 0
 IsEndRead ArrowFile start end r = (front : List ℕ) → length front ≡ start → HasFooter 10 start end → IsFileRead ArrowFile (front ++ end) r
 IsEndRead form start end r = IsFileRead form end r
+
+-- ---- opened files
+
+-- what a file has at the key `geo` of its metadata, by its end: a Parquet file the value of that key in its footer, another nothing
+abbrev pub geo_key : Text
+geo_key = codes "geo"
+
+abbrev pub HasGeo : Form → List ℕ → Option Text → Type 0
+HasGeo Parquet end geo = parquet.IsValueRead geo_key (parquet.footer_in end) geo
+HasGeo form end geo = geo ≡ None
+
+-- what is opened of the bytes of a file: its format, which the first of them tell, its columns, and that text; or why it has no columns
+abbrev pub IsOpened : List ℕ → Result File FileFault → Type 0
+IsOpened bytes (Ok file) = IsForm bytes file.form × IsFileRead file.form bytes (Ok file.columns) × HasGeo file.form bytes (text_of file.geo)
+IsOpened bytes (Err fault) = (form : Form) × IsForm bytes form × IsFileRead form bytes (Err fault)
+
+-- what is opened of the end of a file in that format, before which so many bytes stand
+abbrev pub IsEndOpened : Form → ℕ → List ℕ → Result File FileFault → Type 0
+IsEndOpened form start end (Ok file) = (file.form ≡ form) × IsEndRead form start end (Ok file.columns) × HasGeo form end (text_of file.geo)
+IsEndOpened form start end (Err fault) = IsEndRead form start end (Err fault)

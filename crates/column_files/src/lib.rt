@@ -7,15 +7,16 @@ mod form;
 pub mod laws;
 mod line;
 mod lines;
+mod opening;
 mod reading;
 mod schema_bytes;
 mod source;
 
-pub use columns::{FileFault, columns_in, columns_of, columns_of_end};
+pub use columns::FileFault;
 pub use fault::ReadFault;
 pub use form::{Form, form_of};
 pub use line::{LineFault, column_line, parse_column_line};
 pub use lines::columns_of_lines;
-pub use parquet_columns::report_budget;
+pub use opening::{File, open, open_end};
 pub use reading::{LineColumns, MAX_LINE_BYTES};
 pub use schema_bytes::{FileEnd, read_head, read_schema_bytes, read_schema_end};

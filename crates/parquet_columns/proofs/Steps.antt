@@ -1,24 +1,19 @@
 -- From what a step returned to what a call returned.
-use Rattle.std.proofs.Common.{◌≡◌, ◌≤◌, ◌<◌, ℕ, List, length, map, Option, Some, None, Result, Ok, Err, Bool, true, false, Vec, Global, refl, subst, sym, ap, ◌∙◌}
+use Rattle.std.proofs.Common.{◌≡◌, ◌≤◌, ◌<◌, ℕ, List, map, Option, Some, None, Result, Ok, Err, Bool, true, false, Vec, Global, refl, subst, sym, ap, ◌∙◌}
 use Rattle.base64.specs.Engines.{standard}
 use Rattle.base64.specs.GeneralPurpose.{decode_of}
 use Rattle.arrow_values.specs.Tree.{Text}
 use Rattle.arrow_columns.specs.Column.{ColumnTree, column_tree}
 use Rattle.arrow_columns.specs.declared.column.Column.{Column}
 use Rattle.arrow_ipc.specs.declared.schema.Schema.{Schema}
-use Rattle.parquet_footer.specs.Fault.{Refuses}
-use Rattle.parquet_footer.specs.Footer.{Contents, footer_at}
-use Rattle.parquet_footer.specs.declared.fault.Fault as footers
-use Rattle.parquet_footer.specs.declared.fault.FooterError.{FooterError}
-use Rattle.parquet_footer.specs.declared.fault.FooterError.TheVariants.{NotParquet, Encrypted, Invalid, Memory}
+use Rattle.parquet_footer.specs.Footer.{Contents}
 use Rattle.parquet_columns.specs.declared.fault.Fault as elements
 use Rattle.parquet_columns.specs.Columns.{columns_of}
 use Rattle.parquet_columns.specs.Keys.{schema_key, value_of}
-use Rattle.parquet_columns.specs.SchemaFault.{error_of}
 use Rattle.parquet_columns.specs.Budget.{budget}
 use Rattle.parquet_columns.specs.Geometry.{root_children, given_bytes}
 use Rattle.parquet_columns.specs.Marks.{AreMarked}
-use Rattle.parquet_columns.specs.Reads.{same_names, IsBuilt, IsDecoded, HoldsSchema, IsStoredRead, IsReadBy, AreStored, IsFooterRead, IsParsedAs, IsReadAs}
+use Rattle.parquet_columns.specs.Reads.{same_names, IsBuilt, IsDecoded, HoldsSchema, IsStoredRead, IsReadBy, AreStored, IsFooterRead}
 use Rattle.parquet_columns.specs.declared.error.SchemaError.{SchemaError}
 use Rattle.parquet_columns.specs.declared.error.SchemaError.TheVariants.{Elements, Encoding, Ipc, Names, Budget, OutOfMemory}
 
@@ -99,26 +94,3 @@ all_marked n c stored amount (Err Budget) is are f =
     (stored, are, subst (λ a. a < given_bytes c.key_value_metadata (root_children c.schema) (map column_tree stored.items)) is f)
 all_marked n c stored amount (Err OutOfMemory) is are f = memory_footer n c
 all_marked n c stored amount (Err _) is are f = absurd f
-
--- ---- what is read of bytes, and of a file
-
-module _ {A : Type 0} (Is : Contents → Result A SchemaError → Type 0) where
-  pub is_parsed : (bytes : List ℕ) (read : Result Contents footers.Fault) (c : Contents) (r : Result A SchemaError) → read ≡ Ok c → Is c r → IsParsedAs Is bytes read r
-  is_parsed bytes read c r is f = rw is f
-
-  memory_of : ((c : Contents) → Is c (Err OutOfMemory)) → (bytes : List ℕ) (read : Result Contents footers.Fault) → IsParsedAs Is bytes read (Err OutOfMemory)
-  memory_of memory bytes (Ok c) = memory c
-  memory_of memory bytes (Err fault) = tt
-
-  pub is_refused : ((c : Contents) → Is c (Err OutOfMemory)) → (bytes : List ℕ) (read : Result Contents footers.Fault) (e : FooterError) → Refuses bytes e read → IsParsedAs Is bytes read (Err (error_of e))
-  is_refused memory bytes read NotParquet f = absurd f
-  is_refused memory bytes read Encrypted f = absurd f
-  is_refused memory bytes read (Invalid rule offset) f = rw f.1 (refl, f.2)
-  is_refused memory bytes read Memory f = memory_of memory bytes read
-
-module _ {A : Type 0} (Is : ℕ → Contents → Result A SchemaError → Type 0) where
-  pub no_footer : (found : Result (List ℕ) SchemaError) (e : SchemaError) → found ≡ Err e → IsReadAs Is found (Err e)
-  no_footer found e is = rw is refl
-
-  pub with_footer : (found : Result (List ℕ) SchemaError) (bytes : List ℕ) (r : Result A SchemaError) → found ≡ Ok bytes → IsParsedAs (Is (length bytes)) bytes (footer_at bytes) r → IsReadAs Is found r
-  with_footer found bytes r is f = rw is f

@@ -84,12 +84,6 @@ IsFooterRead n c (Ok columns) = (stored : Vec Column Global) × AreStored c (Ok 
 IsFooterRead n c (Err Budget) = (stored : Vec Column Global) × AreStored c (Ok stored) × (budget n < given_to c stored)
 IsFooterRead n c (Err error) = AreStored c (Err error)
 
--- the value of a key of a footer
-abbrev pub IsValueOf : Text → Contents → Result (Option Text) SchemaError → Type 0
-IsValueOf key c (Ok value) = value ≡ value_of key c.key_value_metadata
-IsValueOf key c (Err OutOfMemory) = ⊤
-IsValueOf key c (Err _) = ⊥
-
 -- the footer at the end of a file: its length and the magic stand behind it, in eight bytes
 abbrev pub footer_before : List ℕ → Result ℕ FooterError → Result (List ℕ) SchemaError
 footer_before front (Err error) = Err (Footer error)
@@ -100,21 +94,19 @@ footer_in bytes =
     if nat_lt (length bytes) 8 then Err (Footer NotParquet) else
     footer_before (take (length bytes - 8) bytes) (length_at (drop (length bytes - 8) bytes))
 
--- what is read of the bytes of a footer: what its contents are read as; or which rule they break, and where
-abbrev pub IsParsedAs : {A : Type 0} → (Contents → Result A SchemaError → Type 0) → List ℕ → Result Contents footers.Fault → Result A SchemaError → Type 0
-IsParsedAs Is bytes (Ok c) r = Is c r
-IsParsedAs Is bytes (Err fault) (Err OutOfMemory) = ⊤
-IsParsedAs Is bytes (Err fault) (Err (Footer (Invalid rule offset))) = (rule ≡ fault.rule) × (offset + fault.left ≡ length bytes)
-IsParsedAs Is bytes (Err fault) r = ⊥
+-- what is read of the bytes of a footer: the columns of its contents; or which rule they break, and where
+abbrev pub IsParsed : List ℕ → Result Contents footers.Fault → Result (Vec Column Global) SchemaError → Type 0
+IsParsed bytes (Ok c) r = IsFooterRead (length bytes) c r
+IsParsed bytes (Err fault) (Err OutOfMemory) = ⊤
+IsParsed bytes (Err fault) (Err (Footer (Invalid rule offset))) = (rule ≡ fault.rule) × (offset + fault.left ≡ length bytes)
+IsParsed bytes (Err fault) r = ⊥
 
--- what is read of a file, by its end: of a footer by how many bytes it has
-abbrev pub IsReadAs : {A : Type 0} → (ℕ → Contents → Result A SchemaError → Type 0) → Result (List ℕ) SchemaError → Result A SchemaError → Type 0
-IsReadAs Is (Err error) r = r ≡ Err error
-IsReadAs Is (Ok footer) r = IsParsedAs (Is (length footer)) footer (footer_at footer) r
-
--- the columns of a file, and the value of a key
+-- what is read of a file, by the footer at its end
 abbrev pub IsFileRead : Result (List ℕ) SchemaError → Result (Vec Column Global) SchemaError → Type 0
-IsFileRead found r = IsReadAs IsFooterRead found r
+IsFileRead (Err error) r = r ≡ Err error
+IsFileRead (Ok footer) r = IsParsed footer (footer_at footer) r
 
-abbrev pub IsValueRead : Text → Result (List ℕ) SchemaError → Result (Option Text) SchemaError → Type 0
-IsValueRead key found r = IsReadAs (λ _. IsValueOf key) found r
+-- the value of a key in that footer, which has contents
+abbrev pub IsValueRead : Text → Result (List ℕ) SchemaError → Option Text → Type 0
+IsValueRead key found value =
+    (footer : List ℕ) × (c : Contents) × (found ≡ Ok footer) × (footer_at footer ≡ Ok c) × (value ≡ value_of key c.key_value_metadata)

@@ -1,9 +1,8 @@
-//! The columns of a file and the values of its keys, from its end.
-ghost use Rattle.std.specs.Prelude.{◌≡◌, length};
-ghost use Rattle.parquet_footer.specs.Footer.{footer_at};
+//! The columns of a file and the value of a key, from its end.
+ghost use Rattle.std.specs.Prelude.{◌≡◌, Ok, Err, IfOk, IfErr};
 ghost use Rattle.parquet_columns.specs.SchemaFault.{map_ok};
 ghost use Rattle.arrow_values.specs.Texts.{text_of};
-ghost use Rattle.parquet_columns.specs.Reads.{footer_in, IsParsedAs, IsFooterRead, IsValueOf, IsFileRead, IsValueRead};
+ghost use Rattle.parquet_columns.specs.Reads.{footer_in, IsFileRead, IsValueRead};
 
 use crate::error::{SchemaError, error_of};
 use crate::footer::columns_of_footer;
@@ -41,58 +40,42 @@ pub fn footer_in(end: &[u8]) -> Result<&[u8], SchemaError>
     }
 }
 
-/// The columns of the bytes of a footer.
-fn columns_of_bytes(alloc: Global, bytes: &[u8]) -> Result<Vec<Column>, SchemaError>
-    ensures { IsParsedAs (IsFooterRead (length bytes.now)) bytes.now (footer_at bytes.now) result }
-{
-    match read_footer(alloc, bytes) {
-        Ok(footer) => columns_of_footer(alloc, &footer, bytes.len()),
-        Err(error) => Err(error_of(error)),
-    }
+/// What is read of a Parquet file.
+#[derive(Debug, Drop)]
+pub struct FileColumns<'a> {
+    /// Its columns.
+    pub columns: Vec<Column>,
+    /// The value of a key in its key-value metadata, as [`value_of`] answers it: a part of the
+    /// bytes that were read.
+    pub value: Option<&'a str>,
 }
 
-/// Returns the columns of a Parquet file, from its end: the bytes of the file, or as many of its last
-/// ones as the footer, its length and the magic take. Nothing else is looked at.
+/// Reads the columns of a Parquet file and the value of a key, from its end: the bytes of the file,
+/// or as many of its last ones as the footer, its length and the magic take. Nothing else is looked
+/// at, and the footer once.
 ///
 /// Errs as `footer_in`; with `Footer` where the footer breaks a rule, with the rule and the offset
 /// in the footer; as `columns_of_footer` does by the bytes of the footer; and when out of memory.
-pub fn columns_of_file(alloc: Global, end: &[u8]) -> Result<Vec<Column>, SchemaError>
-    ensures { IsFileRead (footer_in end.now) result }
-{
-    let bytes = footer_in(end)?;
-    columns_of_bytes(alloc, bytes)
-}
-
-/// The value of a key in the bytes of a footer.
-fn value_in_bytes<'a>(
-    alloc: Global,
-    bytes: &'a [u8],
-    key: &str,
-) -> Result<Option<&'a str>, SchemaError>
-    ensures { IsParsedAs (IsValueOf key.now) bytes.now (footer_at bytes.now) (map_ok text_of result) }
-{
-    match read_footer(alloc, bytes) {
-        Ok(footer) => Ok(value_of(&footer, key)),
-        Err(error) => Err(error_of(error)),
-    }
-}
-
-/// The value of a key in the key-value metadata of a Parquet file, as `value_of` answers it, from the end of the file: its bytes, or as many of its last
-/// ones as the footer, its length and the magic take. The value is a part of these bytes.
-///
-/// Errs as `footer_in`; with `Footer` where the footer breaks a rule, with the rule and the offset in the footer; and when out of memory.
 ///
 /// ```rust
-/// let value = value_in_file(alloc, b"PAR1", "geo");
-/// assert!(rt; matches!(value, Err(SchemaError::Footer(FooterError::NotParquet))));
+/// let read = read_file(alloc, b"PAR1", "geo");
+/// assert!(rt; matches!(read, Err(SchemaError::Footer(FooterError::NotParquet))));
 /// ```
-pub fn value_in_file<'a>(
+pub fn read_file<'a>(
     alloc: Global,
     end: &'a [u8],
     key: &str,
-) -> Result<Option<&'a str>, SchemaError>
-    ensures { IsValueRead key.now (footer_in end.now) (map_ok text_of result) }
+) -> Result<FileColumns<'a>, SchemaError>
+    ensures columns { IfOk result (λ read. IsFileRead (footer_in end.now) (Ok read.columns)) }
+    ensures value { IfOk result (λ read. IsValueRead key.now (footer_in end.now) (text_of read.value)) }
+    ensures fault { IfErr result (λ error. IsFileRead (footer_in end.now) (Err error)) }
 {
     let bytes = footer_in(end)?;
-    value_in_bytes(alloc, bytes, key)
+    let footer = match read_footer(alloc, bytes) {
+        Ok(footer) => footer,
+        Err(error) => return Err(error_of(error)),
+    };
+    let columns = columns_of_footer(alloc, &footer, bytes.len())?;
+    let value = value_of(&footer, key);
+    Ok(FileColumns { columns, value })
 }

@@ -23,6 +23,6 @@ pub use columns::{NESTING_LIMIT, columns_of};
 pub use equality_laws::{columns_error_equality_is_exact, rule_equality_is_exact};
 pub use error::SchemaError;
 pub use fault::{ColumnsError, Fault, Rule};
-pub use file::{columns_of_file, footer_in, value_in_file};
+pub use file::{FileColumns, footer_in, read_file};
 pub use footer::columns_of_footer;
 pub use keys::{ARROW_SCHEMA_KEY, value_of};

@@ -1,10 +1,9 @@
 //! The columns of lines, and the bytes of a schema, from sources that are slow, that fail, that signals interrupt and that do not seek.
 use crate::tests::reading::{OneByte, Repeated};
-use arrow_columns::Column;
 use arrow_ipc::IpcError;
 use column_files::{
-    FileEnd, FileFault, Form, LineColumns, LineFault, MAX_LINE_BYTES, ReadFault, column_line,
-    columns_of, columns_of_end, form_of, read_head, read_schema_bytes, read_schema_end,
+    File, FileEnd, FileFault, Form, LineColumns, LineFault, MAX_LINE_BYTES, ReadFault, column_line,
+    form_of, open, open_end, read_head, read_schema_bytes, read_schema_end,
 };
 use std::alloc::{AllocError, Global};
 use std::io;
@@ -437,9 +436,9 @@ const ARROW_FILES: &[(&[u8], usize)] = &[
     (b"ARROW1\0\0", 0),
 ];
 
-/// Whether columns are refused at a byte.
-fn are_refused_at(read: Result<Vec<Column>, FileFault>, at: usize) -> bool {
-    match &*ManuallyDrop::new(read) {
+/// Whether a file is refused at a byte.
+fn is_refused_at(opened: Result<File<'_>, FileFault>, at: usize) -> bool {
+    match &*ManuallyDrop::new(opened) {
         Err(FileFault::Ipc(IpcError::Broken(fault))) => fault.at == at,
         _ => false,
     }
@@ -451,8 +450,8 @@ fn is_end_refused_at(alloc: Global, bytes: &[u8], at: usize) -> bool {
     match &*ManuallyDrop::new(read_end(alloc, Form::ArrowFile, &mut source)) {
         Ok(end) => {
             let end_bytes = end.bytes.as_slice();
-            let read = columns_of_end(alloc, Form::ArrowFile, end.start, end_bytes);
-            are_refused_at(read, at)
+            let opened = open_end(alloc, Form::ArrowFile, end.start, end_bytes);
+            is_refused_at(opened, at)
         }
         Err(_) => false,
     }
@@ -462,8 +461,7 @@ fn is_end_refused_at(alloc: Global, bytes: &[u8], at: usize) -> bool {
 fn of_arrow_files_name_the_byte_of_the_file(rt: HostRuntime) -> Result<(), Fail> {
     let alloc = rt.alloc();
     for &(bytes, at) in ARROW_FILES.iter() {
-        let whole = columns_of(alloc, Form::ArrowFile, bytes);
-        assert!(rt; are_refused_at(whole, at), "whole, at {at}");
+        assert!(rt; is_refused_at(open(alloc, bytes), at), "whole, at {at}");
         assert!(rt; is_end_refused_at(alloc, bytes, at), "by the end, at {at}");
     }
     Ok(())

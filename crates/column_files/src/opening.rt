@@ -1,0 +1,106 @@
+//! Files that are opened: their format, their columns, and their GeoParquet metadata.
+ghost use Rattle.std.specs.Prelude.{◌≡◌, ℕ, None, Ok, Err, MatchResult};
+ghost use Rattle.column_files.specs.Files.{IsOpened, IsEndOpened};
+
+use crate::columns::{FileFault, columns_of_footer, columns_of_line_file, columns_of_schema};
+use crate::form::{Form, form_of};
+use crate::lines::columns_of_lines;
+use arrow_columns::Column;
+use arrow_ipc::{read_file_footer, read_schema};
+use parquet_columns::read_file;
+use std::alloc::Global;
+
+/// The key of GeoParquet metadata.
+const GEO_KEY: &str = "geo";
+
+/// A file that was opened: all that is read of it.
+#[derive(Debug, Drop)]
+pub struct File<'a> {
+    /// Its format.
+    pub form: Form,
+    /// Its columns.
+    pub columns: Vec<Column>,
+    /// Of a Parquet file the text at the key `geo` of its metadata, if there is one: a part of the
+    /// bytes that were read.
+    pub geo: Option<&'a str>,
+}
+
+/// Opens a file by its bytes, whose first tell the format (docs/FORMAT.md, 2.7). The columns are of
+/// an Arrow file or stream those of its schema, of a Parquet file those of its footer, and of lines
+/// a column for each that is not blank. Of a stream only the first message is looked at, so these
+/// bytes alone may be given; of an Arrow or Parquet file only the end is, which [`open_end`] takes.
+///
+/// Errs with `NoField` at the first line that is not blank and denotes no column, with how many
+/// lines stand before it, and why; with `Empty` where lines have no column at all; with `Ipc` as
+/// `read_schema` and `read_file_footer` of `arrow_ipc` do, which say the rule that is broken, and
+/// the byte, of an Arrow file that of the file; with `Parquet` as `read_file` of `parquet_columns`
+/// does; and when out of memory.
+///
+/// ```rust
+/// let file = open(alloc, br#"{"name":"a","nullable":true,"type":"int64"}"#);
+/// assert!(rt; matches!(file, Ok(file) if file.columns.len() == 1));
+/// assert!(rt; matches!(open(alloc, b" \n"), Err(FileFault::Empty)));
+/// let refused = open(alloc, b"\n{\n");
+/// assert!(rt; matches!(refused, Err(FileFault::NoField(1, LineFault::NotJson(_)))));
+/// ```
+pub fn open<'a>(alloc: Global, bytes: &'a [u8]) -> Result<File<'a>, FileFault>
+    ensures { IsOpened bytes.now result }
+{
+    open_end(alloc, form_of(bytes), 0, bytes)
+}
+
+/// Opens a file in that format by its end, before which so many bytes stand, as
+/// [`crate::read_schema_end`] gives it; a stream or lines by all bytes. Returns and errs as
+/// [`open`] does of the whole file: of an Arrow file the byte is counted from the file's first
+/// (docs/FORMAT.md, 2.7).
+///
+/// ```rust
+/// let refused = open_end(alloc, Form::ArrowFile, 400, b"\0\0\0\0ARROW2");
+/// assert!(rt; matches!(refused, Err(FileFault::Ipc(IpcError::Broken(fault))) if fault.at == 400));
+/// ```
+pub fn open_end<'a>(
+    alloc: Global,
+    form: Form,
+    start: u64,
+    end: &'a [u8],
+) -> Result<File<'a>, FileFault>
+    ensures { IsEndOpened form start end.now result }
+{
+    match form {
+        Form::ArrowFile => {
+            let read = read_file_footer(alloc, end);
+            without_geo(form, columns_of_footer(read, start as usize, end))
+        }
+        Form::ArrowStream => without_geo(form, columns_of_schema(read_schema(alloc, end))),
+        Form::Parquet => open_parquet(alloc, end),
+        Form::Lines => without_geo(form, columns_of_line_file(columns_of_lines(alloc, end))),
+    }
+}
+
+/// A file in that format with these columns, or why it has none.
+fn without_geo<'a>(form: Form, read: Result<Vec<Column>, FileFault>) -> Result<File<'a>, FileFault>
+    ensures { MatchResult result (λ file. (file.form ≡ form) × (read ≡ Ok file.columns) × (file.geo ≡ None)) (λ fault. read ≡ Err fault) }
+{
+    match read {
+        Ok(columns) => Ok(File {
+            form,
+            columns,
+            geo: None,
+        }),
+        Err(fault) => Err(fault),
+    }
+}
+
+/// Opens a Parquet file by its end.
+fn open_parquet<'a>(alloc: Global, end: &'a [u8]) -> Result<File<'a>, FileFault>
+    ensures { (start : ℕ) → IsEndOpened Form.Parquet start end.now result }
+{
+    match read_file(alloc, end, GEO_KEY) {
+        Ok(read) => Ok(File {
+            form: Form::Parquet,
+            columns: read.columns,
+            geo: read.value,
+        }),
+        Err(error) => Err(FileFault::Parquet(error)),
+    }
+}
