@@ -1,5 +1,5 @@
 -- A Parquet file's GeoParquet metadata: the columns that the file has by them, their checks, and what its report says of them.
-use Rattle.std.specs.Prelude.{◌≡◌, ◌⊎◌, ◌++◌, ℕ, Bool, false, not, List, [], ◌∷◌, codes, map, Option, None, Some, Result, Ok, Err, string_bytes, if◌then◌else◌}
+use Rattle.std.specs.Prelude.{◌≡◌, ◌++◌, Bool, false, not, List, [], ◌∷◌, map, Option, None, Some, string_bytes, if◌then◌else◌}
 use Rattle.std.specs.List.{list_any}
 use Rattle.std.specs.declared.vec.Vec.{Vec}
 use Rattle.std.specs.declared.alloc.Global.{Global}
@@ -10,25 +10,18 @@ use Rattle.geoparquet.specs.declared.finding.GeoFinding.{GeoFinding}
 use Rattle.geoparquet.specs.GeoColumns.{AreGeoColumns}
 use Rattle.geoparquet.specs.Lines.{lines_text}
 use Rattle.geoparquet.specs.Warnings.{no_geo_text}
-use Rattle.parquet_columns.specs.Reads.{IsValueRead}
-use Rattle.parquet_columns.specs.declared.error.SchemaError.{SchemaError}
-use Rattle.parquet_columns.specs.declared.error.SchemaError.TheVariants.{OutOfMemory}
 use Rattle.file_reports.specs.declared.checks.Checked.{Checked}
 use Rattle.file_reports.specs.declared.report.Report.{Report as FileReport}
 
-abbrev pub geo_key : Text
-geo_key = codes "geo"
+-- what a file with the columns cs has by the text of its GeoParquet metadata: without them no findings, and these columns; else the findings on the text
+-- and these columns, and the columns by the text
+abbrev pub AreByMetadata : Option Text → List ColumnTree → Option (Vec GeoFinding Global) → List ColumnTree → Type 0
+AreByMetadata None cs findings made = (findings ≡ None) × (made ≡ cs)
+AreByMetadata (Some geo) cs None made = ⊥
+AreByMetadata (Some geo) cs (Some findings) made = AreFindings geo cs findings.items × AreGeoColumns geo cs made
 
--- what a file with that footer and the columns cs has by the value of the key: where there is none, no findings, and these columns; else the findings on
--- the value and these columns, and the columns by the value
-abbrev pub AreByMetadata : Result (List ℕ) SchemaError → List ColumnTree → Option (Vec GeoFinding Global) → List ColumnTree → Type 0
-AreByMetadata footer cs None made = IsValueRead geo_key footer (Ok None) × (made ≡ cs)
-AreByMetadata footer cs (Some findings) made = (geo : Text) × IsValueRead geo_key footer (Ok (Some geo)) × AreFindings geo cs findings.items × AreGeoColumns geo cs made
-
--- what a call answers: that, or why the footer is not read, or out of memory
-abbrev pub AreChecked : Result (List ℕ) SchemaError → List ColumnTree → Result Checked SchemaError → Type 0
-AreChecked footer cs (Ok checked) = AreByMetadata footer cs checked.findings (map column_tree checked.columns.items)
-AreChecked footer cs (Err error) = (error ≡ OutOfMemory) ⊎ IsValueRead geo_key footer (Err error)
+abbrev pub AreChecked : Option Text → List ColumnTree → Checked → Type 0
+AreChecked geo cs checked = AreByMetadata geo cs checked.findings (map column_tree checked.columns.items)
 
 abbrev pub is_failed : GeoFinding → Bool
 is_failed f = not f.ok

@@ -1,28 +1,24 @@
 -- The report of a file: a line of JSON for each of its columns.
-use Rattle.std.specs.Prelude.{◌≡◌, ◌⊎◌, ◌<◌, ◌≤◌, ◌+◌, ◌++◌, ℕ, Bool, false, List, [], ◌∷◌, length, map, Option, None, Some, Result, Ok, Err, string_bytes}
+use Rattle.std.specs.Prelude.{◌≡◌, ◌⊎◌, ◌<◌, ◌≤◌, ◌+◌, ◌++◌, ℕ, Bool, false, List, [], ◌∷◌, length, map, Option, Result, Ok, Err, string_bytes}
 use Rattle.std.specs.List.{list_any}
-use Rattle.std.specs.declared.vec.Vec.{Vec}
-use Rattle.std.specs.declared.alloc.Global.{Global}
 use Rattle.json.specs.Print.{print}
 use Rattle.json.specs.Tree.{json_tokens}
 use Rattle.arrow_values.specs.Tree.{Text}
+use Rattle.arrow_values.specs.Texts.{text_of}
 use Rattle.arrow_columns.specs.Column.{ColumnTree, column_tree}
-use Rattle.arrow_columns.specs.declared.column.Column.{Column}
 use Rattle.column_check.specs.Finding.{IsFinding}
 use Rattle.column_check.specs.declared.finding.Finding.{Finding}
 use Rattle.column_check.specs.States.{is_invalid, is_geometry}
 use Rattle.column_check.specs.Warnings.{AreWarnings}
 use Rattle.column_check.specs.declared.warning.Warning.{Warning}
-use Rattle.column_files.specs.Forms.{IsForm}
-use Rattle.column_files.specs.Files.{IsFileRead}
+use Rattle.column_files.specs.Files.{IsOpened}
 use Rattle.column_files.specs.declared.form.Form.{Form}
 use Rattle.column_files.specs.declared.form.Form.TheVariants.{Parquet}
+use Rattle.column_files.specs.declared.opening.File.{File}
 use Rattle.column_files.specs.declared.columns.FileFault.{FileFault}
 use Rattle.column_files.specs.declared.columns.FileFault.TheVariants.{ReportTooLarge, OutOfMemory}
 use Rattle.column_reports.specs.Report.{report as report_of}
 use Rattle.parquet_columns.specs.Budget.{budget}
-use Rattle.parquet_columns.specs.Reads.{footer_in}
-use Rattle.parquet_columns.specs.declared.error.SchemaError.{SchemaError}
 use Rattle.file_reports.specs.Checks.{AreChecked, AddsFindings}
 use Rattle.file_reports.specs.declared.checks.Checked.{Checked}
 use Rattle.file_reports.specs.declared.report.Options.{Options}
@@ -50,10 +46,11 @@ pub record IsReportOf (file : Option Text) (o : Options) (cs : List ColumnTree) 
   pub geometry : report.has_geometry ≡ list_any is_geometry findings
   pub failed : report.has_failed ≡ false
 
--- the report of a Parquet file with that footer and these columns: that of the columns which it has by its GeoParquet metadata, with the checks of these or the warning
-pub record IsParquetReport (file : Option Text) (o : Options) (footer : Result (List ℕ) SchemaError) (cs : List ColumnTree) (report : FileReport) : Type 0 where
+-- the report of a Parquet file with that text of GeoParquet metadata and these columns: that of the columns which it has by the text, with the checks of these or
+-- the warning
+pub record IsParquetReport (file : Option Text) (o : Options) (geo : Option Text) (cs : List ColumnTree) (report : FileReport) : Type 0 where
   pub checked : Checked
-  pub are : AreChecked footer cs (Ok checked)
+  pub are : AreChecked geo cs checked
   pub of_columns : FileReport
   pub said : IsReportOf file o (map column_tree checked.columns.items) of_columns
   pub adds : AddsFindings file checked.findings of_columns report
@@ -88,27 +85,27 @@ IsWithin limit made (Ok report) = (report ≡ made) × (size report ≤ limit)
 IsWithin limit made (Err fault) = (fault ≡ ReportTooLarge) × (limit < size made)
 
 -- the report of a Parquet file has more bytes than the limit: the lines of its first columns alone, or all its lines
-abbrev pub IsParquetPast : Option Text → Options → ℕ → Result (List ℕ) SchemaError → List ColumnTree → Type 0
-IsParquetPast file o limit footer cs =
-    ((checked : Checked) × AreChecked footer cs (Ok checked) × ArePast file o limit (map column_tree checked.columns.items))
-    ⊎ ((report : FileReport) × IsParquetReport file o footer cs report × (limit < size report))
+abbrev pub IsParquetPast : Option Text → Options → ℕ → Option Text → List ColumnTree → Type 0
+IsParquetPast file o limit geo cs =
+    ((checked : Checked) × AreChecked geo cs checked × ArePast file o limit (map column_tree checked.columns.items))
+    ⊎ ((report : FileReport) × IsParquetReport file o geo cs report × (limit < size report))
 
--- what a call answers of a Parquet file with that footer and these columns
-abbrev pub ParquetReports : Option Text → Options → ℕ → Result (List ℕ) SchemaError → List ColumnTree → Result FileReport FileFault → Type 0
-ParquetReports file o limit footer cs (Ok report) = IsParquetReport file o footer cs report × (size report ≤ limit)
-ParquetReports file o limit footer cs (Err fault) = IsUnreported (IsParquetPast file o limit footer cs) fault
+-- what a call answers of a Parquet file with that text and these columns
+abbrev pub ParquetReports : Option Text → Options → ℕ → Option Text → List ColumnTree → Result FileReport FileFault → Type 0
+ParquetReports file o limit geo cs (Ok report) = IsParquetReport file o geo cs report × (size report ≤ limit)
+ParquetReports file o limit geo cs (Err fault) = IsUnreported (IsParquetPast file o limit geo cs) fault
 
--- what a call answers of a file in that format with these columns, within the budget of its bytes
-abbrev pub ReportsIn : Form → Option Text → Options → List ℕ → List ColumnTree → Result FileReport FileFault → Type 0
-ReportsIn Parquet file o bytes cs r = ParquetReports file o (budget (length bytes)) (footer_in bytes) cs r
-ReportsIn form file o bytes cs r = ReportsOf file o (budget (length bytes)) cs r
+-- what a call answers of a file in that format with that text, if any, and these columns
+abbrev pub ReportsOpened : Option Text → Options → ℕ → Form → Option Text → List ColumnTree → Result FileReport FileFault → Type 0
+ReportsOpened file o limit Parquet geo cs r = ParquetReports file o limit geo cs r
+ReportsOpened file o limit form geo cs r = ReportsOf file o limit cs r
 
--- what is said of the columns that the bytes denote
+-- what is said of the file that its bytes are opened as, within the budget of these
 abbrev pub ReportsRead : Option Text → Options → List ℕ → Result FileReport FileFault → Type 0
 ReportsRead file o bytes r =
-    (form : Form) × (columns : Vec Column Global) × IsForm bytes form × IsFileRead form bytes (Ok columns) × ReportsIn form file o bytes (map column_tree columns.items) r
+    (opened : File) × IsOpened bytes (Ok opened) × ReportsOpened file o (budget (length bytes)) opened.form (text_of opened.geo) (map column_tree opened.columns.items) r
 
--- the report of a file, by the columns which its bytes denote; or why they denote none, or why there is no report of them
+-- the report of a file, by what its bytes are opened as; or why they are not, or why there is no report of them
 abbrev pub Reports : Option Text → Options → List ℕ → Result FileReport FileFault → Type 0
 Reports file o bytes (Ok report) = ReportsRead file o bytes (Ok report)
-Reports file o bytes (Err fault) = ((form : Form) × IsForm bytes form × IsFileRead form bytes (Err fault)) ⊎ ReportsRead file o bytes (Err fault)
+Reports file o bytes (Err fault) = IsOpened bytes (Err fault) ⊎ ReportsRead file o bytes (Err fault)

@@ -3,10 +3,7 @@ ghost use Rattle.std.specs.Prelude.{◌≡◌, false, IfOk, map};
 ghost use Rattle.std.specs.List.{list_any};
 ghost use Rattle.arrow_values.specs.Texts.{text_of};
 ghost use Rattle.arrow_columns.specs.Column.{column_tree};
-ghost use Rattle.geoparquet.specs.Checks.{AreFindings};
-ghost use Rattle.geoparquet.specs.GeoColumns.{AreGeoColumns};
 ghost use Rattle.geoparquet.specs.Lines.{lines_text};
-ghost use Rattle.parquet_columns.specs.Reads.{footer_in};
 ghost use Rattle.file_reports.specs.Checks.{is_failed, AreChecked, AddsText, AddsFindings, warning_text};
 ghost use Rattle.file_reports.specs.Report.{ParquetReports};
 
@@ -14,61 +11,41 @@ use crate::report::{Options, Report, push_line, report_columns, within};
 use arrow_columns::Column;
 use column_files::FileFault;
 use geoparquet::{GeoFinding, check_geo, check_lines, geo_columns, no_geo_line};
-use parquet_columns::{SchemaError, value_in_file};
 use std::alloc::{AllocError, Global};
-
-/// The key of GeoParquet metadata.
-const GEO_KEY: &str = "geo";
 
 /// The columns that a Parquet file has by its GeoParquet metadata, and what the rules of GeoParquet say of these metadata.
 #[derive(Debug, Drop)]
 pub struct Checked {
     /// The columns, as `geo_columns` of `geoparquet` answers them.
     pub columns: Vec<Column>,
-    /// What the rules say, as `check_geo` of `geoparquet` answers it of the columns that the file denotes; none where the file has no value of the key
-    /// `geo`. The columns are then those that the file denotes.
+    /// What the rules say, as `check_geo` of `geoparquet` answers it of the columns that the file
+    /// denotes; none where the file has no text at the key `geo`. The columns are then those that
+    /// the file denotes.
     pub findings: Option<Vec<GeoFinding>>,
 }
 
-/// What a Parquet file that denotes these columns has by its GeoParquet metadata, from the end of the file: its columns (docs/FORMAT.md, 5.2), and the
-/// checks of the metadata (docs/FORMAT.md, 5). The end is the bytes of the file, or as many of its last ones as the footer, its length and the
-/// magic take.
-///
-/// Errs as `value_in_file` of `parquet_columns` does.
+/// Returns what a Parquet file that denotes these columns has by the text of its GeoParquet
+/// metadata: its columns (docs/FORMAT.md, 5.2), and the checks of the metadata (docs/FORMAT.md, 5).
+/// Errs only when out of memory.
 pub fn checked_columns(
     alloc: Global,
-    end: &[u8],
+    geo: Option<&str>,
     columns: Vec<Column>,
-) -> Result<Checked, SchemaError>
-    ensures { AreChecked (footer_in end.now) (map column_tree columns.items) result }
+) -> Result<Checked, AllocError>
+    ensures { IfOk result (AreChecked (text_of geo.entry) (map column_tree columns.items)) }
 {
-    let Some(geo) = value_in_file(alloc, end, GEO_KEY)? else {
+    let Some(geo) = geo else {
         return Ok(Checked {
             columns,
             findings: None,
         });
     };
-    match checked_by(alloc, geo, columns) {
-        Ok((columns, findings)) => Ok(Checked {
-            columns,
-            findings: Some(findings),
-        }),
-        Err(AllocError) => Err(SchemaError::OutOfMemory),
-    }
-}
-
-/// The columns by that text of the metadata, and the findings on it. Errs only when out of memory.
-fn checked_by(
-    alloc: Global,
-    geo: &str,
-    columns: Vec<Column>,
-) -> Result<(Vec<Column>, Vec<GeoFinding>), AllocError>
-    ensures columns { IfOk result (λ p. AreGeoColumns geo.now (map column_tree columns.items) (map column_tree p.0.items)) }
-    ensures findings { IfOk result (λ p. AreFindings geo.now (map column_tree columns.items) p.1.items) }
-{
     let findings = check_geo(alloc, geo, columns.as_slice())?;
     let made = geo_columns(alloc, geo, columns)?;
-    Ok((made, findings))
+    Ok(Checked {
+        columns: made,
+        findings: Some(findings),
+    })
 }
 
 /// Whether a check does not hold.
@@ -107,21 +84,19 @@ fn with_warning(alloc: Global, report: Report, file: Option<&str>) -> Result<Rep
     Ok(report)
 }
 
-/// The report of a Parquet file, whose footer is read, with these columns, within a limit of its
-/// bytes.
+/// The report of a Parquet file with these columns and that text of GeoParquet metadata, within a
+/// limit of its bytes.
 pub(crate) fn parquet_report(
     alloc: Global,
     file: Option<&str>,
-    end: &[u8],
+    geo: Option<&str>,
     columns: Vec<Column>,
     options: Options,
     limit: u128,
 ) -> Result<Report, FileFault>
-    ensures { ParquetReports (text_of file.entry) options limit (footer_in end.now) (map column_tree columns.items) result }
+    ensures { ParquetReports (text_of file.entry) options limit (text_of geo.entry) (map column_tree columns.items) result }
 {
-    let Ok(checked) = checked_columns(alloc, end, columns) else {
-        return Err(FileFault::OutOfMemory);
-    };
+    let checked = checked_columns(alloc, geo, columns)?;
     match report_columns(alloc, file, checked.columns.as_slice(), options, limit) {
         Ok(report) => within(
             with_findings(alloc, report, file, &checked.findings)?,

@@ -1,20 +1,17 @@
 //! The report of a file.
 ghost use Rattle.std.specs.Prelude.{◌≡◌, ◌<◌, ◌≤◌, ◌||◌, ◌++◌, [], ◌∷◌, length, Ok, Err, IfOk, OnOk, MatchBool, MatchResult, map, string_bytes};
-ghost use Rattle.column_files.specs.Files.{IsFileRead};
-ghost use Rattle.column_files.specs.Forms.{IsForm};
-ghost use Rattle.column_files.specs.declared.form.Form.{Form as FileForm};
 ghost use Rattle.arrow_values.specs.Tree.{Text};
 ghost use Rattle.arrow_values.specs.Texts.{text_of};
 ghost use Rattle.arrow_columns.specs.Column.{column_tree};
 ghost use Rattle.column_check.specs.Finding.{IsFinding};
 ghost use Rattle.column_check.specs.States.{is_invalid, is_geometry};
 ghost use Rattle.column_check.specs.declared.finding.Finding.{Finding};
-ghost use Rattle.file_reports.specs.Report.{line_feed, IsLineOf, IsWithin, ReportsOf, ReportsIn, Reports};
+ghost use Rattle.file_reports.specs.Report.{line_feed, IsLineOf, IsWithin, ReportsOf, ReportsOpened, Reports};
 
 use crate::checks::parquet_report;
 use arrow_columns::Column;
 use column_check::{Finding, check_column, warnings};
-use column_files::{FileFault, Form, columns_of, form_of};
+use column_files::{File, FileFault, Form, open};
 use column_reports::json_line;
 use json::Scratch;
 use parquet_columns::report_budget;
@@ -49,7 +46,7 @@ pub struct Report {
 /// does not hold; or, where it has no such metadata and a column holds geometries, the line of a
 /// warning. `file` is the name that the lines give the file, if any.
 ///
-/// Errs as `columns_in` of `column_files` does; and with `ReportTooLarge` where the lines have more
+/// Errs as `open` of `column_files` does; and with `ReportTooLarge` where the lines have more
 /// bytes than `report_budget` of the length of the file (docs/FORMAT.md, 2.5), as soon as those of
 /// the first columns have.
 ///
@@ -69,37 +66,26 @@ pub fn report_file(
 ) -> Result<Report, FileFault>
     ensures { Reports (text_of file.entry) options bytes.now result }
 {
-    let read = read_columns(alloc, bytes)?;
-    let (form, columns) = read;
-    report_in(alloc, form, file, bytes, columns, options)
-}
-
-/// The form of a file, and its columns.
-fn read_columns(alloc: Global, bytes: &[u8]) -> Result<(Form, Vec<Column>), FileFault>
-    ensures { MatchResult result (λ p. IsForm bytes.now p.0 × IsFileRead p.0 bytes.now (Ok p.1))
-        (λ fault. (form : FileForm) × IsForm bytes.now form × IsFileRead form bytes.now (Err fault)) }
-{
-    let form = form_of(bytes);
-    match columns_of(alloc, form, bytes) {
-        Ok(columns) => Ok((form, columns)),
+    let limit = report_budget(bytes.len());
+    match open(alloc, bytes) {
+        Ok(opened) => report_opened(alloc, file, opened, options, limit),
         Err(fault) => Err(fault),
     }
 }
 
-/// The report of a file in that form with these columns, within the budget of its bytes.
-fn report_in(
+/// The report of a file that was opened, within a limit of its bytes.
+fn report_opened(
     alloc: Global,
-    form: Form,
     file: Option<&str>,
-    bytes: &[u8],
-    columns: Vec<Column>,
+    opened: File<'_>,
     options: Options,
+    limit: u128,
 ) -> Result<Report, FileFault>
-    ensures { ReportsIn form (text_of file.entry) options bytes.now (map column_tree columns.items) result }
+    ensures { ReportsOpened (text_of file.entry) options limit opened.entry.form (text_of opened.entry.geo) (map column_tree opened.entry.columns.items) result }
 {
-    let limit = report_budget(bytes.len());
+    let File { form, columns, geo } = opened;
     match form {
-        Form::Parquet => parquet_report(alloc, file, bytes, columns, options, limit),
+        Form::Parquet => parquet_report(alloc, file, geo, columns, options, limit),
         Form::ArrowFile | Form::ArrowStream | Form::Lines => {
             report_columns(alloc, file, columns.as_slice(), options, limit)
         }

@@ -2,9 +2,7 @@
 //! hexadecimal digits.
 use arrow_columns::Column;
 use arrow_ipc::IpcError;
-use parquet_columns::{
-    ColumnsError, Fault, SchemaError, columns_of, columns_of_file, value_in_file,
-};
+use parquet_columns::{ColumnsError, Fault, FileColumns, SchemaError, columns_of, read_file};
 use parquet_footer::{
     Footer, FooterError, KeyValue, LogicalType, SchemaElement, footer_length, read_footer,
 };
@@ -31,9 +29,9 @@ fn answer_bytes(it: &mut Asked<'_>, bytes: &[u8], key: &str) {
     match it.command {
         "value_in_file" => {
             it.before();
-            let found = ManuallyDrop::new(value_in_file(it.alloc, bytes, key));
+            let read = ManuallyDrop::new(read_file(it.alloc, bytes, key));
             it.after();
-            say_value(&mut it.said, &found);
+            say_value(&mut it.said, &read);
         }
         "read_footer" => {
             it.before();
@@ -43,9 +41,9 @@ fn answer_bytes(it: &mut Asked<'_>, bytes: &[u8], key: &str) {
         }
         "columns_of_file" => {
             it.before();
-            let made = ManuallyDrop::new(columns_of_file(it.alloc, bytes));
+            let read = ManuallyDrop::new(read_file(it.alloc, bytes, key));
             it.after();
-            say_file(&mut it.said, &made);
+            say_file(&mut it.said, &read);
         }
         "footer_length" => match bytes.first_chunk::<8>() {
             Some(tail) => {
@@ -196,21 +194,23 @@ fn say_named_columns(said: &mut Said, columns: &[Column]) {
 }
 
 /// Says the columns of a file, or why there are none; out of memory is no answer.
-fn say_file(said: &mut Said, made: &Result<Vec<Column>, SchemaError>) {
-    match made {
-        Ok(columns) => say_named_columns(said, columns.as_slice()),
+fn say_file(said: &mut Said, read: &Result<FileColumns<'_>, SchemaError>) {
+    match read {
+        Ok(read) => say_named_columns(said, read.columns.as_slice()),
         Err(error) => say_fault(said, error),
     }
 }
 
 /// Says the value of a key behind `=`, or a dash; or why there is none.
-fn say_value(said: &mut Said, found: &Result<Option<&str>, SchemaError>) {
-    match found {
-        Ok(Some(value)) => {
-            said.push("=");
-            said.push(value);
-        }
-        Ok(None) => said.push("-"),
+fn say_value(said: &mut Said, read: &Result<FileColumns<'_>, SchemaError>) {
+    match read {
+        Ok(read) => match read.value {
+            Some(value) => {
+                said.push("=");
+                said.push(value);
+            }
+            None => said.push("-"),
+        },
         Err(error) => say_fault(said, error),
     }
 }

@@ -4,7 +4,7 @@
 //! `columns_of_end` those of the end of an Arrow file, behind the number of bytes before it, and
 //! under `crs` a metadata text.
 use column_check::{Finding, check_column, read_metadata, warnings};
-use column_files::{FileFault, Form, columns_in, columns_of_end};
+use column_files::{FileFault, Form, open, open_end};
 use column_reports::{reason_words, warning_words};
 use file_reports::{Options, report_file};
 use json::Scratch;
@@ -53,8 +53,8 @@ fn end(it: &mut Asked<'_>) {
     let (start, digits) = it.text.split_once(' ').unwrap_or(("", it.text));
     match (start.parse::<u64>(), hex::decode(it.alloc, digits)) {
         (Ok(start), Ok(end)) => {
-            match columns_of_end(it.alloc, Form::ArrowFile, start, end.as_slice()) {
-                Ok(columns) => it.said.shown(&columns.len()),
+            match open_end(it.alloc, Form::ArrowFile, start, end.as_slice()) {
+                Ok(opened) => it.said.shown(&opened.columns.len()),
                 Err(fault) => say_fault(it, &fault),
             }
         }
@@ -92,8 +92,8 @@ fn report(it: &mut Asked<'_>, bytes: &[u8], infer: bool, notes: bool) {
 
 /// The reasons of the first column that some lines denote, in words; none where it is not invalid.
 fn reasons_of(alloc: Global, text: &str) -> Result<Vec<String>, FileFault> {
-    let columns = columns_in(alloc, text.as_bytes())?;
-    let Some(column) = columns.as_slice().first() else {
+    let opened = open(alloc, text.as_bytes())?;
+    let Some(column) = opened.columns.as_slice().first() else {
         return Ok(Vec::new(alloc));
     };
     match check_column(alloc, &mut Scratch::new(alloc), column, false)? {
@@ -104,8 +104,8 @@ fn reasons_of(alloc: Global, text: &str) -> Result<Vec<String>, FileFault> {
 
 /// The warnings of the first column that some lines denote, in words.
 fn warnings_of(alloc: Global, text: &str) -> Result<Vec<String>, FileFault> {
-    let columns = columns_in(alloc, text.as_bytes())?;
-    let Some(column) = columns.as_slice().first() else {
+    let opened = open(alloc, text.as_bytes())?;
+    let Some(column) = opened.columns.as_slice().first() else {
         return Ok(Vec::new(alloc));
     };
     let finding = check_column(alloc, &mut Scratch::new(alloc), column, false)?;

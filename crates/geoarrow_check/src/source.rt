@@ -2,7 +2,7 @@
 
 use crate::report::Report;
 use column_files::{
-    FileEnd, FileFault, Form, LineColumns, ReadFault, columns_of_end, form_of, read_head,
+    FileEnd, FileFault, Form, LineColumns, ReadFault, form_of, open_end, read_head,
     read_schema_bytes, read_schema_end,
 };
 use file_reports::checked_columns;
@@ -90,11 +90,11 @@ fn report_lines<R: Read + Drop>(
 fn report_schema(rt: &HostRuntime, form: Form, end: &FileEnd, report: &mut Report<'_>) -> Reported {
     let bytes = end.bytes.as_slice();
     report.begin_schema(form, bytes.len());
-    let columns = columns_of_end(rt.alloc(), form, end.start, bytes)?;
+    let opened = open_end(rt.alloc(), form, end.start, bytes)?;
     if !matches!(form, Form::Parquet) {
-        return report.add_all(rt, columns);
+        return report.add_all(rt, opened.columns);
     }
-    let checked = checked_columns(rt.alloc(), bytes, columns).map_err(FileFault::Parquet)?;
+    let checked = checked_columns(rt.alloc(), opened.geo, opened.columns)?;
     report.add_all(rt, checked.columns)?;
     Ok(report.add_checks(rt.alloc(), &checked.findings)?)
 }
