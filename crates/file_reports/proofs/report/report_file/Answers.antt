@@ -1,4 +1,4 @@
-use Rattle.std.proofs.Common.{map, inl, rules}
+use Rattle.std.proofs.Common.{map, rules}
 use Rattle.arrow_values.specs.Texts.{text_of}
 use Rattle.arrow_columns.specs.Column.{column_tree}
 use Rattle.file_reports.specs.Report.{ReportsIn}
