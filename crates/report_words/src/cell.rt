@@ -24,7 +24,7 @@ pub(crate) fn width(text: &str) -> usize
 ///
 /// ```rust
 /// let type_words = "struct<x: float64 not null, y: float64 not null>";
-/// let cell = crate::cut(alloc, type_words)?;
+/// let cell = report_words::cut(alloc, type_words)?;
 /// assert_eq!(rt; cell.as_str(), "struct<x: float64 not null, y: float64..");
 /// ```
 pub fn cut(alloc: Global, text: &str) -> Result<String, AllocError>
