@@ -71,19 +71,19 @@ pub fn json_line(
     scratch: &mut Scratch,
     file: Option<&str>,
     index: usize,
-    column: &ColumnReport,
+    said: &ColumnReport,
 ) -> Result<String, AllocError>
-    ensures text { IfOk result (λ text. string_bytes text ≡ print (json_tokens (report (text_of file.entry) index column.now))) }
+    ensures text { IfOk result (λ text. string_bytes text ≡ print (json_tokens (report (text_of file.entry) index said.now))) }
     ensures one_line { IfOk result (λ text. All (λ b. b ≢ 10) (string_bytes text)) }
 {
-    let geometry = column.finding.geometry();
-    let type_word = type_word(alloc, &column.column, geometry)?;
+    let geometry = said.finding.geometry();
+    let type_word = type_word(alloc, &said.column, geometry)?;
     let mut out = Writer::new(Vec::with_capacity(alloc, LINE_ROOM)?);
     out.begin_object()?;
-    put_text(&mut out, "column", column.column.name.as_str())?;
+    put_text(&mut out, "column", said.column.name.as_str())?;
     put_crs(&mut out, scratch, geometry)?;
-    put_names(&mut out, geometry, &column.column, file)?;
-    put_found(&mut out, index, column, type_word.as_str())?;
+    put_names(&mut out, geometry, &said.column, file)?;
+    put_found(&mut out, index, said, type_word.as_str())?;
     out.end_object()?;
     Ok(text_of(out))
 }
@@ -122,14 +122,14 @@ fn put_names(
 fn put_found(
     out: &mut Writer,
     index: usize,
-    column: &ColumnReport,
+    said: &ColumnReport,
     word: &str,
 ) -> Result<(), AllocError>
-    ensures { OnOk result (AddsMembers (found_of index column.now.finding word.now column.now.warnings.items) out.old out.new) }
+    ensures { OnOk result (AddsMembers (found_of index said.now.finding word.now said.now.warnings.items) out.old out.new) }
 {
     put_number(out, "index", index)?;
-    put_reasons(out, &column.finding)?;
-    put_text(out, "state", state_word(&column.finding))?;
+    put_reasons(out, &said.finding)?;
+    put_text(out, "state", state_word(&said.finding))?;
     put_text(out, "type", word)?;
-    put_warnings(out, column.warnings.as_slice())
+    put_warnings(out, said.warnings.as_slice())
 }

@@ -50,9 +50,9 @@ impl Summary {
         self.has_failed = has_failed | self.has_failed;
     }
 
-    /// Returns the status of a file that is reported to its end (`docs/USE.md`): 1 where a column is
-    /// invalid, where a check does not hold, or where what is asked of the file is not met, and else
-    /// 0.
+    /// Returns the status of a file that is reported to its end (`docs/FORMAT.md`, 2.7): 1 where a
+    /// column is invalid, where a check does not hold, or where what is asked of the file is not met,
+    /// and else 0.
     ///
     /// ```rust
     /// let mut summary = Summary::new();

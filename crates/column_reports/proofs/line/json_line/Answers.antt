@@ -20,7 +20,7 @@ text_of-requires c =
 
 pub returns : goal.returns
 returns c =
-    let said = c.args.column.now in
+    let said = c.args.said.now in
     let tree = column_tree said.column in
     let f = said.finding in
     let ws = said.warnings.items in
