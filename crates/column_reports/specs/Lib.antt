@@ -1,4 +1,6 @@
+pub mod Columns
 pub mod Objects
 pub mod Reasons
 pub mod Report
+pub mod Summary
 pub mod Warnings

@@ -2,7 +2,7 @@
 use Rattle.std.specs.Prelude.{ℕ, List, ◌++◌, codes, decimal, Option, None, Some, option_map}
 use Rattle.json.specs.Json.{Json, number, string}
 use Rattle.arrow_values.specs.Tree.{Text}
-use Rattle.arrow_columns.specs.Column.{ColumnTree, name_on}
+use Rattle.arrow_columns.specs.Column.{ColumnTree, column_tree, name_on}
 use Rattle.arrow_columns.specs.Notation.{type_text}
 use Rattle.geoarrow_meta.specs.declared.edges.Edges.{Edges}
 use Rattle.geoarrow_meta.specs.Read.{edges_text, crs_type_text}
@@ -17,6 +17,7 @@ use Rattle.column_check.specs.declared.warning.Warning.{Warning}
 use Rattle.column_reports.specs.Objects.{array_of, object_of, member_if}
 use Rattle.column_reports.specs.Reasons.{reasons_of}
 use Rattle.column_reports.specs.Warnings.{warnings_in}
+use Rattle.column_reports.specs.declared.report.ColumnReport.{ColumnReport}
 
 abbrev pub state_word : ColumnFinding → Text
 state_word (Geometry g) = codes "geometry"
@@ -85,5 +86,5 @@ members_of file index c f ws =
     ++ found_of index f (type_word c (geometry_in f)) ws
 
 -- the report: the file, where it is named, the place of the column, the column, what is said of it, and its warnings
-abbrev pub report : Option Text → ℕ → ColumnTree → ColumnFinding → List Warning → Json
-report file index c f ws = object_of (members_of file index c f ws)
+abbrev pub report : Option Text → ℕ → ColumnReport → Json
+report file index r = object_of (members_of file index (column_tree r.column) r.finding r.warnings.items)

@@ -9,10 +9,11 @@ ghost use Rattle.column_reports.specs.Report.{crs_of, names_of, found_of, report
 
 use crate::put::{put_number, put_text, put_text_if};
 use crate::reasons::put_reasons;
+use crate::report::ColumnReport;
 use crate::warnings::put_warnings;
 use crate::words::{crs_of, crs_type_of, edges_of, state_word, type_word};
 use arrow_columns::Column;
-use column_check::{Finding, Geometry, Warning};
+use column_check::Geometry;
 use json::{Scratch, Writer};
 use std::alloc::{AllocError, Global};
 use value_tokens::text_of;
@@ -21,8 +22,8 @@ use value_tokens::text_of;
 const LINE_ROOM: usize = 512;
 
 /// Returns the report of one column as a line of JSON, without a line feed and without blanks
-/// between its parts (`docs/FORMAT.md`, 2.5): what `finding` and `warnings` say of the column, with
-/// the name of the file, where one is given, and the place of the column in its schema, from 0.
+/// between its parts (`docs/FORMAT.md`, 2.5), with the name of the file, where one is given, and the
+/// place of the column in its schema, from 0.
 ///
 /// The member `crs` is the value of the CRS with its digits, the order of its members and repeated
 /// members as in the metadata, without blanks. It is left out of a column that is not found to hold
@@ -37,7 +38,9 @@ const LINE_ROOM: usize = 512;
 ///     metadata: BTreeMap::new(alloc),
 /// };
 /// let mut scratch = Scratch::new(alloc);
-/// let line = json_line(alloc, &mut scratch, None, 3, &column, &Finding::Plain, &[])?;
+/// let finding = Finding::Plain;
+/// let report = ColumnReport { column, finding, warnings: Vec::new(alloc) };
+/// let line = json_line(alloc, &mut scratch, None, 3, &report)?;
 /// assert_eq!(rt; line.as_str(), r#"{"column":"geom","index":3,"state":"plain","type":"int64"}"#);
 ///
 /// let text = r#"{"crs": {"id": 1.50, "id": [2]}, "crs_type": "projjson"}"#;
@@ -45,18 +48,22 @@ const LINE_ROOM: usize = 512;
 /// let Ok(metadata) = metadata else { return Ok(()); };
 /// let kind = Kind::Native(NativeKind::Point, CoordType::Separated, Dimension::XY);
 /// let finding = Finding::Geometry(Geometry { kind, metadata });
-/// let line = json_line(alloc, &mut scratch, Some("a.arrow"), 0, &column, &finding, &[])?;
+/// let report = ColumnReport { column: report.column, finding, warnings: Vec::new(alloc) };
+/// let line = json_line(alloc, &mut scratch, Some("a.arrow"), 0, &report)?;
 /// assert_eq!(rt; line.as_str(), r#"{"column":"geom","crs":{"id":1.50,"id":[2]},"crs_type":"projjson","edges":"planar","file":"a.arrow","index":0,"state":"geometry","type":"point separated XY"}"#);
 ///
 /// let path = vec![in alloc; String::from_str(alloc, "x\ny")?]?;
 /// let fault = TypeFault::Layout(LayoutFault::BadSize, path);
 /// let finding = Finding::Invalid(Reasons::DataType(fault));
-/// let line = json_line(alloc, &mut scratch, None, 0, &column, &finding, &[])?;
+/// let report = ColumnReport { column: report.column, finding, warnings: Vec::new(alloc) };
+/// let line = json_line(alloc, &mut scratch, None, 0, &report)?;
 /// assert_eq!(rt; line.as_str(), r#"{"column":"geom","index":0,"reasons":[{"code":"BadSize","message":"list size differs from the field name","path":["x\ny"]}],"state":"invalid","type":"int64"}"#);
 ///
 /// let path = vec![in alloc; String::from_str(alloc, "child")?]?;
 /// let warning = Warning { code: WarningCode::NestedGeometry, path, more: 0 };
-/// let line = json_line(alloc, &mut scratch, None, 0, &column, &Finding::Extension, &[warning])?;
+/// let warnings = vec![in alloc; warning]?;
+/// let report = ColumnReport { column: report.column, finding: Finding::Extension, warnings };
+/// let line = json_line(alloc, &mut scratch, None, 0, &report)?;
 /// assert_eq!(rt; line.as_str(), r#"{"column":"geom","index":0,"state":"extension","type":"int64","warnings":[{"code":"NestedGeometry","message":"child field has a GeoArrow extension name","path":["child"]}]}"#);
 /// ```
 pub fn json_line(
@@ -64,21 +71,19 @@ pub fn json_line(
     scratch: &mut Scratch,
     file: Option<&str>,
     index: usize,
-    column: &Column,
-    finding: &Finding,
-    warnings: &[Warning],
+    said: &ColumnReport,
 ) -> Result<String, AllocError>
-    ensures text { IfOk result (λ text. string_bytes text ≡ print (json_tokens (report (text_of file.entry) index (column_tree column.now) finding.now warnings.now))) }
+    ensures text { IfOk result (λ text. string_bytes text ≡ print (json_tokens (report (text_of file.entry) index said.now))) }
     ensures one_line { IfOk result (λ text. All (λ b. b ≢ 10) (string_bytes text)) }
 {
-    let geometry = finding.geometry();
-    let type_word = type_word(alloc, column, geometry)?;
+    let geometry = said.finding.geometry();
+    let type_word = type_word(alloc, &said.column, geometry)?;
     let mut out = Writer::new(Vec::with_capacity(alloc, LINE_ROOM)?);
     out.begin_object()?;
-    put_text(&mut out, "column", column.name.as_str())?;
+    put_text(&mut out, "column", said.column.name.as_str())?;
     put_crs(&mut out, scratch, geometry)?;
-    put_names(&mut out, geometry, column, file)?;
-    put_found(&mut out, index, finding, type_word.as_str(), warnings)?;
+    put_names(&mut out, geometry, &said.column, file)?;
+    put_found(&mut out, index, said, type_word.as_str())?;
     out.end_object()?;
     Ok(text_of(out))
 }
@@ -117,15 +122,14 @@ fn put_names(
 fn put_found(
     out: &mut Writer,
     index: usize,
-    finding: &Finding,
+    said: &ColumnReport,
     word: &str,
-    warnings: &[Warning],
 ) -> Result<(), AllocError>
-    ensures { OnOk result (AddsMembers (found_of index finding.now word.now warnings.now) out.old out.new) }
+    ensures { OnOk result (AddsMembers (found_of index said.now.finding word.now said.now.warnings.items) out.old out.new) }
 {
     put_number(out, "index", index)?;
-    put_reasons(out, finding)?;
-    put_text(out, "state", state_word(finding))?;
+    put_reasons(out, &said.finding)?;
+    put_text(out, "state", state_word(&said.finding))?;
     put_text(out, "type", word)?;
-    put_warnings(out, warnings)
+    put_warnings(out, said.warnings.as_slice())
 }

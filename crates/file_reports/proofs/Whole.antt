@@ -6,11 +6,11 @@ use Rattle.arrow_columns.specs.Column.{ColumnTree, column_tree}
 use Rattle.column_files.specs.Files.{IsOpened}
 use Rattle.column_files.specs.declared.opening.File.{File}
 use Rattle.column_files.specs.declared.columns.FileFault.{FileFault}
+use Rattle.column_reports.specs.declared.report.Options.{Options}
 use Rattle.parquet_columns.specs.Budget.{budget}
 use Rattle.file_reports.specs.Checks.{AreChecked}
 use Rattle.file_reports.specs.Report.{ArePast, IsUnreported, IsWithin, IsParquetReport, IsParquetPast, ParquetReports, ReportsOpened, Reports}
 use Rattle.file_reports.specs.declared.checks.Checked.{Checked}
-use Rattle.file_reports.specs.declared.report.Options.{Options}
 use Rattle.file_reports.specs.declared.report.Report.{Report}
 
 pub whole : (file : Option Text) (o : Options) (bytes : List ℕ) (opened : File) (r : Result Report FileFault) → IsOpened bytes (Ok opened)

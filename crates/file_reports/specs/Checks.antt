@@ -1,5 +1,5 @@
 -- A Parquet file's GeoParquet metadata: the columns that the file has by them, their checks, and what its report says of them.
-use Rattle.std.specs.Prelude.{◌≡◌, ◌++◌, Bool, false, not, List, [], ◌∷◌, map, Option, None, Some, string_bytes, if◌then◌else◌}
+use Rattle.std.specs.Prelude.{◌≡◌, ◌++◌, ◌||◌, Bool, false, not, List, [], ◌∷◌, map, Option, None, Some, string_bytes, if◌then◌else◌}
 use Rattle.std.specs.List.{list_any}
 use Rattle.std.specs.declared.vec.Vec.{Vec}
 use Rattle.std.specs.declared.alloc.Global.{Global}
@@ -26,12 +26,12 @@ AreChecked geo cs checked = AreByMetadata geo cs checked.findings (map column_tr
 abbrev pub is_failed : GeoFinding → Bool
 is_failed f = not f.ok
 
--- a report with that text behind its lines, which says that a check does not hold or that none is known not to; all else of it is as it was
+-- a report with that text behind its lines, which says that a check does not hold or that none more is known not to; all else of it is as it was
 pub record AddsText (text : Text) (has_failed : Bool) (old new : FileReport) : Type 0 where
   pub lines : string_bytes new.lines ≡ string_bytes old.lines ++ text
-  pub invalid : new.has_invalid ≡ old.has_invalid
-  pub geometry : new.has_geometry ≡ old.has_geometry
-  pub failed : new.has_failed ≡ has_failed
+  pub invalid : new.summary.has_invalid ≡ old.summary.has_invalid
+  pub geometry : new.summary.has_geometry ≡ old.summary.has_geometry
+  pub failed : new.summary.has_failed ≡ (has_failed || old.summary.has_failed)
 
 -- the line of the warning where a column holds geometries, with its line feed
 abbrev pub warning_text : Option Text → Bool → Text
@@ -40,5 +40,5 @@ warning_text file has_geometry = if has_geometry then no_geo_text file ++ 10 ∷
 -- the report of a Parquet file from that of its columns: behind the lines of these stand those of the checks that do not hold; or, where the file
 -- has no such metadata, the warning
 abbrev pub AddsFindings : Option Text → Option (Vec GeoFinding Global) → FileReport → FileReport → Type 0
-AddsFindings file None old new = AddsText (warning_text file old.has_geometry) old.has_failed old new
+AddsFindings file None old new = AddsText (warning_text file old.summary.has_geometry) false old new
 AddsFindings file (Some findings) old new = AddsText (lines_text file false findings.items) (list_any is_failed findings.items) old new

@@ -1,50 +1,57 @@
 -- The report of a file: a line of JSON for each of its columns.
-use Rattle.std.specs.Prelude.{◌≡◌, ◌⊎◌, ◌<◌, ◌≤◌, ◌+◌, ◌++◌, ℕ, Bool, false, List, [], ◌∷◌, length, map, Option, Result, Ok, Err, string_bytes}
-use Rattle.std.specs.List.{list_any}
+use Rattle.std.specs.Prelude.{◌≡◌, ◌⊎◌, ◌<◌, ◌≤◌, ◌+◌, ◌++◌, ◌||◌, ℕ, ⊤, false, List, [], ◌∷◌, length, map, Option, Result, Ok, Err, string_bytes}
 use Rattle.json.specs.Print.{print}
 use Rattle.json.specs.Tree.{json_tokens}
 use Rattle.arrow_values.specs.Tree.{Text}
 use Rattle.arrow_values.specs.Texts.{text_of}
 use Rattle.arrow_columns.specs.Column.{ColumnTree, column_tree}
-use Rattle.column_check.specs.Finding.{IsFinding}
-use Rattle.column_check.specs.declared.finding.Finding.{Finding}
 use Rattle.column_check.specs.States.{is_invalid, is_geometry}
-use Rattle.column_check.specs.Warnings.{AreWarnings}
-use Rattle.column_check.specs.declared.warning.Warning.{Warning}
 use Rattle.column_files.specs.Files.{IsOpened}
 use Rattle.column_files.specs.declared.form.Form.{Form}
 use Rattle.column_files.specs.declared.form.Form.TheVariants.{Parquet}
 use Rattle.column_files.specs.declared.opening.File.{File}
 use Rattle.column_files.specs.declared.columns.FileFault.{FileFault}
 use Rattle.column_files.specs.declared.columns.FileFault.TheVariants.{ReportTooLarge, OutOfMemory}
-use Rattle.column_reports.specs.Report.{report as report_of}
+use Rattle.column_reports.specs.Columns.{IsColumnReport}
+use Rattle.column_reports.specs.Report.{report}
+use Rattle.column_reports.specs.Summary.{IsSummary}
+use Rattle.column_reports.specs.declared.report.ColumnReport.{ColumnReport}
+use Rattle.column_reports.specs.declared.report.Options.{Options}
 use Rattle.parquet_columns.specs.Budget.{budget}
 use Rattle.file_reports.specs.Checks.{AreChecked, AddsFindings}
 use Rattle.file_reports.specs.declared.checks.Checked.{Checked}
-use Rattle.file_reports.specs.declared.report.Options.{Options}
 use Rattle.file_reports.specs.declared.report.Report.{Report as FileReport}
 
 abbrev pub line_feed : ℕ
 line_feed = 10
 
--- the line of a column: its place, the column itself, what is said of it, and its warnings, with the notes or without them
-abbrev pub IsLineOf : Option Text → Bool → ℕ → ColumnTree → Finding → Text → Type 0
-IsLineOf file notes index c f line = (ws : List Warning) × AreWarnings notes c f ws × (line ≡ print (json_tokens (report_of file index c f ws)))
+-- each of the columns has its report
+abbrev pub AreReported : Options → List ColumnTree → List ColumnReport → Type 0
+AreReported o [] [] = ⊤
+AreReported o (c ∷ cs) (r ∷ rs) = IsColumnReport o c r × AreReported o cs rs
+AreReported o _ _ = ⊥
 
--- what is said of each of the columns, from a place on, and the lines of all, each with its line feed
-abbrev pub AreReported : Option Text → Options → ℕ → List ColumnTree → List Finding → Text → Type 0
-AreReported file o index [] [] text = text ≡ []
-AreReported file o index (c ∷ cs) (f ∷ fs) text =
-    (line : Text) × (rest : Text) × IsFinding o.infer c f × IsLineOf file o.notes index c f line × (text ≡ line ++ (line_feed ∷ rest)) × AreReported file o (index + 1) cs fs rest
-AreReported file o index _ _ text = ⊥
+-- the line of a column at that place, and those of columns from a place on, each with its line feed
+abbrev pub line_of : Option Text → ℕ → ColumnReport → Text
+line_of file index r = print (json_tokens (report file index r)) ++ (line_feed ∷ [])
 
--- the report of columns: the lines of all, whether one is invalid, and whether one holds geometries; no check of them fails
+abbrev pub lines_of : Option Text → ℕ → List ColumnReport → Text
+lines_of file index [] = []
+lines_of file index (r ∷ rs) = line_of file index r ++ lines_of file (index + 1) rs
+
+-- the report of columns: the lines of all, and what counts of them; no check of them fails
 pub record IsReportOf (file : Option Text) (o : Options) (cs : List ColumnTree) (report : FileReport) : Type 0 where
-  pub findings : List Finding
-  pub lines : AreReported file o 0 cs findings (string_bytes report.lines)
-  pub invalid : report.has_invalid ≡ list_any is_invalid findings
-  pub geometry : report.has_geometry ≡ list_any is_geometry findings
-  pub failed : report.has_failed ≡ false
+  pub columns : List ColumnReport
+  pub are : AreReported o cs columns
+  pub lines : string_bytes report.lines ≡ lines_of file 0 columns
+  pub summary : IsSummary columns false report.summary
+
+-- a report with the line of one more column at that place, and with what counts of it; for private contracts
+pub record AddsColumn (file : Option Text) (index : ℕ) (r : ColumnReport) (old new : FileReport) : Type 0 where
+  pub lines : string_bytes new.lines ≡ string_bytes old.lines ++ line_of file index r
+  pub invalid : new.summary.has_invalid ≡ (old.summary.has_invalid || is_invalid r.finding)
+  pub geometry : new.summary.has_geometry ≡ (old.summary.has_geometry || is_geometry r.finding)
+  pub failed : new.summary.has_failed ≡ old.summary.has_failed
 
 -- the report of a Parquet file with that text of GeoParquet metadata and these columns: that of the columns which it has by the text, with the checks of these or
 -- the warning

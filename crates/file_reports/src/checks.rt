@@ -7,9 +7,10 @@ ghost use Rattle.geoparquet.specs.Lines.{lines_text};
 ghost use Rattle.file_reports.specs.Checks.{is_failed, AreChecked, AddsText, AddsFindings, warning_text};
 ghost use Rattle.file_reports.specs.Report.{ParquetReports};
 
-use crate::report::{Options, Report, push_line, report_columns, within};
+use crate::report::{Report, push_line, report_columns, within};
 use arrow_columns::Column;
 use column_files::FileFault;
+use column_reports::Options;
 use geoparquet::{GeoFinding, check_geo, check_lines, geo_columns, no_geo_line};
 use std::alloc::{AllocError, Global};
 
@@ -67,17 +68,17 @@ fn with_lines(
     let mut report = report;
     let lines = check_lines(alloc, file, findings, false)?;
     report.lines.push_str(lines.as_str())?;
-    report.has_failed = has_failed(findings);
+    report.summary.add_checks(has_failed(findings));
     Ok(report)
 }
 
 /// The report of a file without GeoParquet metadata, with the line of the warning behind its own where a column holds geometries. Errs only when out of
 /// memory.
 fn with_warning(alloc: Global, report: Report, file: Option<&str>) -> Result<Report, AllocError>
-    ensures { IfOk result (AddsText (warning_text (text_of file.entry) report.has_geometry) report.has_failed report) }
+    ensures { IfOk result (AddsText (warning_text (text_of file.entry) report.summary.has_geometry) false report) }
 {
     let mut report = report;
-    if report.has_geometry {
+    if report.summary.has_geometry {
         let line = no_geo_line(alloc, file)?;
         push_line(&mut report.lines, line.as_str())?;
     }
@@ -97,7 +98,7 @@ pub(crate) fn parquet_report(
     ensures { ParquetReports (text_of file.entry) options limit (text_of geo.entry) (map column_tree columns.items) result }
 {
     let checked = checked_columns(alloc, geo, columns)?;
-    match report_columns(alloc, file, checked.columns.as_slice(), options, limit) {
+    match report_columns(alloc, file, checked.columns, options, limit) {
         Ok(report) => within(
             with_findings(alloc, report, file, &checked.findings)?,
             limit,

@@ -6,5 +6,6 @@ mod checks;
 mod report;
 
 pub use checks::{Checked, checked_columns};
+pub use column_reports::Options;
 pub use parquet_columns::report_budget;
-pub use report::{Options, Report, column_line_of, report_columns, report_file};
+pub use report::{Report, report_columns, report_file};

@@ -1,30 +1,16 @@
 //! The report of a file.
-ghost use Rattle.std.specs.Prelude.{◌≡◌, ◌<◌, ◌≤◌, ◌||◌, ◌++◌, [], ◌∷◌, length, Ok, Err, IfOk, OnOk, MatchBool, MatchResult, map, string_bytes};
-ghost use Rattle.arrow_values.specs.Tree.{Text};
+ghost use Rattle.std.specs.Prelude.{◌≡◌, ◌<◌, ◌≤◌, ◌++◌, [], ◌∷◌, length, Ok, Err, OnOk, MatchBool, MatchResult, map, string_bytes};
 ghost use Rattle.arrow_values.specs.Texts.{text_of};
 ghost use Rattle.arrow_columns.specs.Column.{column_tree};
-ghost use Rattle.column_check.specs.Finding.{IsFinding};
-ghost use Rattle.column_check.specs.States.{is_invalid, is_geometry};
-ghost use Rattle.column_check.specs.declared.finding.Finding.{Finding};
-ghost use Rattle.file_reports.specs.Report.{line_feed, IsLineOf, IsWithin, ReportsOf, ReportsOpened, Reports};
+ghost use Rattle.file_reports.specs.Report.{line_feed, AddsColumn, IsWithin, ReportsOf, ReportsOpened, Reports};
 
 use crate::checks::parquet_report;
 use arrow_columns::Column;
-use column_check::{Finding, check_column, warnings};
 use column_files::{File, FileFault, Form, open};
-use column_reports::json_line;
+use column_reports::{ColumnReport, Options, Summary, json_line, report_column};
 use json::Scratch;
 use parquet_columns::report_budget;
 use std::alloc::{AllocError, Global};
-
-/// What is asked of a report.
-#[derive(Debug, Clone, Copy)]
-pub struct Options {
-    /// Whether a column without an extension name is taken for what is inferred from its data type.
-    pub infer: bool,
-    /// Whether the notes stand among the warnings (docs/FORMAT.md, 2.6).
-    pub notes: bool,
-}
 
 /// The report of a file.
 #[derive(Debug, Drop)]
@@ -32,12 +18,8 @@ pub struct Report {
     /// A line of JSON for each column (docs/FORMAT.md, 2.5), and behind them one for each check of GeoParquet metadata that does not hold, or one for the
     /// warning (docs/FORMAT.md, 5.1), each with its line feed.
     pub lines: String,
-    /// Whether a column is invalid.
-    pub has_invalid: bool,
-    /// Whether a column holds geometries by its extension name: its state is `geometry`, and not `inferred`.
-    pub has_geometry: bool,
-    /// Whether a check of GeoParquet metadata does not hold.
-    pub has_failed: bool,
+    /// What counts of the columns and of the checks.
+    pub summary: Summary,
 }
 
 /// Returns the report of a file, from its bytes: what each of its columns holds and what is
@@ -56,7 +38,7 @@ pub struct Report {
 /// let Ok(report) = report else { return Ok(()); };
 /// let line = "{\"column\":\"id\",\"index\":0,\"state\":\"plain\",\"type\":\"int64\"}\n";
 /// assert_eq!(rt; report.lines.as_str(), line);
-/// assert!(rt; !report.has_invalid);
+/// assert!(rt; !report.summary.has_invalid);
 /// ```
 pub fn report_file(
     alloc: Global,
@@ -87,7 +69,7 @@ fn report_opened(
     match form {
         Form::Parquet => parquet_report(alloc, file, geo, columns, options, limit),
         Form::ArrowFile | Form::ArrowStream | Form::Lines => {
-            report_columns(alloc, file, columns.as_slice(), options, limit)
+            report_columns(alloc, file, columns, options, limit)
         }
     }
 }
@@ -98,32 +80,25 @@ fn report_opened(
 pub fn report_columns(
     alloc: Global,
     file: Option<&str>,
-    columns: &[Column],
+    columns: Vec<Column>,
     options: Options,
     limit: u128,
 ) -> Result<Report, FileFault>
-    ensures { ReportsOf (text_of file.entry) options limit (map column_tree columns.now) result }
+    ensures { ReportsOf (text_of file.entry) options limit (map column_tree columns.items) result }
 {
     let mut report = Report {
         lines: String::new(alloc),
-        has_invalid: false,
-        has_geometry: false,
-        has_failed: false,
+        summary: Summary::new(),
     };
     let mut scratch = Scratch::new(alloc);
-    for index in 0..columns.len() {
-        add_column(
-            alloc,
-            &mut scratch,
-            &mut report,
-            file,
-            index,
-            &columns[index],
-            options,
-        )?;
+    let mut index = 0_usize;
+    for column in columns {
+        let said = report_column(alloc, &mut scratch, column, options)?;
+        add_column(alloc, &mut scratch, &mut report, file, index, &said)?;
         if is_past(&report, limit) {
             return Err(FileFault::ReportTooLarge);
         }
+        index += 1;
     }
     Ok(report)
 }
@@ -145,28 +120,20 @@ pub(crate) fn within(report: Report, limit: u128) -> Result<Report, FileFault>
     Ok(report)
 }
 
-/// Adds the line of a column.
+/// Adds the line of a column, and what counts of it.
 fn add_column(
     alloc: Global,
     scratch: &mut Scratch,
     report: &mut Report,
     file: Option<&str>,
     index: usize,
-    column: &Column,
-    options: Options,
+    said: &ColumnReport,
 ) -> Result<(), AllocError>
-    ensures { OnOk result ((f : Finding) × (line : Text) × IsFinding options.infer (column_tree column.now) f
-        × IsLineOf (text_of file.entry) options.notes index (column_tree column.now) f line
-        × (string_bytes report.new.lines ≡ string_bytes report.old.lines ++ (line ++ (line_feed ∷ [])))
-        × (report.new.has_invalid ≡ (report.old.has_invalid || is_invalid f))
-        × (report.new.has_geometry ≡ (report.old.has_geometry || is_geometry f))
-        × (report.new.has_failed ≡ report.old.has_failed)) }
+    ensures { OnOk result (AddsColumn (text_of file.entry) index said.now report.old report.new) }
 {
-    let finding = check_column(alloc, scratch, column, options.infer)?;
-    let line = column_line_of(alloc, scratch, file, index, column, &finding, options.notes)?;
+    let line = json_line(alloc, scratch, file, index, said)?;
     push_line(&mut report.lines, line.as_str())?;
-    report.has_invalid = report.has_invalid | finding.is_invalid();
-    report.has_geometry = report.has_geometry | finding.is_geometry();
+    report.summary.add(&said.finding);
     Ok(())
 }
 
@@ -176,31 +143,4 @@ pub(crate) fn push_line(text: &mut String, line: &str) -> Result<(), AllocError>
 {
     text.push_str(line)?;
     text.push_str("\n")
-}
-
-/// Returns the line of JSON of a column at that place, of which that is said (docs/FORMAT.md, 2.5),
-/// with what is doubtful of it, and without a line feed. `file` is the name that the line gives the
-/// file, if any; with `notes` the notes stand among the warnings. The scratch buffer is kept by the
-/// caller from column to column. Errs only when out of memory.
-pub fn column_line_of(
-    alloc: Global,
-    scratch: &mut Scratch,
-    file: Option<&str>,
-    index: usize,
-    column: &Column,
-    finding: &Finding,
-    notes: bool,
-) -> Result<String, AllocError>
-    ensures { IfOk result (λ line. IsLineOf (text_of file.entry) notes index (column_tree column.now) finding.now (string_bytes line)) }
-{
-    let warnings = warnings(alloc, column, finding, notes)?;
-    json_line(
-        alloc,
-        scratch,
-        file,
-        index,
-        column,
-        finding,
-        warnings.as_slice(),
-    )
 }

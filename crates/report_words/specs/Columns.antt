@@ -1,16 +1,15 @@
 -- What is said of a column, as a row of a table.
-use Rattle.std.specs.Prelude.{◌≡◌, Bool, List, [], ◌++◌, codes, map, None, Some}
+use Rattle.std.specs.Prelude.{List, [], ◌++◌, codes, map, None, Some}
 use Rattle.std.specs.Option.{unwrap_or}
 use Rattle.arrow_values.specs.Tree.{Text}
-use Rattle.arrow_columns.specs.Column.{ColumnTree, name_on}
+use Rattle.arrow_columns.specs.Column.{ColumnTree, column_tree, name_on}
 use Rattle.column_check.specs.declared.finding.Finding.{Finding as ColumnFinding}
 use Rattle.column_check.specs.declared.finding.Finding.TheVariants.{Geometry, Invalid, Extension, Inferred, Plain}
-use Rattle.column_check.specs.declared.warning.Warning.{Warning}
 use Rattle.column_check.specs.States.{geometry_in}
-use Rattle.column_check.specs.Warnings.{AreWarnings}
 use Rattle.column_reports.specs.Reasons.{words_of}
 use Rattle.column_reports.specs.Report.{type_word, edges_of}
 use Rattle.column_reports.specs.Warnings.{warning_words}
+use Rattle.column_reports.specs.declared.report.ColumnReport.{ColumnReport}
 use Rattle.report_words.specs.Table.{Line, cut}
 use Rattle.report_words.specs.Crs.{crs_of_geometry}
 use Rattle.report_words.specs.Shown.{shown}
@@ -33,15 +32,11 @@ reasons_in (Invalid r) = words_of r
 reasons_in f = []
 
 -- the row: the column's name, what it holds, of geometries their CRS and edges, in cells that are cut; and as notes the reasons and the warnings
-abbrev pub row_of : ColumnTree → ColumnFinding → List Warning → Line
-row_of c f ws = record {
-  name = cut (shown c.name);
-  holds = cut (held c f);
-  crs = crs_of_geometry (geometry_in f);
-  edges = unwrap_or (edges_of (geometry_in f)) [];
-  notes = map shown (reasons_in f ++ map warning_words ws);
+abbrev pub row_of : ColumnReport → Line
+row_of r = record {
+  name = cut (shown (column_tree r.column).name);
+  holds = cut (held (column_tree r.column) r.finding);
+  crs = crs_of_geometry (geometry_in r.finding);
+  edges = unwrap_or (edges_of (geometry_in r.finding)) [];
+  notes = map shown (reasons_in r.finding ++ map warning_words r.warnings.items);
 }
-
--- the row with the warnings that the column has, where notes are asked for or not
-abbrev pub IsRowOf : Bool → ColumnTree → ColumnFinding → Line → Type 0
-IsRowOf notes c f row = (ws : List Warning) × AreWarnings notes c f ws × (row ≡ row_of c f ws)

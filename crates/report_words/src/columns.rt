@@ -6,7 +6,7 @@ ghost use Rattle.column_check.specs.States.{geometry_in};
 ghost use Rattle.column_reports.specs.Report.{edges_of};
 ghost use Rattle.column_reports.specs.Warnings.{warning_words};
 ghost use Rattle.report_words.specs.Table.{line_of, cut};
-ghost use Rattle.report_words.specs.Columns.{extension_word, held, reasons_in, IsRowOf};
+ghost use Rattle.report_words.specs.Columns.{extension_word, held, reasons_in, row_of};
 ghost use Rattle.report_words.specs.Crs.{crs_of_geometry};
 ghost use Rattle.report_words.specs.Shown.{shown};
 
@@ -15,30 +15,24 @@ use crate::crs::crs_name;
 use crate::table::Row;
 use crate::text::shown;
 use arrow_columns::Column;
-use column_check::{Finding, Geometry, Warning, warnings};
-use column_reports::{reason_words, type_word, warning_words};
+use column_check::{Finding, Geometry, Warning};
+use column_reports::{ColumnReport, reason_words, type_word, warning_words};
 use std::alloc::{AllocError, Global};
 
-/// Returns the row of a column, of which that is said: its name; the kind, coordinate type and
-/// dimension of geometries, or the type of another column, and `invalid` or `extension` with the
-/// extension name; the CRS and the edges of geometries; and below it the reasons and the warnings,
-/// with `notes` also those that are only to be noted (`docs/FORMAT.md`, 2.5 to 2.7). Cells are cut
-/// by [`cut`], and control characters are shown as `?`. Errs only when out of memory.
-pub fn row_of(
-    alloc: Global,
-    column: &Column,
-    finding: &Finding,
-    notes: bool,
-) -> Result<Row, AllocError>
-    ensures { IfOk result (λ row. IsRowOf notes (column_tree column.now) finding.now (line_of row)) }
+/// Returns the row of a column: its name; the kind, coordinate type and dimension of geometries, or
+/// the type of another column, and `invalid` or `extension` with the extension name; the CRS and the
+/// edges of geometries; and below it the reasons and the warnings (`docs/FORMAT.md`, 2.5 to 2.7).
+/// Cells are cut by [`cut`], and control characters are shown as `?`. Errs only when out of memory.
+pub fn row_of(alloc: Global, report: &ColumnReport) -> Result<Row, AllocError>
+    ensures { IfOk result (λ row. line_of row ≡ row_of report.now) }
 {
-    let warnings = warnings(alloc, column, finding, notes)?;
+    let finding = &report.finding;
     Ok(Row {
-        name: name_cell(alloc, column)?,
-        holds: held_cell(alloc, column, finding)?,
+        name: name_cell(alloc, &report.column)?,
+        holds: held_cell(alloc, &report.column, finding)?,
         crs: crs_of(alloc, finding.geometry())?,
         edges: edges_of(alloc, finding.geometry())?,
-        notes: notes_of(alloc, finding, warnings.as_slice())?,
+        notes: notes_of(alloc, finding, report.warnings.as_slice())?,
     })
 }
 

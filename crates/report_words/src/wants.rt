@@ -9,8 +9,8 @@ ghost use Rattle.arrow_columns.specs.Column.{column_tree};
 use crate::columns::crs_of;
 use crate::text::shown;
 use arrow_columns::Column;
-use column_check::{Finding, Geometry};
-use column_reports::type_word;
+use column_check::Geometry;
+use column_reports::{ColumnReport, type_word};
 use geoarrow_layout::{Kind, coord_type_word, dimension_word, kind_word};
 use std::alloc::{AllocError, Global};
 
@@ -24,19 +24,18 @@ pub enum Found {
 }
 
 impl Found {
-    /// Looks at one more column, of which that is said: where it is the first of the name, at what is expected of it. Errs only when out of memory.
+    /// Looks at one more column: where it is the first of the name, at what is expected of it. Errs only when out of memory.
     pub fn look_at(
         &mut self,
         alloc: Global,
         name: &str,
         want: &str,
-        column: &Column,
-        finding: &Finding,
+        report: &ColumnReport,
     ) -> Result<(), AllocError>
-        ensures { OnOk result (IsFound name.now want.now (column_tree column.now) (geometry_in finding.now) self.old self.new) }
+        ensures { OnOk result (IsFound name.now want.now (column_tree report.now.column) (geometry_in report.now.finding) self.old self.new) }
     {
-        if matches!(self, Found::NoColumn) && column.name.as_str() == name {
-            let said = unmet_text(alloc, column, finding, want)?;
+        if matches!(self, Found::NoColumn) && report.column.name.as_str() == name {
+            let said = unmet_text(alloc, report, want)?;
             *self = Found::Looked(said);
         }
         Ok(())
@@ -67,13 +66,13 @@ impl Found {
 /// the CRS by `crs_name`. Errs only when out of memory.
 pub fn unmet_text(
     alloc: Global,
-    column: &Column,
-    finding: &Finding,
+    report: &ColumnReport,
     want: &str,
 ) -> Result<Option<String>, AllocError>
-    ensures { IfOk result (λ said. IsUnmetText (string_bytes column.now.name) (geometry_in finding.now) want.now (option_map string_bytes said)) }
+    ensures { IfOk result (λ said. IsUnmetText (string_bytes report.now.column.name) (geometry_in report.now.finding) want.now (option_map string_bytes said)) }
 {
-    let Some(geometry) = finding.geometry() else {
+    let column = &report.column;
+    let Some(geometry) = report.finding.geometry() else {
         return Ok(Some(no_geometries(alloc, column.name.as_str())?));
     };
     let parts = parts_of(alloc, want)?;

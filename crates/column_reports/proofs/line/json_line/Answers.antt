@@ -20,9 +20,10 @@ text_of-requires c =
 
 pub returns : goal.returns
 returns c =
-    let tree = column_tree c.args.column.now in
-    let f = c.args.finding.now in
-    let ws = c.args.warnings.now in
+    let said = c.args.said.now in
+    let tree = column_tree said.column in
+    let f = said.finding in
+    let ws = said.warnings.items in
     let found = c.geometry-geometry.ensures in
     let column = for (λ s. string_if (codes "column") (Some s)) c.in_ok-put_text.ensures c.as_str.ensures.value in
     let crs = for (λ g. member_if (codes "crs") (crs_of g)) c.in_ok-put_crs.ensures found in
@@ -30,7 +31,7 @@ returns c =
     let word = c.as_str-2.ensures.value ∙ c.in_ok-type_word.ensures ∙ ap (type_word tree) found in
     let rest = for (λ s. found_of c.args.index f s ws) c.in_ok-put_found.ensures word in
     let end = c.end_object.new.self in
-    let tokens = json_tokens (report (text_of c.args.file) c.args.index tree f ws) in
+    let tokens = json_tokens (report (text_of c.args.file) c.args.index said) in
     let all : Adds tokens c.new-out.result end = object (sent c.in_ok-begin_object.ensures) (then (then (then column crs) names) rest) (sent c.in_ok-end_object.ensures) in
     let none = all.before ∙ c.new-out.ensures.before ∙ c.in_ok-with_capacity.ensures.items in
     let only : end.tokens ≡ tokens = all.tokens ∙ ap (λ ts. ts ++ tokens) c.new-out.ensures.tokens in

@@ -1,0 +1,62 @@
+//! What is said of a column, as one value.
+ghost use Rattle.std.specs.Prelude.{IfOk};
+ghost use Rattle.arrow_columns.specs.Column.{column_tree};
+ghost use Rattle.column_reports.specs.Columns.{IsColumnReport};
+
+use arrow_columns::Column;
+use column_check::{Finding, Warning, check_column, warnings};
+use json::Scratch;
+use std::alloc::{AllocError, Global};
+
+/// What is asked of a report.
+#[derive(Debug, Clone, Copy)]
+pub struct Options {
+    /// Whether a column without an extension name is taken for what is inferred from its data type.
+    pub infer: bool,
+    /// Whether the notes stand among the warnings (docs/FORMAT.md, 2.6).
+    pub notes: bool,
+}
+
+/// A column, and what is said of it. Its line of JSON, its row of a table and its part of a summary
+/// are made of this.
+#[derive(Debug, Drop)]
+pub struct ColumnReport {
+    /// The column itself.
+    pub column: Column,
+    /// What is said of it, as `check_column` of `column_check` answers it.
+    pub finding: Finding,
+    /// What is doubtful of it, as `warnings` of `column_check` answers it.
+    pub warnings: Vec<Warning>,
+}
+
+/// Returns a column with what is said of it and what is doubtful of it. The scratch buffer is kept by
+/// the caller from column to column. Errs only when out of memory.
+///
+/// ```rust
+/// let column = Column {
+///     name: String::from_str(alloc, "geom")?,
+///     nullable: false,
+///     data_type: ColumnType::Data(DataType::Binary),
+///     metadata: BTreeMap::new(alloc),
+/// };
+/// let options = Options { infer: true, notes: false };
+/// let report = report_column(alloc, &mut Scratch::new(alloc), column, options)?;
+/// assert!(rt; matches!(report.finding, Finding::Inferred(_)));
+/// assert!(rt; report.warnings.is_empty());
+/// ```
+pub fn report_column(
+    alloc: Global,
+    scratch: &mut Scratch,
+    column: Column,
+    options: Options,
+) -> Result<ColumnReport, AllocError>
+    ensures { IfOk result (IsColumnReport options (column_tree column)) }
+{
+    let finding = check_column(alloc, scratch, &column, options.infer)?;
+    let warnings = warnings(alloc, &column, &finding, options.notes)?;
+    Ok(ColumnReport {
+        column,
+        finding,
+        warnings,
+    })
+}
