@@ -3,10 +3,10 @@
 //! under `report_file` and `report_size` it is the bytes of a file in hexadecimal digits, under
 //! `columns_of_end` those of the end of an Arrow file, behind the number of bytes before it, and
 //! under `crs` a metadata text.
-use column_check::{Finding, check_column, read_metadata, warnings};
+use column_check::{Finding, read_metadata};
 use column_files::{FileFault, Form, open, open_end};
-use column_reports::{reason_words, warning_words};
-use file_reports::{Options, report_file};
+use column_reports::{ColumnReport, Options, reason_words, report_column, warning_words};
+use file_reports::report_file;
 use json::Scratch;
 use parquet_columns::SchemaError;
 use rows::asked::Asked;
@@ -92,25 +92,35 @@ fn report(it: &mut Asked<'_>, bytes: &[u8], infer: bool, notes: bool) {
 
 /// The reasons of the first column that some lines denote, in words; none where it is not invalid.
 fn reasons_of(alloc: Global, text: &str) -> Result<Vec<String>, FileFault> {
-    let opened = open(alloc, text.as_bytes())?;
-    let Some(column) = opened.columns.as_slice().first() else {
-        return Ok(Vec::new(alloc));
-    };
-    match check_column(alloc, &mut Scratch::new(alloc), column, false)? {
-        Finding::Invalid(reasons) => Ok(reason_words(alloc, &reasons)?),
-        _ => Ok(Vec::new(alloc)),
+    match first_report(alloc, text)? {
+        Some(report) => match report.finding {
+            Finding::Invalid(reasons) => Ok(reason_words(alloc, &reasons)?),
+            _ => Ok(Vec::new(alloc)),
+        },
+        None => Ok(Vec::new(alloc)),
     }
 }
 
 /// The warnings of the first column that some lines denote, in words.
 fn warnings_of(alloc: Global, text: &str) -> Result<Vec<String>, FileFault> {
+    match first_report(alloc, text)? {
+        Some(report) => Ok(warning_words(alloc, report.warnings.as_slice())?),
+        None => Ok(Vec::new(alloc)),
+    }
+}
+
+/// What is said of the first column that some lines denote, with the notes.
+fn first_report(alloc: Global, text: &str) -> Result<Option<ColumnReport>, FileFault> {
     let opened = open(alloc, text.as_bytes())?;
-    let Some(column) = opened.columns.as_slice().first() else {
-        return Ok(Vec::new(alloc));
+    let Some(column) = opened.columns.into_iter().next() else {
+        return Ok(None);
     };
-    let finding = check_column(alloc, &mut Scratch::new(alloc), column, false)?;
-    let warnings = warnings(alloc, column, &finding, true)?;
-    Ok(warning_words(alloc, warnings.as_slice())?)
+    let options = Options {
+        infer: false,
+        notes: true,
+    };
+    let scratch = &mut Scratch::new(alloc);
+    Ok(Some(report_column(alloc, scratch, column, options)?))
 }
 
 /// Says the words.

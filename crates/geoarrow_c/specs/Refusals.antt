@@ -9,7 +9,7 @@ use Rattle.column_files.specs.declared.columns.FileFault.TheVariants.{NoField, I
 use Rattle.parquet_columns.specs.declared.error.SchemaError.{SchemaError}
 use Rattle.parquet_columns.specs.declared.error.SchemaError.TheVariants.{Budget as OverBudget, OutOfMemory as NoRoom}
 use Rattle.file_reports.specs.Report.{Reports}
-use Rattle.file_reports.specs.declared.report.Options.{Options}
+use Rattle.column_reports.specs.declared.report.Options.{Options}
 use Rattle.file_reports.specs.declared.report.Report.{Report as FileReport}
 use Rattle.geoarrow_fields.specs.Lines.{Bytes}
 

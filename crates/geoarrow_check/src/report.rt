@@ -4,9 +4,9 @@ use crate::source::Reported;
 use arrow_columns::Column;
 use arrow_ipc::{Endianness, Schema, write_schema};
 use check_options::{Asked, Output};
-use column_check::{Finding, check_column};
 use column_files::{FileFault, Form, MAX_LINE_BYTES, column_line};
-use file_reports::{column_line_of, report_budget};
+use column_reports::{ColumnReport, Options, Summary, json_line, report_column};
+use file_reports::report_budget;
 use geoparquet::GeoFinding;
 use json::Scratch;
 use report_words::{
@@ -36,8 +36,7 @@ pub(crate) struct Report<'a> {
     /// What is found of each expectation.
     found: Vec<Found>,
     count: usize,
-    has_geometry: bool,
-    status: u8,
+    summary: Summary,
     /// How many bytes the lines of JSON or the rows may have: those of all columns of a schema, and
     /// of lines each.
     limit: u128,
@@ -61,8 +60,7 @@ impl<'a> Report<'a> {
             columns: Vec::new(alloc),
             found: found.collect(alloc)?,
             count: 0,
-            has_geometry: false,
-            status: 0,
+            summary: Summary::new(),
             limit: report_budget(MAX_LINE_BYTES),
             size: 0,
             form: Form::Lines,
@@ -95,8 +93,7 @@ impl<'a> Report<'a> {
         if matches!(self.form, Form::Lines) {
             self.size = 0;
         }
-        self.look_at(rt.alloc(), &column)?;
-        self.keep(rt.alloc(), column)?;
+        self.look_at(rt.alloc(), column)?;
         self.count = self.count.saturating_add(1);
         if self.text.len() >= KEPT_BYTES && !self.is_held() {
             self.write(rt)?;
@@ -120,26 +117,22 @@ impl<'a> Report<'a> {
         Ok(())
     }
 
-    /// Looks at what a column is.
-    fn look_at(&mut self, alloc: Global, column: &Column) -> Result<(), FileFault> {
-        let finding = check_column(alloc, &mut self.scratch, column, self.asked.flags.infer)?;
-        self.add_finding(alloc, column, &finding)
-    }
-
-    /// Adds what a column is, and the row or the line of JSON that says so.
-    fn add_finding(
-        &mut self,
-        alloc: Global,
-        column: &Column,
-        finding: &Finding,
-    ) -> Result<(), FileFault> {
-        self.status = self.status.max(u8::from(finding.is_invalid()));
-        self.has_geometry = self.has_geometry | finding.is_geometry();
-        self.expect(alloc, column, finding)?;
-        match self.asked.flags.output() {
-            Output::Table => self.add_row(row_of(alloc, column, finding, self.asked.flags.notes)?),
-            Output::Json => self.add_json(alloc, column, finding),
-            Output::Nothing | Output::Lines | Output::Ipc => Ok(()),
+    /// Looks at what a column is, and adds what is to be printed of it.
+    fn look_at(&mut self, alloc: Global, column: Column) -> Result<(), FileFault> {
+        let flags = &self.asked.flags;
+        let options = Options {
+            infer: flags.infer,
+            notes: flags.notes,
+        };
+        let said = report_column(alloc, &mut self.scratch, column, options)?;
+        self.summary.add(&said.finding);
+        self.expect(alloc, &said)?;
+        match flags.output() {
+            Output::Table => self.add_row(row_of(alloc, &said)?),
+            Output::Json => self.add_json(alloc, &said),
+            Output::Lines => Ok(self.add_line(column_line(alloc, said.column)?)?),
+            Output::Ipc => Ok(self.columns.push(said.column)?),
+            Output::Nothing => Ok(()),
         }
     }
 
@@ -150,40 +143,19 @@ impl<'a> Report<'a> {
     }
 
     /// Adds the line of JSON of a column.
-    fn add_json(
-        &mut self,
-        alloc: Global,
-        column: &Column,
-        finding: &Finding,
-    ) -> Result<(), FileFault> {
-        let (file, notes) = (self.named_file(), self.asked.flags.notes);
-        let scratch = &mut self.scratch;
-        let line = column_line_of(alloc, scratch, file, self.count, column, finding, notes)?;
+    fn add_json(&mut self, alloc: Global, said: &ColumnReport) -> Result<(), FileFault> {
+        let file = self.named_file();
+        let line = json_line(alloc, &mut self.scratch, file, self.count, said)?;
         self.count_bytes(line.len().saturating_add(1))?;
         Ok(self.add_line(line)?)
     }
 
     /// Looks at a column for each expectation.
-    fn expect(
-        &mut self,
-        alloc: Global,
-        column: &Column,
-        finding: &Finding,
-    ) -> Result<(), AllocError> {
+    fn expect(&mut self, alloc: Global, said: &ColumnReport) -> Result<(), AllocError> {
         for (want, found) in self.asked.wants.iter().zip(self.found.iter_mut()) {
-            let (name, want) = (want.column.as_str(), want.want.as_str());
-            found.look_at(alloc, name, want, column, finding)?;
+            found.look_at(alloc, want.column.as_str(), want.want.as_str(), said)?;
         }
         Ok(())
-    }
-
-    /// Adds a column itself, where columns are printed.
-    fn keep(&mut self, alloc: Global, column: Column) -> Result<(), AllocError> {
-        match self.asked.flags.output() {
-            Output::Lines => self.add_line(column_line(alloc, column)?),
-            Output::Ipc => Ok(self.columns.push(column)?),
-            Output::Nothing | Output::Table | Output::Json => Ok(()),
-        }
     }
 
     /// The name that the lines of JSON give the file.
@@ -207,8 +179,8 @@ impl<'a> Report<'a> {
         alloc: Global,
         findings: &Option<Vec<GeoFinding>>,
     ) -> Result<(), FileFault> {
-        self.status = self.status.max(u8::from(has_failed(findings)));
-        let (has_geometry, all) = (self.has_geometry, self.asked.flags.all_checks);
+        self.summary.add_checks(has_failed(findings));
+        let (has_geometry, all) = (self.summary.has_geometry, self.asked.flags.all_checks);
         let said = match self.asked.flags.output() {
             Output::Json => checked_lines(alloc, self.named_file(), findings, has_geometry, all)?,
             Output::Table => checked_text(alloc, findings, has_geometry, all)?,
@@ -243,7 +215,8 @@ impl<'a> Report<'a> {
     pub(crate) fn finish(&mut self, rt: &HostRuntime) -> io::Result<u8> {
         self.write_table(rt)?;
         self.write(rt)?;
-        let status = self.say_unmet(rt)?;
+        let is_unmet = self.say_unmet(rt)?;
+        let status = self.summary.status(is_unmet);
         if !matches!(self.asked.flags.output(), Output::Ipc) {
             return Ok(status);
         }
@@ -264,21 +237,21 @@ impl<'a> Report<'a> {
         rt.stdout().write_all(table.as_bytes())
     }
 
-    /// Says on standard error what is asked of the file and not met. Returns the status.
-    fn say_unmet(&self, rt: &HostRuntime) -> io::Result<u8> {
+    /// Says on standard error what is asked of the file and not met. Returns whether there is any.
+    fn say_unmet(&self, rt: &HostRuntime) -> io::Result<bool> {
         let asked = self.asked;
-        let mut status = self.status;
+        let mut is_unmet = false;
         for (want, found) in asked.wants.iter().zip(self.found.iter()) {
             if let Some(said) = found.said(rt.alloc(), want.column.as_str())? {
                 self.say(rt, said.as_str())?;
-                status = 1;
+                is_unmet = true;
             }
         }
-        if asked.flags.require_geometry && !self.has_geometry {
+        if asked.flags.require_geometry && !self.summary.has_geometry {
             self.say(rt, "no column of geometries")?;
-            status = 1;
+            is_unmet = true;
         }
-        Ok(status)
+        Ok(is_unmet)
     }
 
     /// Writes columns as an Arrow stream of its schema alone (docs/FORMAT.md, 3.6). Where no
