@@ -1,2 +1,4 @@
 mod Adding
 mod Places
+pub mod Lines
+pub mod Whole

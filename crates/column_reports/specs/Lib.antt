@@ -4,3 +4,5 @@ pub mod Reasons
 pub mod Report
 pub mod Summary
 pub mod Warnings
+pub mod Checks
+pub mod FileReport

@@ -1,4 +1,4 @@
-//! Rows of lines, files and reports: calls of `geoarrow_fields` and `field_lines`; of the crates of Parquet footers and of GeoParquet metadata; of `file_reports`.
+//! Rows of lines, files and reports: calls of `geoarrow_fields` and `field_lines`; of the crates of Parquet footers and of GeoParquet metadata; of `column_reports`.
 #![tactic(auto)]
 
 mod footers;

@@ -1,12 +1,13 @@
-//! Rows of reports: calls of `file_reports`, and so of the crates that read files and say what
+//! Rows of reports: calls of `column_reports`, and so of the crates that read files and say what
 //! columns hold. A row's text is lines of fields, with ` & ` between them in place of line feeds;
 //! under `report_file` and `report_size` it is the bytes of a file in hexadecimal digits, under
 //! `columns_of_end` those of the end of an Arrow file, behind the number of bytes before it, and
 //! under `crs` a metadata text.
 use column_check::{Finding, read_metadata};
 use column_files::{FileFault, Form, open, open_end};
-use column_reports::{ColumnReport, Options, reason_words, report_column, warning_words};
-use file_reports::report_file;
+use column_reports::{
+    ColumnReport, Options, reason_words, report_column, report_file, warning_words,
+};
 use json::Scratch;
 use parquet_columns::SchemaError;
 use rows::asked::Asked;

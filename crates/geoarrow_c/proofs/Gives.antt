@@ -7,9 +7,9 @@ use Rattle.arrow_ipc.specs.Schema.{SchemaTree}
 use Rattle.arrow_ipc.specs.Denotes.{IsStreamOf}
 use Rattle.arrow_ipc.specs.declared.schema.Endianness.TheVariants.{Little}
 use Rattle.column_files.specs.Files.{AreLinesRead}
-use Rattle.file_reports.specs.Report.{Reports}
+use Rattle.column_reports.specs.FileReport.{Reports}
 use Rattle.column_reports.specs.declared.report.Options.{Options}
-use Rattle.file_reports.specs.declared.report.Report.{Report as FileReport}
+use Rattle.column_reports.specs.declared.file.Report.{Report as FileReport}
 use Rattle.geoarrow_fields.specs.Lines.{Bytes}
 use Rattle.geoarrow_c.specs.Refusals.{options_number, ReportGives}
 use Rattle.geoarrow_c.specs.Streams.{StreamGives}

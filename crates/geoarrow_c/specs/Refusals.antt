@@ -8,9 +8,9 @@ use Rattle.column_files.specs.declared.columns.FileFault.{FileFault}
 use Rattle.column_files.specs.declared.columns.FileFault.TheVariants.{NoField, Ipc, Parquet, Empty, ReportTooLarge, OutOfMemory}
 use Rattle.parquet_columns.specs.declared.error.SchemaError.{SchemaError}
 use Rattle.parquet_columns.specs.declared.error.SchemaError.TheVariants.{Budget as OverBudget, OutOfMemory as NoRoom}
-use Rattle.file_reports.specs.Report.{Reports}
+use Rattle.column_reports.specs.FileReport.{Reports}
 use Rattle.column_reports.specs.declared.report.Options.{Options}
-use Rattle.file_reports.specs.declared.report.Report.{Report as FileReport}
+use Rattle.column_reports.specs.declared.file.Report.{Report as FileReport}
 use Rattle.geoarrow_fields.specs.Lines.{Bytes}
 
 -- the number of the options: 1 where a type is inferred without an extension name, and 2 for the notes

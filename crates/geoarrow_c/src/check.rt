@@ -6,7 +6,7 @@ ghost use Rattle.geoarrow_c.specs.Refusals.{options_number, ReportGives, IsRefus
 use crate::buffer::fill;
 use crate::refusal::{refusal_of, refuse};
 use crate::status::UNKNOWN;
-use file_reports::{Options, report_file};
+use column_reports::{Options, report_file};
 use std::alloc::Global;
 
 /// The options of a number: 1 for types that are inferred, and 2 for notes.

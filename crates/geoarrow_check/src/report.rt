@@ -5,8 +5,7 @@ use arrow_columns::Column;
 use arrow_ipc::{Endianness, Schema, write_schema};
 use check_options::{Asked, Output};
 use column_files::{FileFault, Form, MAX_LINE_BYTES, column_line};
-use column_reports::{ColumnReport, Options, Summary, json_line, report_column};
-use file_reports::report_budget;
+use column_reports::{ColumnReport, Options, Summary, json_line, report_budget, report_column};
 use geoparquet::GeoFinding;
 use json::Scratch;
 use report_words::{

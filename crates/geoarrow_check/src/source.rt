@@ -5,7 +5,7 @@ use column_files::{
     FileEnd, FileFault, Form, LineColumns, ReadFault, form_of, open_end, read_head,
     read_schema_bytes, read_schema_end,
 };
-use file_reports::checked_columns;
+use column_reports::checked_columns;
 use std::alloc::AllocError;
 use std::io::Read;
 use std::{fs, io};

@@ -1,6 +1,6 @@
 use Rattle.arrow_values.specs.Texts.{text_of}
-use Rattle.file_reports.proofs.Whole.{whole}
-use Rattle.file_reports.proofs.report.report_file.Goals as goal
+use Rattle.column_reports.proofs.Whole.{whole}
+use Rattle.column_reports.proofs.file.report_file.Goals as goal
 
 pub returns-in-Ok : goal.returns-in-Ok
 returns-in-Ok c =

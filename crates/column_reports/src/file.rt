@@ -2,12 +2,14 @@
 ghost use Rattle.std.specs.Prelude.{◌≡◌, ◌<◌, ◌≤◌, ◌++◌, [], ◌∷◌, length, Ok, Err, OnOk, MatchBool, MatchResult, map, string_bytes};
 ghost use Rattle.arrow_values.specs.Texts.{text_of};
 ghost use Rattle.arrow_columns.specs.Column.{column_tree};
-ghost use Rattle.file_reports.specs.Report.{line_feed, AddsColumn, IsWithin, ReportsOf, ReportsOpened, Reports};
+ghost use Rattle.column_reports.specs.FileReport.{line_feed, AddsColumn, IsWithin, ReportsOf, ReportsOpened, Reports};
 
 use crate::checks::parquet_report;
+use crate::line::json_line;
+use crate::report::{ColumnReport, Options, report_column};
+use crate::summary::Summary;
 use arrow_columns::Column;
 use column_files::{File, FileFault, Form, open};
-use column_reports::{ColumnReport, Options, Summary, json_line, report_column};
 use json::Scratch;
 use parquet_columns::report_budget;
 use std::alloc::{AllocError, Global};

@@ -1,8 +1,8 @@
 use Rattle.std.proofs.Common.{map}
 use Rattle.arrow_values.specs.Texts.{text_of}
 use Rattle.arrow_columns.specs.Column.{column_tree}
-use Rattle.file_reports.proofs.Whole.{unreported, finished}
-use Rattle.file_reports.proofs.checks.parquet_report.Goals as goal
+use Rattle.column_reports.proofs.Whole.{unreported, finished}
+use Rattle.column_reports.proofs.checks.parquet_report.Goals as goal
 
 pub returns-in-Ok : goal.returns-in-Ok
 returns-in-Ok c =

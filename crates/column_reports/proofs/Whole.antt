@@ -8,10 +8,10 @@ use Rattle.column_files.specs.declared.opening.File.{File}
 use Rattle.column_files.specs.declared.columns.FileFault.{FileFault}
 use Rattle.column_reports.specs.declared.report.Options.{Options}
 use Rattle.parquet_columns.specs.Budget.{budget}
-use Rattle.file_reports.specs.Checks.{AreChecked}
-use Rattle.file_reports.specs.Report.{ArePast, IsUnreported, IsWithin, IsParquetReport, IsParquetPast, ParquetReports, ReportsOpened, Reports}
-use Rattle.file_reports.specs.declared.checks.Checked.{Checked}
-use Rattle.file_reports.specs.declared.report.Report.{Report}
+use Rattle.column_reports.specs.Checks.{AreChecked}
+use Rattle.column_reports.specs.FileReport.{ArePast, IsUnreported, IsWithin, IsParquetReport, IsParquetPast, ParquetReports, ReportsOpened, Reports}
+use Rattle.column_reports.specs.declared.checks.Checked.{Checked}
+use Rattle.column_reports.specs.declared.file.Report.{Report}
 
 pub whole : (file : Option Text) (o : Options) (bytes : List ℕ) (opened : File) (r : Result Report FileFault) → IsOpened bytes (Ok opened)
     → ReportsOpened file o (budget (length bytes)) opened.form (text_of opened.geo) (map column_tree opened.columns.items) r → Reports file o bytes r

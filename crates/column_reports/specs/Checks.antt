@@ -10,8 +10,8 @@ use Rattle.geoparquet.specs.declared.finding.GeoFinding.{GeoFinding}
 use Rattle.geoparquet.specs.GeoColumns.{AreGeoColumns}
 use Rattle.geoparquet.specs.Lines.{lines_text}
 use Rattle.geoparquet.specs.Warnings.{no_geo_text}
-use Rattle.file_reports.specs.declared.checks.Checked.{Checked}
-use Rattle.file_reports.specs.declared.report.Report.{Report as FileReport}
+use Rattle.column_reports.specs.declared.checks.Checked.{Checked}
+use Rattle.column_reports.specs.declared.file.Report.{Report as FileReport}
 
 -- what a file with the columns cs has by the text of its GeoParquet metadata: without them no findings, and these columns; else the findings on the text
 -- and these columns, and the columns by the text

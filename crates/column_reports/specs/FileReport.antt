@@ -18,9 +18,9 @@ use Rattle.column_reports.specs.Summary.{IsSummary}
 use Rattle.column_reports.specs.declared.report.ColumnReport.{ColumnReport}
 use Rattle.column_reports.specs.declared.report.Options.{Options}
 use Rattle.parquet_columns.specs.Budget.{budget}
-use Rattle.file_reports.specs.Checks.{AreChecked, AddsFindings}
-use Rattle.file_reports.specs.declared.checks.Checked.{Checked}
-use Rattle.file_reports.specs.declared.report.Report.{Report as FileReport}
+use Rattle.column_reports.specs.Checks.{AreChecked, AddsFindings}
+use Rattle.column_reports.specs.declared.checks.Checked.{Checked}
+use Rattle.column_reports.specs.declared.file.Report.{Report as FileReport}
 
 abbrev pub line_feed : ℕ
 line_feed = 10

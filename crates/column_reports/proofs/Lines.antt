@@ -10,8 +10,8 @@ use Rattle.column_check.specs.States.{is_invalid, is_geometry}
 use Rattle.column_reports.specs.Columns.{IsColumnReport}
 use Rattle.column_reports.specs.declared.report.ColumnReport.{ColumnReport}
 use Rattle.column_reports.specs.declared.report.Options.{Options}
-use Rattle.file_reports.specs.Report.{AddsColumn, AreReported, IsReportOf, ArePast, line_of, lines_of, size}
-use Rattle.file_reports.specs.declared.report.Report.{Report}
+use Rattle.column_reports.specs.FileReport.{AddsColumn, AreReported, IsReportOf, ArePast, line_of, lines_of, size}
+use Rattle.column_reports.specs.declared.file.Report.{Report}
 
 -- whether one of the reports, or one more, passes a test
 any_more : (test : ColumnReport → Bool) (rs : List ColumnReport) (r : ColumnReport) → list_any test (rs ++ r ∷ []) ≡ (list_any test rs || test r)

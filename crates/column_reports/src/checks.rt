@@ -4,13 +4,13 @@ ghost use Rattle.std.specs.List.{list_any};
 ghost use Rattle.arrow_values.specs.Texts.{text_of};
 ghost use Rattle.arrow_columns.specs.Column.{column_tree};
 ghost use Rattle.geoparquet.specs.Lines.{lines_text};
-ghost use Rattle.file_reports.specs.Checks.{is_failed, AreChecked, AddsText, AddsFindings, warning_text};
-ghost use Rattle.file_reports.specs.Report.{ParquetReports};
+ghost use Rattle.column_reports.specs.Checks.{is_failed, AreChecked, AddsText, AddsFindings, warning_text};
+ghost use Rattle.column_reports.specs.FileReport.{ParquetReports};
 
-use crate::report::{Report, push_line, report_columns, within};
+use crate::file::{Report, push_line, report_columns, within};
+use crate::report::Options;
 use arrow_columns::Column;
 use column_files::FileFault;
-use column_reports::Options;
 use geoparquet::{GeoFinding, check_geo, check_lines, geo_columns, no_geo_line};
 use std::alloc::{AllocError, Global};
 

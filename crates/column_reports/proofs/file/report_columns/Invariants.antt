@@ -1,8 +1,8 @@
 use Rattle.std.proofs.Common.{◌≡◌, ◌≤◌, length, map}
 use Rattle.arrow_values.specs.Texts.{text_of}
 use Rattle.arrow_columns.specs.Column.{column_tree}
-use Rattle.file_reports.specs.Report.{IsReportOf, size}
-use Rattle.file_reports.proofs.report.report_columns.Given as goal
+use Rattle.column_reports.specs.FileReport.{IsReportOf, size}
+use Rattle.column_reports.proofs.file.report_columns.Given as goal
 
 abbrev pub invariant-loop-column : goal.invariant-loop-column
 invariant-loop-column l =

@@ -3,8 +3,8 @@ use Rattle.std.proofs.lemmas.List.{length-append}
 use Rattle.std.proofs.lemmas.Iterator.Adapters.{YieldsList-from_vec}
 use Rattle.std.proofs.lemmas.Iterator.Consumers.{YieldsList-so_far, YieldsList-turn}
 use Rattle.arrow_values.specs.Texts.{text_of}
-use Rattle.file_reports.proofs.Lines.{report_next, first_past}
-use Rattle.file_reports.proofs.report.report_columns.Goals as goal
+use Rattle.column_reports.proofs.Lines.{report_next, first_past}
+use Rattle.column_reports.proofs.file.report_columns.Goals as goal
 
 pub loop-column-preserved : goal.loop-column-preserved
 loop-column-preserved c =
