@@ -94,8 +94,8 @@ fn report(it: &mut Asked<'_>, bytes: &[u8], infer: bool, notes: bool) {
 /// The reasons of the first column that some lines denote, in words; none where it is not invalid.
 fn reasons_of(alloc: Global, text: &str) -> Result<Vec<String>, FileFault> {
     match first_report(alloc, text)? {
-        Some(report) => match report.finding {
-            Finding::Invalid(reasons) => Ok(reason_words(alloc, &reasons)?),
+        Some(report) => match &report.finding {
+            Finding::Invalid(reasons) => Ok(reason_words(alloc, reasons)?),
             _ => Ok(Vec::new(alloc)),
         },
         None => Ok(Vec::new(alloc)),
