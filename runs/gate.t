@@ -188,7 +188,7 @@ What judges rows: an answer that is right, more, less or something else, a comma
   layouts/a.rows:4: parts Native(Point, Interleaved, XY): found `geoarrow.point Interleaved XY`, wanted `geoarrow.point Interleaved XY more`
   layouts/a.rows:6: parts Native(Point, Interleaved, XY): found `geoarrow.point Interleaved XY`, wanted `geoarrow.point Interleaved`
   layouts/a.rows:8: parts Native(Point, Interleaved, XY): found `geoarrow.point Interleaved XY`, wanted ``
-  layouts/a.rows:10: no parts Native(Point, Interleaved, XY): found `nothing: no such command`, wanted `geoarrow.point Interleaved XY`
+  layouts/a.rows:10: no parts Native(Point, Interleaved, XY): found `the text spells nothing`, wanted `geoarrow.point Interleaved XY`
   layouts/a.rows:13: parts Native(Point, Interleaved, XY): no answer stands behind it
   layouts/a.rows: 1 right, 5 wrong
   1 passed, 5 failed
