@@ -14,18 +14,21 @@ WARNING = '{"message":"%s","warning":"NoGeoMetadata"}' % NO_GEO_METADATA.message
 
 
 class Cells(html.parser.HTMLParser):
-    """The elements of an HTML text, and the texts of its cells."""
+    """The elements of an HTML text, the texts of its cells, and how many columns each row spans."""
 
     def __init__(self, text):
         super().__init__()
-        self.tags, self.cells = set(), []
+        self.tags, self.cells, self.spans = set(), [], []
         self.feed(text)
         self.close()
 
     def handle_starttag(self, tag, attrs):
         self.tags.add(tag)
+        if tag == "tr":
+            self.spans.append(0)
         if tag in ("td", "th"):
             self.cells.append("")
+            self.spans[-1] += int(dict(attrs).get("colspan", 1))
 
     def handle_data(self, data):
         self.cells[-1] += data
@@ -52,7 +55,9 @@ t       taken for wkt - -                       planar""")
                 ('"EPSG:4326"', "EPSG:4326"), ('"%s"' % ("a" * 40), "a" * 40), ('"%s"' % ("a" * 41), "a" * 38 + ".."),
                 ('{"name":"%s"}' % ("é" * 50), "é" * 38 + ".."), ('{"id":{"authority":"%s","code":1}}' % ("b" * 39), "b" * 38 + ".."), ('"a\\tb"', "a b"), ('{"id":{"authority":"EPSG","code":4326}}', "EPSG:4326"),
                 ('{"id":{"authority":"EPSG","code":1.5}}', "EPSG:?"), ('{"id":{"authority":"EPSG","code":true}}', "EPSG:?"),
-                ('{"id":{"authority":"EPSG","code":-1}}', "EPSG:?"), ('{"id":{"authority":"OGC"}}', "OGC"), ('{"id":{"code":1},"name":"n"}', "n"),
+                ('{"id":{"authority":"EPSG","code":-1}}', "EPSG:?"), ('{"id":{"authority":"EPSG","code":0}}', "EPSG:0"),
+                ('{"id":{"authority":"EPSG","code":18446744073709551615}}', "EPSG:18446744073709551615"),
+                ('{"id":{"authority":"EPSG","code":18446744073709551616}}', "EPSG:?"), ('{"id":{"authority":"OGC"}}', "OGC"), ('{"id":{"code":1},"name":"n"}', "n"),
                 ('{"id":[1],"name":"n"}', "n"), ('{"name":7}', "a CRS"), ("[1]", "a CRS"), ("4326", "a CRS"), ("null", "")):
             with self.subTest(crs):
                 row = repr(check([with_crs(crs)])).split("\n")[1]
@@ -93,7 +98,8 @@ class Behind(unittest.TestCase):
         columns = columns_of(f"{COLUMN}\n{CHECK}\n{WARNING}\n")
         behind = ["GeoBbox of t does not hold: m", "NoGeoMetadata: the file has columns of geometries, but no metadata of GeoParquet"]
         self.assertEqual(repr(columns).split("\n")[2:], behind)
-        self.assertEqual(Cells(columns._repr_html_()).cells[-2:], behind)
+        found = Cells(columns._repr_html_())
+        self.assertEqual((found.cells[-2:], found.spans), (behind, [4] * 4))
 
 
 class Html(unittest.TestCase):
@@ -105,6 +111,7 @@ class Html(unittest.TestCase):
             "g", "wkb - -", "OGC:CRS84", "spherical", "", "CRS has a number that is not whole",
             "b", "invalid geoarrow.linestring", "", "", "", "unexpected number of fields at v", "", "unknown edges",
             "t", "taken for wkt - -", "", "planar"])
+        self.assertEqual(found.spans, [4] * 7)
 
     def test_each_text_is_escaped(self):
         name = "<script>\\\"&amp;'</td>"
