@@ -100,12 +100,15 @@ class Checks(unittest.TestCase):
         self.assertEqual(read(line), "error arrow")
 
     def test_what_is_inferred(self):
-        self.assertEqual(check([TEXT], infer=True), [Column("t", 0, "inferred", "wkt - -", None, "planar")])
+        columns = check([TEXT], infer=True)
+        self.assertEqual(columns, [Column("t", 0, "inferred", "wkt - -", None, "planar")])
+        self.assertIs(columns[0].is_geometry, False)
 
     def test_a_crs_and_its_text(self):
         (column,) = check([CRS])
         self.assertEqual(column.crs, {"id": {"authority": "OGC", "code": "CRS84"}, "scope": 1.5})
         self.assertEqual((column.crs_type, column.edges), ("projjson", "spherical"))
+        self.assertEqual((column.state, column.is_geometry, column.is_invalid), ("geometry", True, False))
         self.assertIn('"scope":1.50', column.json)
         (column,) = check([with_crs('{ "b" : 1.50 , "a" : "\\u00e9 \\n" , "b" : 2 }')])
         self.assertIn(r'"crs":{"b":1.50,"a":"é \n","b":2},', column.json)
@@ -119,7 +122,8 @@ class Checks(unittest.TestCase):
         (column,) = check([BROKEN])
         self.assertEqual([one.code for one in column.reasons], ["BadFieldCount", "UnknownEdges"])
         self.assertEqual(column.reasons[0], Reason("BadFieldCount", "unexpected number of fields", ("v",)))
-        self.assertTrue(column.is_invalid and not column.is_geometry)
+        self.assertIs(column.is_invalid, True)
+        self.assertIs(column.is_geometry, False)
 
     def test_a_warning_that_stands_for_more(self):
         (column,) = check([TEXT.replace('"utf8"', '{"struct":[%s]}' % ",".join([CANON] * 20))])
@@ -273,6 +277,7 @@ class Refusals(unittest.TestCase):
         self.assertEqual(list(RULES), [(code, text) for text, code in re.findall(r'#\[error\("(.*)"\)\]\n +(\w+),', source)])
 
     def test_errors_cross_processes(self):
+        self.assertEqual(str(RefusedSource(18, 7)), str(RefusedSource(18, 7, False)))
         for error in (RefusedSource(5, 1), RefusedSource(18, 7), RefusedSource(18, 7, True), RefusedSource(200, 3), InvalidColumns(check([BROKEN]))):
             other = pickle.loads(pickle.dumps(error))
             self.assertEqual((type(other), str(other), vars(other)), (type(error), str(error), vars(error)))
