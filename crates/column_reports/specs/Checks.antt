@@ -23,8 +23,13 @@ AreByMetadata (Some geo) cs (Some findings) made = AreFindings geo cs findings.i
 abbrev pub AreChecked : Option Text → List ColumnTree → Checked → Type 0
 AreChecked geo cs checked = AreByMetadata geo cs checked.findings (map column_tree checked.columns.items)
 
+-- a check does not hold; one of some does not, where there are checks
 abbrev pub is_failed : GeoFinding → Bool
 is_failed f = not f.ok
+
+abbrev pub has_failed : Option (List GeoFinding) → Bool
+has_failed None = false
+has_failed (Some fs) = list_any is_failed fs
 
 -- a report with that text behind its lines, which says that a check does not hold or that none more is known not to; all else of it is as it was
 pub record AddsText (text : Text) (has_failed : Bool) (old new : FileReport) : Type 0 where

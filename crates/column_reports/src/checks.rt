@@ -1,10 +1,10 @@
 //! The checks of a Parquet file's GeoParquet metadata, and the columns that it has by them.
-ghost use Rattle.std.specs.Prelude.{◌≡◌, false, IfOk, map};
+ghost use Rattle.std.specs.Prelude.{◌≡◌, false, IfOk, map, option_map};
 ghost use Rattle.std.specs.List.{list_any};
 ghost use Rattle.arrow_values.specs.Texts.{text_of};
 ghost use Rattle.arrow_columns.specs.Column.{column_tree};
 ghost use Rattle.geoparquet.specs.Lines.{lines_text};
-ghost use Rattle.column_reports.specs.Checks.{is_failed, AreChecked, AddsText, AddsFindings, warning_text};
+ghost use Rattle.column_reports.specs.Checks.{is_failed, has_failed, AreChecked, AddsText, AddsFindings, warning_text};
 ghost use Rattle.column_reports.specs.FileReport.{ParquetReports};
 
 use crate::file::{Report, push_line, report_columns, within};
@@ -49,8 +49,19 @@ pub fn checked_columns(
     })
 }
 
-/// Whether a check does not hold.
-fn has_failed(findings: &[GeoFinding]) -> bool
+/// Returns whether one of the checks of a Parquet file does not hold; of a file without GeoParquet
+/// metadata there are none.
+pub fn has_failed(findings: &Option<Vec<GeoFinding>>) -> bool
+    ensures { result ≡ has_failed (option_map (λ fs. fs.items) findings.now) }
+{
+    match findings {
+        Some(findings) => is_one_failed(findings.as_slice()),
+        None => false,
+    }
+}
+
+/// Whether one of these checks does not hold.
+fn is_one_failed(findings: &[GeoFinding]) -> bool
     ensures { result ≡ list_any is_failed findings.now }
 {
     findings.iter().any(|finding| !finding.ok)
@@ -68,7 +79,7 @@ fn with_lines(
     let mut report = report;
     let lines = check_lines(alloc, file, findings, false)?;
     report.lines.push_str(lines.as_str())?;
-    report.summary.add_checks(has_failed(findings));
+    report.summary.add_checks(is_one_failed(findings));
     Ok(report)
 }
 

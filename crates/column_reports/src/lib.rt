@@ -16,7 +16,7 @@ mod summary;
 mod warnings;
 mod words;
 
-pub use checks::{Checked, checked_columns};
+pub use checks::{Checked, checked_columns, has_failed};
 pub use file::{Report, report_columns, report_file};
 pub use line::json_line;
 pub use parquet_columns::report_budget;

@@ -5,12 +5,12 @@ use arrow_columns::Column;
 use arrow_ipc::{Endianness, Schema, write_schema};
 use check_options::{Asked, Output};
 use column_files::{FileFault, Form, MAX_LINE_BYTES, column_line};
-use column_reports::{ColumnReport, Options, Summary, json_line, report_budget, report_column};
+use column_reports::{
+    ColumnReport, Options, Summary, has_failed, json_line, report_budget, report_column,
+};
 use geoparquet::GeoFinding;
 use json::Scratch;
-use report_words::{
-    Found, Row, checked_lines, checked_text, has_failed, row_of, shown, table_text,
-};
+use report_words::{Found, Row, checked_lines, checked_text, row_of, shown, table_text};
 use std::alloc::{AllocError, Global};
 use std::collections::BTreeMap;
 use std::io::Write;

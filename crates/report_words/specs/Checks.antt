@@ -1,6 +1,5 @@
 -- The checks of GeoParquet metadata in words.
-use Rattle.std.specs.Prelude.{◌||◌, not, Bool, false, List, [], ◌++◌, codes, flat_map, Option, None, Some, option_map, string_bytes, if◌then◌else◌}
-use Rattle.std.specs.List.{list_any}
+use Rattle.std.specs.Prelude.{◌||◌, not, Bool, List, [], ◌++◌, codes, flat_map, Option, None, Some, option_map, string_bytes, if◌then◌else◌}
 use Rattle.arrow_values.specs.Tree.{Text}
 use Rattle.geoparquet.specs.Words.{code_of, message_of}
 use Rattle.geoparquet.specs.declared.finding.GeoFinding.{GeoFinding}
@@ -33,11 +32,3 @@ checked_text has_geometry all None = if has_geometry then no_geo_code ++ (codes 
 abbrev pub checked_lines : Option Text → Bool → Bool → Option (List GeoFinding) → Text
 checked_lines file has_geometry all (Some fs) = lines_text file all fs
 checked_lines file has_geometry all None = if has_geometry then no_geo_text file ++ codes "\n" else []
-
--- whether a check does not hold
-abbrev pub is_failed : GeoFinding → Bool
-is_failed f = not f.ok
-
-abbrev pub has_failed : Option (List GeoFinding) → Bool
-has_failed None = false
-has_failed (Some fs) = list_any is_failed fs

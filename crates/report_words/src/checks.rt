@@ -1,8 +1,7 @@
 //! The checks of GeoParquet metadata in words.
 ghost use Rattle.std.specs.Prelude.{◌≡◌, ◌++◌, false, None, IfOk, OnOk, option_map, string_bytes};
-ghost use Rattle.std.specs.List.{list_any};
 ghost use Rattle.arrow_values.specs.Texts.{text_of};
-ghost use Rattle.report_words.specs.Checks.{of_column, check_text, check_line, checks_text, checked_text, checked_lines, is_failed, has_failed};
+ghost use Rattle.report_words.specs.Checks.{of_column, check_text, check_line, checks_text, checked_text, checked_lines};
 
 use crate::text::shown;
 use geoparquet::{GeoFinding, check_lines, no_geo_code, no_geo_line, no_geo_message};
@@ -48,23 +47,6 @@ pub fn checked_lines(
         Some(findings) => check_lines(alloc, file, findings.as_slice(), all),
         None => warning_line(alloc, file, has_geometry),
     }
-}
-
-/// Whether a check does not hold.
-pub fn has_failed(findings: &Option<Vec<GeoFinding>>) -> bool
-    ensures { result ≡ has_failed (option_map (λ fs. fs.items) findings.now) }
-{
-    match findings {
-        Some(findings) => is_one_failed(findings.as_slice()),
-        None => false,
-    }
-}
-
-/// Whether one of these checks does not hold.
-fn is_one_failed(findings: &[GeoFinding]) -> bool
-    ensures { result ≡ list_any is_failed findings.now }
-{
-    findings.iter().any(|finding| !finding.ok)
 }
 
 /// The warning in words, if the file has geometries.

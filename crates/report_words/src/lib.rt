@@ -12,7 +12,7 @@ mod text;
 mod wants;
 
 pub use cell::cut;
-pub use checks::{checked_lines, checked_text, has_failed};
+pub use checks::{checked_lines, checked_text};
 pub use columns::row_of;
 pub use crs::crs_name;
 pub use problems::{long_line_text, problem_text};
