@@ -5,3 +5,7 @@ pub mod Stands
 pub mod PlainTexts
 pub mod PlainValues
 pub mod PlainRuns
+pub mod Compact
+mod Printable
+mod Objects
+mod TextReadBack

@@ -8,3 +8,6 @@ pub mod Whole
 pub mod Prints
 pub mod Laws
 pub mod PlainTokens
+pub mod Compact
+pub mod CrsText
+pub mod MetadataText

@@ -17,56 +17,12 @@ use Rattle.serde_json.specs.Read.{of_json, of_items, of_members, number_of, conv
 use Rattle.arrow_values.specs.Tree.{Text}
 use Rattle.geoarrow_meta.specs.declared.edges.Edges.{Edges}
 use Rattle.geoarrow_meta.specs.declared.crs.crs_type.CrsType.TheVariants.{Projjson}
-use Rattle.metadata_text.specs.Written.{metadata_tokens}
+use Rattle.geoarrow_meta.specs.MetadataText.{metadata_tokens}
 use Rattle.value_tokens.specs.Next.{next_value}
 use Rattle.value_tokens.specs.Values.{is_object}
-use Rattle.value_tokens.proofs.Presence.{get_member-put_at}
+use Rattle.value_tokens.proofs.Kept.{Reads, value_read}
 use Rattle.geoparquet.specs.Extensions.{IsRead, crs_of, named_in, text_at, text_with}
 use Rattle.geoparquet.specs.Values.{at, text_of_value}
-
--- ---- what is read
-
--- what is read of the value is there, or without a value what was there before
-abbrev Kept : Option json.Json → Option Data → Option Data → Type 0
-Kept None before after = after ≡ before
-Kept (Some j) before after = (d : Data) × (of_json j ≡ Some d) × (after ≡ Some d)
-
--- what is read of the value, if there is one
-abbrev pub Reads : Option json.Json → Option Data → Type 0
-Reads o found = Kept o None found
-
-last : (b : Bool) (j : json.Json) (d : Data) (before after : Option Data) → of_json j ≡ Some d → after ≡ cond b (Some d) before → Kept (cond b (Some j) None) before after
-last true j d before after is e = (d, is, e)
-last false j d before after is e = e
-
-turn : (o : Option json.Json) (k l : Text) (j : json.Json) (d : Data) (before put_in after : Option Data) → of_json j ≡ Some d → put_in ≡ cond (bytes_eq k l) (Some d) before → Kept o put_in after
-    → Kept (find.later_or o (cond (bytes_eq l k) (Some j) None)) before after
-turn (Some i) k l j d before put_in after is e h = h
-turn None k l j d before put_in after is e h = last (bytes_eq l k) j d before after is (h ∙ e ∙ ap (λ b. cond b (Some d) before) (nat_list_eq_equiv.symm k l))
-
-members_read : (js : json.Members) (k : Text) (before ms : Members) → of_members js before ≡ Some ms → Kept (find.get_member k js) (get_member k before) (get_member k ms)
-members_read json.no_members k before ms e = let same : before ≡ ms = grind arith in ap (get_member k) (sym same)
-members_read (json.member l j js) k before ms e =
-    option_and_then_some (λ d. of_members js (put l d before)) (of_json j) ms e
-    (λ d is next. turn (find.get_member k js) k l j d (get_member k before) (get_member k (put l d before)) (get_member k ms) is (get_member-put_at k l d before) (members_read js k (put l d before) ms next))
-
-object_read : (k : Text) (js : json.Members) (o : Option Members) (d : Data) → of_members js no_members ≡ o → option_map object o ≡ Some d → Reads (find.get_member k js) (get k d)
-object_read k js None d is e = absurd (cc)
-object_read k js (Some ms) d is e =
-    let same : object ms ≡ d = grind arith in
-    subst (λ v. Reads (find.get_member k js) (get k v)) same (members_read js k no_members ms is)
-
-no_member : {A : Type 0} (k : Text) (f : A → Data) (o : Option A) (d : Data) → ((a : A) → get k (f a) ≡ None) → option_map f o ≡ Some d → get k d ≡ None
-no_member k f None d h e = absurd (cc)
-no_member k f (Some a) d h e = let same : f a ≡ d = grind arith in ap (get k) (sym same) ∙ h a
-
-pub member_read : (k : Text) (j : json.Json) (d : Data) → of_json j ≡ Some d → Reads (find.get k j) (get k d)
-member_read k json.null d e = grind arith
-member_read k (json.boolean b) d e = grind arith
-member_read k (json.number s) d e = no_member k number (number_of s) d (λ n. refl) e
-member_read k (json.string s) d e = grind arith
-member_read k (json.array js) d e = no_member k array (of_items js) d (λ ds. refl) e
-member_read k (json.object js) d e = object_read k js (of_members js no_members) d refl e
 
 -- ---- texts
 
@@ -87,16 +43,16 @@ text_found None found none = ap text_of_value (sym none)
 text_found (Some j) found (d, is, there) = text_read j d is ∙ ap text_of_value (sym there)
 
 pub text_at_read : (k : Text) (j : json.Json) (d : Data) → of_json j ≡ Some d → text_at k j ≡ text_of_value (at k (Some d))
-text_at_read k j d e = text_found (find.get k j) (get k d) (member_read k j d e)
+text_at_read k j d e = text_found (find.get k j) (get k d) (value_read k j d e)
 
 -- ---- the member of `columns` with a name
 
 then_member : (k : Text) (o : Option json.Json) (found : Option Data) → Reads o found → Reads (option_and_then (find.get k) o) (at k found)
 then_member k None found none = ap (at k) none
-then_member k (Some j) found (d, is, there) = subst (λ v. Reads (find.get k j) (at k v)) (sym there) (member_read k j d is)
+then_member k (Some j) found (d, is, there) = subst (λ v. Reads (find.get k j) (at k v)) (sym there) (value_read k j d is)
 
 pub named_read : (name : Text) (j : json.Json) (d : Data) → of_json j ≡ Some d → Reads (named_in j name) (at name (get (codes "columns") d))
-named_read name j d e = then_member name (find.get (codes "columns") j) (get (codes "columns") d) (member_read (codes "columns") j d e)
+named_read name j d e = then_member name (find.get (codes "columns") j) (get (codes "columns") d) (value_read (codes "columns") j d e)
 
 -- ---- what is in a value that was read
 
@@ -123,7 +79,7 @@ shallower k (json.object ms) i e = omega (arith, members_shallow k ms i (members
 
 pub member_is_read : (k : Text) (j i : json.Json) → IsRead j → find.get k j ≡ Some i → IsRead i
 member_is_read k j i ((numbers, nests), (d, is)) e =
-    let there : Reads (Some i) (get k d) = subst (λ o. Reads o (get k d)) e (member_read k j d is) in
+    let there : Reads (Some i) (get k d) = subst (λ o. Reads o (get k d)) e (value_read k j d is) in
     ((HasNumbers-get k j i numbers (sym e), omega (arith, nests, shallower k j i e)), (there.0, there.1))
 
 -- ---- the text of a value that was read

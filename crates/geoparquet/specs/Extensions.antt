@@ -15,7 +15,7 @@ use Rattle.geoarrow_meta.specs.declared.edges.Edges.{Edges}
 use Rattle.geoarrow_meta.specs.declared.edges.Edges.TheVariants.{Spherical}
 use Rattle.geoarrow_meta.specs.declared.crs.crs_type.CrsType.{CrsType}
 use Rattle.geoarrow_meta.specs.declared.crs.crs_type.CrsType.TheVariants.{Projjson, AuthorityCode}
-use Rattle.metadata_text.specs.Written.{metadata_tokens}
+use Rattle.geoarrow_meta.specs.MetadataText.{metadata_tokens}
 use Rattle.geoparquet.specs.Checks.{value_of}
 use Rattle.geoparquet.specs.Identifiers.{default_identifier}
 use Rattle.geoparquet.specs.Values.{at, text_of_value}

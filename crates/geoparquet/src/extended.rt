@@ -10,10 +10,9 @@ ghost use Rattle.value_tokens.specs.Values.{IsReadable};
 
 use crate::encoding::encoded_as;
 use crate::extension::{extension_text, text_at};
-use arrow_columns::Column;
+use arrow_columns::{Column, with_extension};
 use geoarrow_layout::ExtensionName;
 use json::{Scratch, Value};
-use metadata_text::with_extension;
 use std::alloc::{AllocError, Global};
 use std::collections::BTreeMap;
 use value_tokens::{Refusal, member_of, read_json};

@@ -6,9 +6,8 @@ ghost use Rattle.arrow_values.specs.Texts.{text_of};
 ghost use Rattle.value_tokens.specs.Values.{IsReadable, is_object};
 ghost use Rattle.geoparquet.specs.Extensions.{crs_of, edges_of, text_with, IsRead, text_at, member_text};
 
-use geoarrow_meta::{CrsType, Edges};
+use geoarrow_meta::{CrsType, Edges, WrittenCrs, metadata_text};
 use json::Value;
-use metadata_text::{WrittenCrs, metadata_text};
 use std::alloc::{AllocError, Global};
 use value_tokens::{JsonText, member_of};
 

@@ -7,9 +7,9 @@ use Rattle.serde_json.specs.Data.{Data}
 use Rattle.arrow_values.specs.Tree.{Text}
 use Rattle.geoarrow_meta.specs.declared.edges.Edges.{Edges}
 use Rattle.geoarrow_meta.specs.declared.crs.crs_type.CrsType.TheVariants.{Projjson}
-use Rattle.metadata_text.specs.Crs.{is_projjson, IsJson}
-use Rattle.metadata_text.specs.Written.{metadata_tokens}
-use Rattle.metadata_text.proofs.Compact.{compact_is_same}
+use Rattle.geoarrow_meta.specs.CrsText.{is_projjson, IsJson}
+use Rattle.geoarrow_meta.specs.MetadataText.{metadata_tokens}
+use Rattle.geoarrow_meta.proofs.Compact.{compact_is_same}
 use Rattle.parquet_columns.specs.Geometry.{text_crs, keyed_crs, text_with}
 use Rattle.parquet_columns.specs.Values.{compact_of}
 

@@ -5,8 +5,8 @@ use Rattle.std.specs.declared.alloc.Global.{Global}
 use Rattle.json.specs.Print.{print}
 use Rattle.geoarrow_meta.specs.declared.edges.Edges.{Edges}
 use Rattle.geoarrow_meta.specs.declared.crs.crs_type.CrsType.{CrsType}
-use Rattle.metadata_text.specs.declared.crs.WrittenCrs.{WrittenCrs}
-use Rattle.metadata_text.specs.Written.{crs_tokens, metadata_tokens}
+use Rattle.geoarrow_meta.specs.declared.crs_text.WrittenCrs.{WrittenCrs}
+use Rattle.geoarrow_meta.specs.MetadataText.{crs_tokens, metadata_tokens}
 use Rattle.parquet_columns.specs.Geometry.{TypedCrs, text_with}
 use Rattle.parquet_columns.specs.Typed.{IsTyped}
 

@@ -12,8 +12,8 @@ use Rattle.geoarrow_meta.specs.declared.edges.Edges.{Edges}
 use Rattle.geoarrow_meta.specs.declared.edges.Edges.TheVariants as edges
 use Rattle.geoarrow_meta.specs.declared.crs.crs_type.CrsType.{CrsType}
 use Rattle.geoarrow_meta.specs.declared.crs.crs_type.CrsType.TheVariants.{Projjson, AuthorityCode, Srid}
-use Rattle.metadata_text.specs.Crs.{is_projjson}
-use Rattle.metadata_text.specs.Written.{metadata_tokens}
+use Rattle.geoarrow_meta.specs.CrsText.{is_projjson}
+use Rattle.geoarrow_meta.specs.MetadataText.{metadata_tokens}
 use Rattle.parquet_footer.specs.declared.element.PhysicalType.{PhysicalType}
 use Rattle.parquet_footer.specs.declared.element.PhysicalType.TheVariants.{ByteArray}
 use Rattle.parquet_footer.specs.declared.element.Repetition.{Repetition}

@@ -2,9 +2,9 @@
 use Rattle.std.specs.Prelude.{◌≡◌, List, Option}
 use Rattle.serde_json.specs.Data.{Data}
 use Rattle.geoarrow_meta.specs.declared.crs.crs_type.CrsType.{CrsType}
-use Rattle.metadata_text.specs.declared.crs.WrittenCrs.{WrittenCrs}
-use Rattle.metadata_text.specs.Crs.{IsCrs}
-use Rattle.metadata_text.specs.Written.{crs_tokens}
+use Rattle.geoarrow_meta.specs.declared.crs_text.WrittenCrs.{WrittenCrs}
+use Rattle.geoarrow_meta.specs.CrsText.{IsCrs}
+use Rattle.geoarrow_meta.specs.MetadataText.{crs_tokens}
 use Rattle.parquet_footer.specs.Footer.{Pairing}
 use Rattle.parquet_columns.specs.Geometry.{TypedCrs, keyed_crs}
 use Rattle.parquet_columns.specs.Keys.{value_of}

@@ -8,7 +8,7 @@ use Rattle.std.specs.Ordering.{nat_cmp}
 use Rattle.std.specs.declared.alloc.Global.{Global}
 use Rattle.arrow_values.specs.Tree.{Text}
 use Rattle.arrow_values.specs.Texts.{text_of}
-use Rattle.metadata_text.specs.Compact.{compact_projjson}
+use Rattle.geoarrow_meta.specs.Compact.{compact_projjson}
 use Rattle.parquet_footer.specs.Footer.{Pairing, pairing}
 use Rattle.parquet_footer.specs.declared.footer.KeyValue.{KeyValue}
 use Rattle.parquet_columns.specs.Keys.{value_of}

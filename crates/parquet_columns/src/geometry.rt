@@ -8,8 +8,7 @@ ghost use Rattle.parquet_columns.specs.Typed.{IsNamed};
 ghost use Rattle.parquet_columns.specs.Geometry.{text_crs, colon_parts, coded_crs, crs_in, edges_of, text_with, logical_text, is_plain_leaf, extension_text};
 
 use crate::values::KeyValues;
-use geoarrow_meta::{CrsType, Edges};
-use metadata_text::{WrittenCrs, is_projjson, metadata_text};
+use geoarrow_meta::{CrsType, Edges, WrittenCrs, is_projjson, metadata_text};
 use parquet_footer::{Algorithm, LogicalType, PhysicalType, Repetition, SchemaElement};
 use std::alloc::{AllocError, Global};
 

@@ -10,8 +10,7 @@ use crate::budget::size_of;
 use crate::error::SchemaError;
 use crate::geometry::extension_text;
 use crate::values::KeyValues;
-use arrow_columns::Column;
-use metadata_text::with_extension;
+use arrow_columns::{Column, with_extension};
 use parquet_footer::SchemaElement;
 use std::alloc::{AllocError, Global};
 

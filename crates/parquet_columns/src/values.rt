@@ -8,8 +8,7 @@ ghost use Rattle.parquet_columns.specs.Geometry.{keyed_crs, text_with};
 ghost use Rattle.parquet_columns.specs.Keys.{value_of};
 ghost use Rattle.parquet_columns.specs.Values.{at, AreValues, AreJudged, compact_of};
 
-use geoarrow_meta::{CrsType, Edges};
-use metadata_text::{WrittenCrs, compact_projjson, metadata_text};
+use geoarrow_meta::{CrsType, Edges, WrittenCrs, compact_projjson, metadata_text};
 use parquet_footer::KeyValue;
 use std::alloc::{AllocError, Global};
 use std::collections::BTreeMap;

@@ -1,9 +1,9 @@
 mod Firsts
 mod Loops
 mod OneLine
-mod Kept
+pub mod Kept
 mod Whole
-mod Copies
+pub mod Copies
 mod Compact
 pub mod Turns
 pub mod Beginnings

@@ -7,11 +7,12 @@
 //! out of memory.
 //!
 //! `Adds` of `specs/Adds` says what is printed: the tokens that a call added after the earlier ones, which it kept.
-//! The tokens of a value are those of its `outline`, whose text is `serde_json`'s `compact_text` (`specs/Printed`).
+//! The tokens of a value are those of its `outline`, whose text is `serde_json`'s `compact_text` (`proofs/Printed`).
 //!
-//! Only [`read_value`] makes a tree: it returns the value itself, for what is kept as JSON.
+//! [`read_value`] and [`read_json`] make a tree: one returns the value as `serde_json` has it, the other with each
+//! number as it is written, for what is kept as JSON.
 //!
-//! `specs/` also has the laws of these definitions that a reader of objects or a printer of values needs.
+//! `proofs/` has the laws of these definitions that a reader of objects or a printer of values needs.
 #![tactic(auto)]
 
 mod json_text;

@@ -1,4 +1,0 @@
-pub mod Compact
-mod Copies
-mod Objects
-mod ReadBack

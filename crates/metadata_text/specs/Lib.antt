@@ -1,3 +1,0 @@
-pub mod Compact
-pub mod Crs
-pub mod Written
