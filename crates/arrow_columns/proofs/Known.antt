@@ -1,7 +1,7 @@
 -- Columns as fields, and the one column.
 use Rattle.std.proofs.Common.{◌≡◌, List, [], ◌∷◌, ◌++◌, ◌<◌, length, Some, None, refl, map, arith}
 use Rattle.arrow_columns.specs.Column.{TypeTree, known, other, ColumnTree, type_tree, column_tree}
-use Rattle.arrow_columns.specs.declared.column.Column.{Column}
+use Rattle.arrow_columns.specs.declared.column.SchemaColumn.{SchemaColumn}
 use Rattle.arrow_values.specs.Tree.{FieldTree}
 use Rattle.arrow_columns.specs.Nested.{known_field, known_fields, only}
 
@@ -19,6 +19,6 @@ only_more f xs (y ∷ []) x e some = rw e refl
 only_more f xs (y ∷ z ∷ ys) x e some = rw e refl
 
 -- one more field
-pub field_next : (xs : List Column) (c : Column) → known_fields (map column_tree (xs ++ c ∷ [])) ≡ known_fields (map column_tree xs) ++ known_fields (column_tree c ∷ [])
+pub field_next : (xs : List SchemaColumn) (c : SchemaColumn) → known_fields (map column_tree (xs ++ c ∷ [])) ≡ known_fields (map column_tree xs) ++ known_fields (column_tree c ∷ [])
 field_next [] c = refl
 field_next (x ∷ xs) c = rw (field_next xs c) (put (column_tree x) (type_tree x.data_type) (known_fields (map column_tree xs)) (known_fields (column_tree c ∷ [])))

@@ -10,7 +10,7 @@ use Rattle.std.proofs.lemmas.Slice.Eq.{bytes_eq-Decides}
 use Rattle.arrow_values.specs.Tree.{Text}
 use Rattle.arrow_columns.specs.Column.{ColumnTree, column_tree}
 use Rattle.arrow_columns.specs.Names.{count_of, first_of, is_one, named_in, named_at, AreNamed}
-use Rattle.arrow_columns.specs.declared.column.Column.{Column}
+use Rattle.arrow_columns.specs.declared.column.SchemaColumn.{SchemaColumn}
 
 -- a name that is found is counted, and no other is
 abbrev pub Counts : {X : Type 0} → Option X → ℕ → Type 0
@@ -46,15 +46,15 @@ one_behind cs c name =
 
 -- ---- in the map
 
-abbrev pub shown : Bor Column × Bool → ColumnTree × Bool
+abbrev pub shown : Bor SchemaColumn × Bool → ColumnTree × Bool
 shown v = (column_tree v.0.now, v.1)
 
-put : (b : Bool) (c : ColumnTree) (found : Bor Column × Bool) (old : Option (Bor Column × Bool)) → (b ≡ true → Some (shown found) ≡ with_one true c (option_map shown old))
+put : (b : Bool) (c : ColumnTree) (found : Bor SchemaColumn × Bool) (old : Option (Bor SchemaColumn × Bool)) → (b ≡ true → Some (shown found) ≡ with_one true c (option_map shown old))
     → option_map shown (cond b (Some found) old) ≡ with_one b c (option_map shown old)
 put true c found old is = is refl
 put false c found old is = refl
 
-pub put_behind : (cs : List ColumnTree) (c : ColumnTree) (m n : BTreeMap (String Global) (Bor Column × Bool)) (found : Bor Column × Bool)
+pub put_behind : (cs : List ColumnTree) (c : ColumnTree) (m n : BTreeMap (String Global) (Bor SchemaColumn × Bool)) (found : Bor SchemaColumn × Bool)
     → ((name : Text) → get_by_text n name ≡ cond (bytes_eq c.name name) (Some found) (get_by_text m name))
     → Some (shown found) ≡ with_one true c (named_at m c.name) → AreNamed cs m → AreNamed (cs ++ c ∷ []) n
 put_behind cs c m n found is first are name =

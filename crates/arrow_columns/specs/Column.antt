@@ -3,9 +3,9 @@ use Rattle.std.specs.Prelude.{Bool, Option, string_bytes}
 use Rattle.arrow_values.specs.Tree.{Text, Tree, Metadata, FieldTree}
 use Rattle.arrow_values.specs.View.{tree, texts_of}
 use Rattle.arrow_values.specs.Texts.{text_at, name_key, metadata_key}
-use Rattle.arrow_columns.specs.declared.column.Column.{Column}
-use Rattle.arrow_columns.specs.declared.column.ColumnType.{ColumnType}
-use Rattle.arrow_columns.specs.declared.column.ColumnType.TheVariants.{Data, Other}
+use Rattle.arrow_columns.specs.declared.column.SchemaColumn.{SchemaColumn}
+use Rattle.arrow_columns.specs.declared.column.AnyType.{AnyType}
+use Rattle.arrow_columns.specs.declared.column.AnyType.TheVariants.{Data, Other}
 
 -- a type: a data type with all that is nested in it, or another type by its notation
 pub data TypeTree : Type 0 where
@@ -18,11 +18,11 @@ pub record ColumnTree : Type 0 where
   pub nullable : Bool
   pub metadata : Metadata
 
-abbrev pub type_tree : ColumnType → TypeTree
+abbrev pub type_tree : AnyType → TypeTree
 type_tree (Data d) = known (tree d)
 type_tree (Other t) = other (string_bytes t)
 
-abbrev pub column_tree : Column → ColumnTree
+abbrev pub column_tree : SchemaColumn → ColumnTree
 column_tree c = record {
   name = string_bytes c.name;
   data_type = type_tree c.data_type;

@@ -5,7 +5,7 @@ use Rattle.std.specs.Borrow.{Bor}
 use Rattle.std.specs.BTreeMap.{BTreeMap, get_by_text}
 use Rattle.arrow_values.specs.Tree.{Text}
 use Rattle.arrow_columns.specs.Column.{ColumnTree, column_tree}
-use Rattle.arrow_columns.specs.declared.column.Column.{Column}
+use Rattle.arrow_columns.specs.declared.column.SchemaColumn.{SchemaColumn}
 
 -- how many columns have that name, and the first of them
 abbrev pub count_of : List ColumnTree → Text → ℕ
@@ -23,8 +23,8 @@ abbrev pub named_in : List ColumnTree → Text → Option (ColumnTree × Bool)
 named_in cs name = option_map (λ c. (c, is_one cs name)) (first_of cs name)
 
 -- a map has that of each name
-abbrev pub named_at : BTreeMap (String Global) (Bor Column × Bool) → Text → Option (ColumnTree × Bool)
+abbrev pub named_at : BTreeMap (String Global) (Bor SchemaColumn × Bool) → Text → Option (ColumnTree × Bool)
 named_at m name = option_map (λ v. (column_tree v.0.now, v.1)) (get_by_text m name)
 
-abbrev pub AreNamed : List ColumnTree → BTreeMap (String Global) (Bor Column × Bool) → Type 0
+abbrev pub AreNamed : List ColumnTree → BTreeMap (String Global) (Bor SchemaColumn × Bool) → Type 0
 AreNamed cs m = (name : Text) → named_at m name ≡ named_in cs name

@@ -14,23 +14,23 @@ use std::collections::BTreeMap;
 /// A column of a schema: a name, a type, whether values may be null, and a map of texts.
 ///
 /// ```rust
-/// let column = Column {
+/// let column = SchemaColumn {
 ///     name: String::from_str(alloc, "at")?,
 ///     nullable: true,
-///     data_type: ColumnType::Other(String::from_str(alloc, "timestamp[ms]")?),
+///     data_type: AnyType::Other(String::from_str(alloc, "timestamp[ms]")?),
 ///     metadata: BTreeMap::new(alloc),
 /// };
 /// let text = column.notation(alloc)?;
 /// assert_eq!(rt; text.as_str(), "at: timestamp[ms]");
 /// ```
 #[derive(Debug, Drop)]
-pub struct Column {
+pub struct SchemaColumn {
     /// The name.
     pub name: String,
     /// Whether values may be null.
     pub nullable: bool,
     /// The type.
-    pub data_type: ColumnType,
+    pub data_type: AnyType,
     /// The metadata of the field.
     pub metadata: BTreeMap<String, String>,
 }
@@ -38,50 +38,50 @@ pub struct Column {
 /// The type of a column.
 ///
 /// ```rust
-/// let column_type = ColumnType::Data(DataType::Float64);
+/// let column_type = AnyType::Data(DataType::Float64);
 /// let text = column_type.notation(alloc)?;
 /// assert_eq!(rt; text.as_str(), "float64");
 /// ```
 #[derive(Debug, Drop)]
-pub enum ColumnType {
+pub enum AnyType {
     /// One of the 26 data types, with all that is nested in it.
     Data(DataType),
     /// Any other type of Arrow, or a nested type with one of those anywhere below: its notation.
     Other(String),
 }
 
-impl ColumnType {
+impl AnyType {
     /// The type in Arrow's usual notation, as `list<item: float64 not null>` or `timestamp[ms, tz=UTC]`; of an `Other` its
     /// text. Errs only when out of memory.
     pub fn notation(&self, alloc: Global) -> Result<String, AllocError>
         ensures { IfOk result (λ text. string_bytes text ≡ type_text (type_tree self.now)) }
     {
         match self {
-            ColumnType::Data(data_type) => data_type_notation(alloc, data_type),
-            ColumnType::Other(text) => String::from_str(alloc, text.as_str()),
+            AnyType::Data(data_type) => data_type_notation(alloc, data_type),
+            AnyType::Other(text) => String::from_str(alloc, text.as_str()),
         }
     }
 }
 
-impl Column {
+impl SchemaColumn {
     /// The column of a field: its name, nullability, data type and metadata, which are moved. Errs only when out of memory.
-    pub fn from_field(alloc: Global, field: Field) -> Result<Column, AllocError>
+    pub fn from_field(alloc: Global, field: Field) -> Result<SchemaColumn, AllocError>
         ensures { IfOk result (λ column. column_tree column ≡ column_of field) }
     {
         let (name, data_type, nullable, metadata) = field.into_parts(alloc)?;
-        Ok(Column {
+        Ok(SchemaColumn {
             name,
             nullable,
-            data_type: ColumnType::Data(data_type),
+            data_type: AnyType::Data(data_type),
             metadata,
         })
     }
 
     /// The column of a field that stays. Errs only when out of memory.
-    pub fn of_field(alloc: Global, field: &Field) -> Result<Column, AllocError>
+    pub fn of_field(alloc: Global, field: &Field) -> Result<SchemaColumn, AllocError>
         ensures { IfOk result (λ column. column_tree column ≡ column_of field.now) }
     {
-        Column::from_field(alloc, field.try_clone(alloc)?)
+        SchemaColumn::from_field(alloc, field.try_clone(alloc)?)
     }
 
     /// The name of the column's extension type: its text at `ARROW:extension:name`, if it has one (Arrow, "Extension Types").

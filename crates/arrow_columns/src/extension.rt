@@ -4,7 +4,7 @@ ghost use Rattle.arrow_values.specs.Texts.{set_extension};
 ghost use Rattle.arrow_values.specs.View.{texts_of};
 ghost use Rattle.arrow_columns.specs.Column.{column_tree};
 
-use crate::Column;
+use crate::SchemaColumn;
 use arrow_values::{DataType, Field};
 use std::alloc::{AllocError, Global};
 use std::collections::BTreeMap;
@@ -13,10 +13,10 @@ use std::collections::BTreeMap;
 /// are. Errs only when out of memory.
 ///
 /// ```rust
-/// let column = Column {
+/// let column = SchemaColumn {
 ///     name: String::from_str(alloc, "geom")?,
 ///     nullable: true,
-///     data_type: ColumnType::Data(DataType::Binary),
+///     data_type: AnyType::Data(DataType::Binary),
 ///     metadata: BTreeMap::new(alloc),
 /// };
 /// let column = with_extension(alloc, column, "geoarrow.wkb", String::from_str(alloc, "{}")?)?;
@@ -25,15 +25,15 @@ use std::collections::BTreeMap;
 /// ```
 pub fn with_extension(
     alloc: Global,
-    column: Column,
+    column: SchemaColumn,
     name: &str,
     text: String,
-) -> Result<Column, AllocError>
+) -> Result<SchemaColumn, AllocError>
     ensures { IfOk result (λ c. column_tree c
         ≡ record (column_tree column) { metadata = set_extension name.now (Some (string_bytes text)) (column_tree column).metadata }) }
 {
     let metadata = with_texts(alloc, column.metadata, name, text)?;
-    Ok(Column {
+    Ok(SchemaColumn {
         name: column.name,
         nullable: column.nullable,
         data_type: column.data_type,

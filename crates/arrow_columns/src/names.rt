@@ -1,10 +1,10 @@
 //! Columns by their names.
 ghost use Rattle.std.specs.Prelude.{◌≡◌, IfOk, map, option_map};
 ghost use Rattle.arrow_columns.specs.Column.{column_tree};
-ghost use Rattle.arrow_columns.specs.declared.column.Column.{Column};
+ghost use Rattle.arrow_columns.specs.declared.column.SchemaColumn.{SchemaColumn};
 ghost use Rattle.arrow_columns.specs.Names.{first_of, is_one};
 
-use crate::column::Column;
+use crate::column::SchemaColumn;
 use std::alloc::{AllocError, Global};
 use std::collections::BTreeMap;
 use std::marker::Model;
@@ -12,10 +12,10 @@ use std::marker::Model;
 /// Columns, of which the first of a name is found in time that grows with the logarithm of their number.
 ///
 /// ```rust
-/// let column = Column {
+/// let column = SchemaColumn {
 ///     name: String::from_str(alloc, "geom")?,
 ///     nullable: true,
-///     data_type: ColumnType::Data(DataType::Binary),
+///     data_type: AnyType::Data(DataType::Binary),
 ///     metadata: BTreeMap::new(alloc),
 /// };
 /// let columns = vec![in alloc; column]?;
@@ -25,8 +25,8 @@ use std::marker::Model;
 /// ```
 #[derive(Drop)]
 pub struct ColumnNames<'c> {
-    columns: &'c [Column],
-    named: BTreeMap<String, (&'c Column, bool)>,
+    columns: &'c [SchemaColumn],
+    named: BTreeMap<String, (&'c SchemaColumn, bool)>,
 }
 
 impl<'c> Model for ColumnNames<'c> {
@@ -34,12 +34,12 @@ impl<'c> Model for ColumnNames<'c> {
     ghost use Rattle.std.specs.Coded.{codes};
     ghost use Rattle.arrow_columns.specs.Column.{column_tree};
     ghost use Rattle.arrow_columns.specs.Names.{AreNamed};
-    ghost use Rattle.arrow_columns.specs.declared.column.Column.{Column};
-    ghost use Rattle.arrow_columns.specs.contracts.column.Column as row;
+    ghost use Rattle.arrow_columns.specs.declared.column.SchemaColumn.{SchemaColumn};
+    ghost use Rattle.arrow_columns.specs.contracts.column.SchemaColumn as row;
 
     ghost coded = { Prim.hlevel (codes, row.the_row.coded) };
 
-    ghost Value = { List Column };
+    ghost Value = { List SchemaColumn };
 
     ghost view = { λ r. r.columns.now };
 
@@ -48,10 +48,10 @@ impl<'c> Model for ColumnNames<'c> {
 
 impl<'c> ColumnNames<'c> {
     /// These columns. Errs only when out of memory.
-    pub fn new(alloc: Global, columns: &'c [Column]) -> Result<ColumnNames<'c>, AllocError>
+    pub fn new(alloc: Global, columns: &'c [SchemaColumn]) -> Result<ColumnNames<'c>, AllocError>
         ensures { IfOk result (λ names. names ≡ columns.now) }
     {
-        let mut named: BTreeMap<String, (&'c Column, bool)> = BTreeMap::new(alloc);
+        let mut named: BTreeMap<String, (&'c SchemaColumn, bool)> = BTreeMap::new(alloc);
         'columns: for column in columns {
             let name = column.name.as_str();
             let found = match named.get(name) {
@@ -64,7 +64,7 @@ impl<'c> ColumnNames<'c> {
     }
 
     /// The first column of that name, if one has it.
-    pub fn first(&self, name: &str) -> Option<&'c Column>
+    pub fn first(&self, name: &str) -> Option<&'c SchemaColumn>
         ensures { option_map (λ c. column_tree c.now) result ≡ first_of (map column_tree self.now) name.now }
     {
         match self.named.get(name) {

@@ -4,7 +4,7 @@ ghost use Rattle.arrow_columns.specs.Column.{type_tree, column_tree};
 ghost use Rattle.arrow_columns.specs.Notation.{column_text};
 ghost use Rattle.arrow_columns.specs.Nested.{only, list_text, list_type, all_known, known_fields, struct_type};
 
-use crate::column::{Column, ColumnType};
+use crate::column::{SchemaColumn, AnyType};
 use crate::notation::{nested_notation, part_notation, sized_notation};
 use arrow_values::{DataType, Field, Fields};
 use std::alloc::{AllocError, Global};
@@ -22,7 +22,7 @@ pub enum ListForm {
 
 /// The one column, as a list has one child; `None` where there are none or more. Allocates nothing.
 #[tactic(auto, using(crate::proofs::Known::only_one, crate::proofs::Known::only_more, std::proofs::lemmas::Grind::common_steps))]
-pub fn only_column(columns: Vec<Column>) -> Option<Column>
+pub fn only_column(columns: Vec<SchemaColumn>) -> Option<SchemaColumn>
     ensures { option_map column_tree result ≡ only (map column_tree columns.items) }
 {
     let mut columns = columns;
@@ -46,38 +46,38 @@ fn list_text(alloc: Global, form: ListForm, part: String) -> Result<String, Allo
 
 /// The type of lists whose items are those of a column: a data type where the column's type is one, with the column as
 /// its field, or otherwise the notation, as `list<item: timestamp[ms]>`. Errs only when out of memory.
-pub fn list_type(alloc: Global, form: ListForm, item: Column) -> Result<ColumnType, AllocError>
+pub fn list_type(alloc: Global, form: ListForm, item: SchemaColumn) -> Result<AnyType, AllocError>
     ensures { IfOk result (λ made. type_tree made ≡ list_type form (column_tree item)) }
 {
-    let Column {
+    let SchemaColumn {
         name,
         nullable,
         data_type,
         metadata,
     } = item;
     match data_type {
-        ColumnType::Data(item) => {
+        AnyType::Data(item) => {
             let item = Field::from_parts(name, item, nullable, metadata);
             let item = Box::new(alloc, item)?;
-            Ok(ColumnType::Data(match form {
+            Ok(AnyType::Data(match form {
                 ListForm::Small => DataType::List(item),
                 ListForm::Large => DataType::LargeList(item),
                 ListForm::Fixed(size) => DataType::FixedSizeList(item, size),
             }))
         }
-        ColumnType::Other(text) => {
+        AnyType::Other(text) => {
             let part = part_notation(alloc, name.as_str(), text.as_str(), nullable)?;
-            Ok(ColumnType::Other(list_text(alloc, form, part)?))
+            Ok(AnyType::Other(list_text(alloc, form, part)?))
         }
     }
 }
 
 /// Whether the types of all columns are data types. Allocates nothing.
-pub fn all_known(columns: &[Column]) -> bool
+pub fn all_known(columns: &[SchemaColumn]) -> bool
     ensures { result ≡ all_known (map column_tree columns.now) }
 {
     for column in columns {
-        if let ColumnType::Other(_) = column.data_type {
+        if let AnyType::Other(_) = column.data_type {
             return false;
         }
     }
@@ -86,18 +86,18 @@ pub fn all_known(columns: &[Column]) -> bool
 
 /// The columns whose types are data types, as fields, in order; the others are left out. Errs only when out of memory.
 #[tactic(auto, using(crate::proofs::Known::field_next, std::proofs::lemmas::Grind::common_steps))]
-pub fn fields_of(alloc: Global, columns: Vec<Column>) -> Result<Vec<Field>, AllocError>
+pub fn fields_of(alloc: Global, columns: Vec<SchemaColumn>) -> Result<Vec<Field>, AllocError>
     ensures { IfOk result (λ fields. fields.items ≡ known_fields (map column_tree columns.items)) }
 {
     let mut fields = Vec::with_capacity(alloc, columns.len())?;
     'columns: for column in columns {
-        let Column {
+        let SchemaColumn {
             name,
             nullable,
             data_type,
             metadata,
         } = column;
-        if let ColumnType::Data(data_type) = data_type {
+        if let AnyType::Data(data_type) = data_type {
             fields.push(Field::from_parts(name, data_type, nullable, metadata))?;
         }
     }
@@ -106,7 +106,7 @@ pub fn fields_of(alloc: Global, columns: Vec<Column>) -> Result<Vec<Field>, Allo
 
 /// The columns as parts of a nested type's notation, as `at: timestamp[ms]`, in order. Errs only when out of memory.
 #[tactic(auto, using(crate::proofs::Steps::goes_on))]
-pub fn parts_of(alloc: Global, columns: &[Column]) -> Result<Vec<String>, AllocError>
+pub fn parts_of(alloc: Global, columns: &[SchemaColumn]) -> Result<Vec<String>, AllocError>
     ensures { IfOk result (λ parts. map string_bytes parts.items ≡ map column_text (map column_tree columns.now)) }
 {
     let mut parts = Vec::new(alloc);
@@ -120,24 +120,24 @@ pub fn parts_of(alloc: Global, columns: &[Column]) -> Result<Vec<String>, AllocE
 /// the notation, as `struct<x: float64, at: timestamp[ms]>`. Errs only when out of memory.
 ///
 /// ```rust
-/// let column = Column {
+/// let column = SchemaColumn {
 ///     name: String::from_str(alloc, "at")?,
 ///     nullable: false,
-///     data_type: ColumnType::Other(String::from_str(alloc, "timestamp[ms]")?),
+///     data_type: AnyType::Other(String::from_str(alloc, "timestamp[ms]")?),
 ///     metadata: BTreeMap::new(alloc),
 /// };
 /// let made = struct_type(alloc, vec![in alloc; column]?)?;
 /// let text = made.notation(alloc)?;
 /// assert_eq!(rt; text.as_str(), "struct<at: timestamp[ms] not null>");
 /// ```
-pub fn struct_type(alloc: Global, columns: Vec<Column>) -> Result<ColumnType, AllocError>
+pub fn struct_type(alloc: Global, columns: Vec<SchemaColumn>) -> Result<AnyType, AllocError>
     ensures { IfOk result (λ made. type_tree made ≡ struct_type (map column_tree columns.items)) }
 {
     if !all_known(columns.as_slice()) {
         let parts = parts_of(alloc, columns.as_slice())?;
         let text = nested_notation(alloc, "struct", parts.as_slice())?;
-        return Ok(ColumnType::Other(text));
+        return Ok(AnyType::Other(text));
     }
     let fields = fields_of(alloc, columns)?;
-    Ok(ColumnType::Data(DataType::Struct(Fields::from(fields))))
+    Ok(AnyType::Data(DataType::Struct(Fields::from(fields))))
 }

@@ -29,7 +29,7 @@ use Rattle.arrow_ipc.specs.Fault.{◌>>=◌}
 use Rattle.arrow_ipc.specs.Kinds.{int_at, number_at, kind_at}
 use Rattle.arrow_ipc.specs.Types.{type_of}
 use Rattle.arrow_ipc.specs.Shapes.{Shape, column_of, member_ids, are_ids, member_fields, nested_columns, shape_of, tag_of, bytes_of, has_table}
-use Rattle.arrow_ipc.specs.declared.fault.Fault.{Fault}
+use Rattle.arrow_ipc.specs.declared.fault.IpcFault.{IpcFault}
 use Rattle.arrow_ipc.specs.declared.parts.Kind.{Kind}
 use Rattle.arrow_ipc.specs.declared.wire.Table.{Table as Opened}
 use Rattle.arrow_ipc.specs.declared.parts.Kind.TheVariants.{Plain, List as ListOf, Struct, Union}
@@ -47,7 +47,7 @@ use Rattle.arrow_ipc.specs.declared.write.WriteError.{WriteError}
 use Rattle.arrow_ipc.specs.declared.write.WriteError.TheVariants.{Column as Unfit}
 use Rattle.std.proofs.lemmas.Option.{slice_get-map, slice_get_read}
 use Rattle.std.specs.Borrow.{Bor}
-use Rattle.arrow_columns.specs.declared.column.Column.{Column}
+use Rattle.arrow_columns.specs.declared.column.SchemaColumn.{SchemaColumn}
 
 pub length_text : (text : Text) → length (text_block text) ≡ rounded (5 + length text)
 length_text text = grind (arith, length_linked, length-append)
@@ -182,14 +182,14 @@ pub length_type : (n : Option ℕ) (b : Option Bool) → length (type_block n b)
 length_type n b = let size = length_table (place_of_number n ∷ place_of_truth b ∷ []) (word (number n) ++ (truth b ∷ 0 ∷ 0 ∷ 0 ∷ [])) [] in omega (arith, size)
 
 -- what is read after all that stands in the table
-abbrev after_all : List ℕ → ℕ → Opened → Result Kind Fault → Result Kind Fault
+abbrev after_all : List ℕ → ℕ → Opened → Result Kind IpcFault → Result Kind IpcFault
 after_all bytes at table k = integer_at bytes (at + 4) w32 >>= λ w. integer_at bytes (at + 4) w16 >>= λ h. integer_at bytes (at + 8) w8 >>= λ b. slot_at bytes table 0 >>= λ s. k
 
 -- a type with no time zone and no type ids, by its kind
 is_type : (tag : ℕ) (n : Option ℕ) (b : Option Bool) (cs : List ColumnTree) (t : TypeTree) (kind : Kind) → 0 < tag → tag ≤ 26 → (tag == 10) ≡ false → (tag == 14) ≡ false → number n < 2 ^ 32
     → ((bytes : List ℕ) (at : ℕ) (table : Opened) → ((i : ℕ) → slot_at bytes table i ≡ Ok (slot_place at (place_of_number n ∷ place_of_truth b ∷ []) i)) → integer_at bytes (at + 4) w32 ≡ Ok (number n)
     → integer_at bytes (at + 4) w16 ≡ Ok (from_le_bytes w16 (byte_at 0 (number n) ∷ byte_at 1 (number n) ∷ [])) → integer_at bytes (at + 8) w8 ≡ Ok (truth b)
-    → (k : Result Kind Fault) → k ≡ after_all bytes at table (kind_at bytes tag table) → k ≡ Ok kind)
+    → (k : Result Kind IpcFault) → k ≡ after_all bytes at table (kind_at bytes tag table) → k ≡ Ok kind)
     → ((bytes : List ℕ) (place : ℕ) → typed bytes place kind [] None cs ≡ Ok t) → IsType tag (type_block n b) cs t
 unfolding zone_or_ids
 is_type tag n b cs t kind some least no_zone no_ids small kind_is type_is =
@@ -379,7 +379,7 @@ module _ {A : Type 0} (P : List ℕ → A → Type 0) (rooms : List A → ℕ) w
       }
 
   -- the vector of all of them
-  pub made_gives : {B : Type 0} (read : List ℕ → ℕ → Result (B × ℕ) Fault) (a : B) (unfit : Type 0) (blocks : List (List ℕ)) (all : List A) → rooms [] ≡ 12 → Made P rooms blocks [] all
+  pub made_gives : {B : Type 0} (read : List ℕ → ℕ → Result (B × ℕ) IpcFault) (a : B) (unfit : Type 0) (blocks : List (List ℕ)) (all : List A) → rooms [] ≡ 12 → Made P rooms blocks [] all
       → (AllZip P blocks all → length (vector_block blocks) < 2 ^ 32 → Holds read (vector_block blocks) a) → (r : Result (Vec ℕ Global) WriteError) → Makes (vector_block blocks) r
       → Gives (λ b. Holds read b a) unfit (rooms all) r
   made_gives read a unfit blocks all none m holds r made =
@@ -395,13 +395,13 @@ abbrev pub joined : {S E : Type 0} → (S → E → S) → S → List E → S
 joined join s [] = s
 joined join s (x ∷ xs) = joined join (join s x) xs
 
-module _ {S E : Type 0} (read : List ℕ → ℕ → Result (E × ℕ) Fault) (join : S → E → S) where
+module _ {S E : Type 0} (read : List ℕ → ℕ → Result (E × ℕ) IpcFault) (join : S → E → S) where
   are_whole : (bs : List (List ℕ)) (xs : List E) → AllZip (Holds read) bs xs → AreWhole bs
   are_whole [] xs h = tt
   are_whole (b ∷ bs) [] h = absurd h
   are_whole (b ∷ bs) (x ∷ xs) h = (h.0.whole, are_whole bs xs h.1)
 
-  module _ (bytes : List ℕ) (at start : ℕ) (put : S → ℕ → Result (S × ℕ) Fault)
+  module _ (bytes : List ℕ) (at start : ℕ) (put : S → ℕ → Result (S × ℕ) IpcFault)
       (step : (s : S) (i t : ℕ) (v : E × ℕ) → target_at bytes (start + 4 * i) ≡ Ok t → read bytes t ≡ Ok v → put s i ≡ Ok (join s v.0, v.1)) where
     walked : (bs : List (List ℕ)) (xs : List E) → AllZip (Holds read) bs xs → (s : S) (i near : ℕ) → AreLinked bytes at near bs → at + near ≡ start + 4 * i
         → (n : ℕ) × (n ≤ lengths bs) × (gather put s i (length bs) ≡ Ok (joined join s xs, n))
@@ -417,7 +417,7 @@ module _ {S E : Type 0} (read : List ℕ → ℕ → Result (E × ℕ) Fault) (j
         (one.0 + next.0, omega (arith, one.1, next.1), rw (first, next.2) refl)
 
   -- the whole vector
-  pub vector_holds : (put : List ℕ → ℕ → S → ℕ → Result (S × ℕ) Fault) (s : S)
+  pub vector_holds : (put : List ℕ → ℕ → S → ℕ → Result (S × ℕ) IpcFault) (s : S)
       → ((bytes : List ℕ) (start : ℕ) (s : S) (i t : ℕ) (v : E × ℕ) → target_at bytes (start + 4 * i) ≡ Ok t → read bytes t ≡ Ok v → put bytes start s i ≡ Ok (join s v.0, v.1))
       → (bs : List (List ℕ)) (xs : List E) → AllZip (Holds read) bs xs → length (vector_block bs) < 2 ^ 32
       → Holds (λ bytes at. vector_at bytes at >>= λ v. gather (put bytes v.0) s 0 v.1) (vector_block bs) (joined join s xs)
@@ -591,7 +591,7 @@ data_gives (suc levels) t name nullable texts nb tb cb mb tag cs some same named
 
 -- ---- the columns of a schema
 
-pub column_refused : (levels : ℕ) (xs : List Column) (i : ℕ) (x : Column) (room : ℕ) → i < length xs → x ≡ get_or xs i x → IsUnfitType levels (column_tree x).data_type → RefusesColumns levels (Unfit i) (map column_tree xs) room
+pub column_refused : (levels : ℕ) (xs : List SchemaColumn) (i : ℕ) (x : SchemaColumn) (room : ℕ) → i < length xs → x ≡ get_or xs i x → IsUnfitType levels (column_tree x).data_type → RefusesColumns levels (Unfit i) (map column_tree xs) room
 column_refused levels xs i x room lt is u = (column_tree x, slice_get-map column_tree xs i ∙ ap (option_map column_tree) (slice_get_read xs (length xs) i x refl lt is), u)
 
 pub columns_give : (levels : ℕ) (cs : List ColumnTree) (r : Result (Vec ℕ Global) WriteError) → Gives (λ b. Holds (columns_read levels) b cs) ⊥ (columns_room cs) r → GivesColumns levels cs r

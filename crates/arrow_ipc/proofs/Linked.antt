@@ -11,10 +11,10 @@ use Rattle.std.proofs.lemmas.Bool.Decides.{nat_tests}
 use Rattle.std.proofs.lemmas.Str.{IsUtf8-from_is_utf8, is_utf8-from_IsUtf8}
 use Rattle.arrow_ipc.specs.Wire.{integer_at, ahead, vtable_at, target_at, text_at, utf8_at, vector_at, opened_at, slot_at}
 use Rattle.arrow_ipc.specs.Blocks.{Lies, Holds, lengths, word, rounded, padded, offsets, linked, table_size, places, table_block}
-use Rattle.arrow_ipc.specs.declared.fault.Fault.{Fault}
+use Rattle.arrow_ipc.specs.declared.fault.IpcFault.{IpcFault}
 use Rattle.arrow_ipc.specs.declared.wire.Table.{Table}
-use Rattle.arrow_ipc.specs.declared.fault.Rule.{Rule}
-use Rattle.arrow_ipc.specs.declared.fault.Rule.TheVariants.{Vtable, Offset, Text, Vector, Slot}
+use Rattle.arrow_ipc.specs.declared.fault.IpcRule.{IpcRule}
+use Rattle.arrow_ipc.specs.declared.fault.IpcRule.TheVariants.{Vtable, Offset, Text, Vector, Slot}
 
 -- the test for UTF-8
 pub ruleset utf8_tests = (IsUtf8-from_is_utf8, is_utf8-from_IsUtf8)
@@ -35,7 +35,7 @@ module _ (bytes : List ℕ) (at : ℕ) where
   unfolding integer_at
   u32_is n rest even small is = rw (even, is, le-leb 4 (length (to_le_bytes w32 n ++ rest)) (omega arith)) (ap (λ (m : ℕ). Ok m) (from_le_bytes-to_le_bytes_4 n small))
 
-  pub ahead_is : (rule : Rule) (by : ℕ) → at + by ≤ length bytes → ahead rule bytes at by ≡ Ok (at + by)
+  pub ahead_is : (rule : IpcRule) (by : ℕ) → at + by ≤ length bytes → ahead rule bytes at by ≡ Ok (at + by)
   unfolding ahead
   ahead_is rule by le = rw (le-leb (at + by) (length bytes) le) refl
 
@@ -196,7 +196,7 @@ each_within size (s ∷ ss) (suc i) all = each_within size ss i all.1
 pub low : (bytes : List ℕ) (at n : ℕ) (rest : List ℕ) → at % 2 ≡ 0 → drop at bytes ≡ n ∷ 0 ∷ rest → integer_at bytes at w16 ≡ Ok n
 low bytes at n rest even is = u16_is bytes at n 0 rest even is ∙ ap (λ (k : ℕ). Ok k) (omega arith)
 
-chosen : (b : Bool) (x : Option ℕ) → ◌≡◌ {A = Result (Option ℕ) Fault} (if b then Ok None else Ok x) (Ok (if b then None else x))
+chosen : (b : Bool) (x : Option ℕ) → ◌≡◌ {A = Result (Option ℕ) IpcFault} (if b then Ok None else Ok x) (Ok (if b then None else x))
 chosen b x = grind arith
 
 found : (bytes ss : List ℕ) (i entry : ℕ) (rest : List ℕ) → drop entry bytes ≡ places ss ++ rest → entry % 2 ≡ 0 → i < length ss → integer_at bytes (entry + 2 * i) w16 ≡ Ok (get_or ss i 0)
@@ -300,7 +300,7 @@ module _ (slots numbers : List ℕ) (bs : List (List ℕ)) (fourth : length numb
       }
 
   -- a table holds what is read of it wherever it stands
-  pub table_holds : {A : Type 0} (read : List ℕ → ℕ → Result (A × ℕ) Fault) (a : A)
+  pub table_holds : {A : Type 0} (read : List ℕ → ℕ → Result (A × ℕ) IpcFault) (a : A)
       → ((bytes : List ℕ) (at : ℕ) → Stands slots numbers bs bytes at → (n : ℕ) × (n ≤ table_size bs numbers + (4 + 2 * length slots) + lengths bs) × (read bytes at ≡ Ok (a, n)))
       → Holds read (table_block slots numbers bs) a
   table_holds read a reads = record {

@@ -14,8 +14,8 @@ use Rattle.arrow_ipc.specs.Wire.{opened_at, slot_at, utf8_at, vector_at}
 use Rattle.arrow_ipc.specs.Kinds.{kind_at}
 use Rattle.arrow_ipc.specs.Parts.{zone_or_ids, parts_in}
 use Rattle.arrow_ipc.specs.Columns.{entry_in, entry_price, texts_at, typed, columns_by, column_at, finished, priced}
-use Rattle.arrow_ipc.specs.declared.fault.Fault.{Fault}
-use Rattle.arrow_ipc.specs.declared.fault.Rule.TheVariants.{Depth}
+use Rattle.arrow_ipc.specs.declared.fault.IpcFault.{IpcFault}
+use Rattle.arrow_ipc.specs.declared.fault.IpcRule.TheVariants.{Depth}
 use Rattle.arrow_ipc.specs.declared.parts.Kind.{Kind}
 use Rattle.arrow_ipc.specs.declared.wire.Table.{Table}
 use Rattle.arrow_ipc.specs.declared.schema.Endianness.{Endianness}
@@ -28,7 +28,7 @@ pub record Lies (block bytes : List ℕ) (at : ℕ) : Type 0 where
   pub whole : at % 8 ≡ 0
 
 -- a value is read wherever the block stands, and what it takes of a budget is no more than the block's bytes
-pub record Holds {A : Type 0} (read : List ℕ → ℕ → Result (A × ℕ) Fault) (block : List ℕ) (a : A) : Type 0 where
+pub record Holds {A : Type 0} (read : List ℕ → ℕ → Result (A × ℕ) IpcFault) (block : List ℕ) (a : A) : Type 0 where
   pub whole : length block % 8 ≡ 0
   pub reads : (bytes : List ℕ) (at : ℕ) → Lies block bytes at → (n : ℕ) × (n ≤ length block) × (read bytes at ≡ Ok (a, n))
 
@@ -79,25 +79,25 @@ table_block slots numbers bs = linked (2 ^ 32 - table_size bs numbers) bs (numbe
 abbrev pub entry_block : List ℕ → List ℕ → List ℕ
 entry_block key text = table_block (4 ∷ 8 ∷ []) [] (key ∷ text ∷ [])
 
-abbrev pub text_read : List ℕ → ℕ → Result (Text × ℕ) Fault
+abbrev pub text_read : List ℕ → ℕ → Result (Text × ℕ) IpcFault
 text_read bytes at = utf8_at bytes at >>= λ t. Ok (t, length t)
 
-abbrev pub entry_read : List ℕ → ℕ → Result ((Text × Text) × ℕ) Fault
+abbrev pub entry_read : List ℕ → ℕ → Result ((Text × Text) × ℕ) IpcFault
 entry_read bytes table = entry_in bytes table >>= λ e. Ok (e, entry_price e)
 
 -- metadata, and columns
-abbrev pub texts_read : List ℕ → ℕ → Result (Metadata × ℕ) Fault
+abbrev pub texts_read : List ℕ → ℕ → Result (Metadata × ℕ) IpcFault
 texts_read bytes at = vector_at bytes at >>= texts_at bytes
 
-unfoldable pub column_in : ℕ → List ℕ → ℕ → Result (ColumnTree × ℕ) Fault
+unfoldable pub column_in : ℕ → List ℕ → ℕ → Result (ColumnTree × ℕ) IpcFault
 column_in depth bytes table = priced (parts_in bytes table) >>+ λ p. columns_by (column_at depth bytes) p.children >>+ finished bytes p
 
 -- a column that another nests, where so many levels are left
-abbrev pub child_in : ℕ → List ℕ → ℕ → Result (ColumnTree × ℕ) Fault
+abbrev pub child_in : ℕ → List ℕ → ℕ → Result (ColumnTree × ℕ) IpcFault
 child_in zero bytes table = breaks Depth table
 child_in (suc levels) bytes table = column_in levels bytes table
 
-abbrev pub columns_read : ℕ → List ℕ → ℕ → Result (List ColumnTree × ℕ) Fault
+abbrev pub columns_read : ℕ → List ℕ → ℕ → Result (List ColumnTree × ℕ) IpcFault
 columns_read depth bytes at = vector_at bytes at >>= columns_by (column_at depth bytes)
 
 -- a column, given the blocks of its name, its type, its children and its metadata

@@ -1,10 +1,10 @@
 -- What bytes denote, whatever the limits of those who read them.
 use Rattle.std.specs.Prelude.{◌≡◌, ℕ, ◌*◌, ◌≤◌, List, length, Result, Ok}
 use Rattle.arrow_ipc.specs.Schema.{SchemaTree, message_in, footer_in, schema_of_message, schema_of_footer}
-use Rattle.arrow_ipc.specs.declared.fault.Fault.{Fault}
+use Rattle.arrow_ipc.specs.declared.fault.IpcFault.{IpcFault}
 
 -- a message or footer denotes a schema where it is read at some number of levels; what it takes is not looked at
-abbrev pub Denotes : (ℕ → List ℕ → Result (SchemaTree × ℕ) Fault) → List ℕ → SchemaTree → Type 0
+abbrev pub Denotes : (ℕ → List ℕ → Result (SchemaTree × ℕ) IpcFault) → List ℕ → SchemaTree → Type 0
 Denotes read bytes s = (levels : ℕ) × (n : ℕ) × (read levels bytes ≡ Ok (s, n))
 
 -- a stream denotes what the message at its head denotes

@@ -4,8 +4,8 @@ use Rattle.std.specs.Prelude.{ℕ, pos, ◌^◌, Bool, ◌||◌, List, Result, O
 use Rattle.std.specs.Int.{w16, w32, cast_signed}
 use Rattle.arrow_ipc.specs.Fault.{◌>>=◌, breaks}
 use Rattle.arrow_ipc.specs.Slots.{flag_in, integer_in}
-use Rattle.arrow_ipc.specs.declared.fault.Fault.{Fault}
-use Rattle.arrow_ipc.specs.declared.fault.Rule.TheVariants.{Parameter}
+use Rattle.arrow_ipc.specs.declared.fault.IpcFault.{IpcFault}
+use Rattle.arrow_ipc.specs.declared.fault.IpcRule.TheVariants.{Parameter}
 use Rattle.arrow_values.specs.declared.tree.DataType.{DataType}
 use Rattle.arrow_values.specs.declared.tree.DataType.TheVariants.{Null, Boolean, Int8, Int16, Int32, Int64, UInt8, UInt16, UInt32, UInt64, Float16, Float32, Float64, Date32, Date64, Binary, LargeBinary, BinaryView, Utf8, LargeUtf8, Utf8View}
 use Rattle.arrow_values.specs.declared.tree.UnionMode.TheVariants.{Sparse, Dense}
@@ -16,7 +16,7 @@ use Rattle.arrow_ipc.specs.declared.wire.Table.{Table}
 use Rattle.arrow_ipc.specs.declared.parts.Kind.{Kind}
 use Rattle.arrow_ipc.specs.declared.parts.Kind.TheVariants.{Plain, Named, List as ListOf, Struct, Union, Map, RunEndEncoded, ListView, LargeListView}
 
-unfoldable pub int_at : List ℕ → Table → Result DataType Fault
+unfoldable pub int_at : List ℕ → Table → Result DataType IpcFault
 int_at bytes table = do
   width ← integer_in bytes table 0 w32 0
   signed ← flag_in bytes table 1
@@ -29,7 +29,7 @@ int_at bytes table = do
 abbrev pub fits_byte : ℕ → Bool
 fits_byte n = nat_lt n 128 || nat_le 0xffff_ff80 n
 
-unfoldable pub decimal_at : List ℕ → Table → Result named.Named Fault
+unfoldable pub decimal_at : List ℕ → Table → Result named.Named IpcFault
 decimal_at bytes table = do
   precision ← integer_in bytes table 0 w32 0
   scale ← integer_in bytes table 1 w32 0
@@ -40,13 +40,13 @@ decimal_at bytes table = do
       if width == 128 then Ok (Decimal width precision (cast_signed w32 scale)) else
       if width == 256 then Ok (Decimal width precision (cast_signed w32 scale)) else breaks Parameter table.at) else breaks Parameter table.at) else breaks Parameter table.at
 
-unfoldable pub time_at : List ℕ → Table → ℕ → Result named.Named Fault
+unfoldable pub time_at : List ℕ → Table → ℕ → Result named.Named IpcFault
 time_at bytes table unit = if nat_lt unit 4 then (do
   width ← integer_in bytes table 1 w32 32
   if width == (if nat_lt unit 2 then 32 else 64) then Ok (Time unit) else breaks Parameter table.at) else breaks Parameter table.at
 
 -- the number in slot 0: a unit, a mode or a size
-unfoldable pub number_at : List ℕ → ℕ → Table → Result ℕ Fault
+unfoldable pub number_at : List ℕ → ℕ → Table → Result ℕ IpcFault
 number_at bytes tag table =
     if tag == 3 then integer_in bytes table 0 w16 0 else
     if tag == 8 then integer_in bytes table 0 w16 1 else
@@ -58,11 +58,11 @@ number_at bytes tag table =
     if tag == 16 then integer_in bytes table 0 w32 0 else
     if tag == 18 then integer_in bytes table 0 w16 1 else Ok 0
 
-abbrev pub below : Table → ℕ → ℕ → Kind → Result Kind Fault
+abbrev pub below : Table → ℕ → ℕ → Kind → Result Kind IpcFault
 below table number bound kind = if nat_lt number bound then Ok kind else breaks Parameter table.at
 
 -- a type by its tag, which is 1 to 26
-unfoldable pub kind_at : List ℕ → ℕ → Table → Result Kind Fault
+unfoldable pub kind_at : List ℕ → ℕ → Table → Result Kind IpcFault
 kind_at bytes tag table = do
   number ← number_at bytes tag table
   if tag == 1 then Ok (Plain Null) else

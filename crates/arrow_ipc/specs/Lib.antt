@@ -12,3 +12,4 @@ pub mod Blocks
 pub mod Shapes
 pub mod Rooms
 pub mod Writes
+pub mod Rules

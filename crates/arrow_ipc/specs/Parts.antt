@@ -7,9 +7,9 @@ use Rattle.arrow_ipc.specs.Fault.{◌>>=◌, breaks}
 use Rattle.arrow_ipc.specs.Wire.{opened_at, slot_at, target_at}
 use Rattle.arrow_ipc.specs.Slots.{integer_in, flag_in, led_by, read_or, text_in, table_in, vector_in}
 use Rattle.arrow_ipc.specs.Kinds.{int_at, kind_at}
-use Rattle.arrow_ipc.specs.declared.fault.Fault.{Fault}
+use Rattle.arrow_ipc.specs.declared.fault.IpcFault.{IpcFault}
 use Rattle.arrow_ipc.specs.declared.wire.Table.{Table}
-use Rattle.arrow_ipc.specs.declared.fault.Rule.TheVariants.{Missing, Tag}
+use Rattle.arrow_ipc.specs.declared.fault.IpcRule.TheVariants.{Missing, Tag}
 use Rattle.arrow_ipc.specs.declared.parts.Kind.{Kind}
 use Rattle.arrow_values.specs.declared.tree.DataType.{DataType}
 use Rattle.arrow_values.specs.declared.tree.DataType.TheVariants.{Int32}
@@ -17,22 +17,22 @@ use Rattle.arrow_ipc.specs.declared.parts.Index.{Index}
 use Rattle.arrow_ipc.specs.declared.parts.Parts.{Parts}
 
 -- the tag of a type is 1 to 26
-unfoldable pub tag_in : List ℕ → Table → Result ℕ Fault
+unfoldable pub tag_in : List ℕ → Table → Result ℕ IpcFault
 tag_in bytes table = do
   tag ← integer_in bytes table 2 w8 0
   if tag == 0 then breaks Missing table.at else if nat_le tag 26 then Ok tag else breaks Tag table.at
 
 -- what the table of a type has in slot 1: the time zone of a timestamp, and the type ids that a union may have
-unfoldable pub zone_or_ids : List ℕ → ℕ → Table → Result (List ℕ × Option (ℕ × ℕ)) Fault
+unfoldable pub zone_or_ids : List ℕ → ℕ → Table → Result (List ℕ × Option (ℕ × ℕ)) IpcFault
 zone_or_ids bytes tag table =
     if tag == 10 then (text_in bytes table 1 >>= λ zone. Ok (zone, None)) else
     if tag == 14 then (vector_in bytes table 1 >>= λ ids. Ok ([], ids)) else Ok ([], None)
 
 -- a dictionary has a number of its own in slot 0, which is not kept; its indices are 32-bit integers where nothing else is said
-abbrev pub int_of : List ℕ → ℕ → Result DataType Fault
+abbrev pub int_of : List ℕ → ℕ → Result DataType IpcFault
 int_of bytes at = opened_at bytes at >>= int_at bytes
 
-unfoldable pub index_at : List ℕ → ℕ → Result Index Fault
+unfoldable pub index_at : List ℕ → ℕ → Result Index IpcFault
 index_at bytes at = do
   table ← opened_at bytes at
   id ← integer_in bytes table 0 w64 0
@@ -40,7 +40,7 @@ index_at bytes at = do
   ordered ← flag_in bytes table 2
   Ok (record { integers = integers; ordered = ordered })
 
-unfoldable pub index_in : List ℕ → Table → Result (Option Index) Fault
+unfoldable pub index_in : List ℕ → Table → Result (Option Index) IpcFault
 index_in bytes table = led_by bytes table 4 >>= λ place. option_transpose (option_map (index_at bytes) place)
 
 pub record Own : Type 0 where
@@ -58,7 +58,7 @@ abbrev pub parts_of : Parts → Own
 parts_of p = record { table = p.table; name = p.name.now; nullable = p.nullable; kind = p.kind; zone = p.zone.now; index = p.index; children = p.children; ids = p.ids; texts = p.texts }
 
 -- of the column whose table that is
-unfoldable pub parts_in : List ℕ → ℕ → Result Own Fault
+unfoldable pub parts_in : List ℕ → ℕ → Result Own IpcFault
 parts_in bytes at = do
   table ← opened_at bytes at
   name ← text_in bytes table 0
@@ -74,5 +74,5 @@ parts_in bytes at = do
   Ok (record { table = table.at; name = name; nullable = nullable; kind = kind; zone = own.0; index = index; children = unwrap_or children (0, 0); ids = own.1; texts = unwrap_or texts (0, 0) })
 
 -- of the column to which the offset at a position leads
-unfoldable pub parts_at : List ℕ → ℕ → Result Own Fault
+unfoldable pub parts_at : List ℕ → ℕ → Result Own IpcFault
 parts_at bytes at = target_at bytes at >>= parts_in bytes

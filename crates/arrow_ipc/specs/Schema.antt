@@ -11,10 +11,10 @@ use Rattle.arrow_ipc.specs.Wire.{integer_at, opened_at, target_at, vector_at}
 use Rattle.arrow_ipc.specs.Slots.{integer_in, table_in, vector_in}
 use Rattle.arrow_ipc.specs.Columns.{texts_at, columns_by, column_at}
 use Rattle.arrow_ipc.specs.Tells.{Fails, ◌>>+◌}
-use Rattle.arrow_ipc.specs.declared.fault.Fault.{Fault}
+use Rattle.arrow_ipc.specs.declared.fault.IpcFault.{IpcFault}
 use Rattle.arrow_ipc.specs.declared.fault.IpcError.{IpcError}
 use Rattle.arrow_ipc.specs.declared.fault.IpcError.TheVariants.{Broken}
-use Rattle.arrow_ipc.specs.declared.fault.Rule.TheVariants.{Envelope, Message}
+use Rattle.arrow_ipc.specs.declared.fault.IpcRule.TheVariants.{Envelope, Message}
 use Rattle.arrow_ipc.specs.declared.schema.Endianness.{Endianness}
 use Rattle.arrow_ipc.specs.declared.schema.Endianness.TheVariants.{Little, Big}
 use Rattle.arrow_ipc.specs.declared.schema.Schema.{Schema}
@@ -34,7 +34,7 @@ pub record Head : Type 0 where
   pub texts : ℕ × ℕ
 
 -- a schema's table: slot 0 its byte order, 1 its columns, which it must have, 2 its metadata
-unfoldable pub head_at : List ℕ → ℕ → Result Head Fault
+unfoldable pub head_at : List ℕ → ℕ → Result Head IpcFault
 head_at bytes at = do
   table ← opened_at bytes at
   order ← integer_in bytes table 0 w16 0
@@ -43,13 +43,13 @@ head_at bytes at = do
   Ok (record { endianness = if order == 0 then Little else Big; fields = fields; texts = unwrap_or texts (0, 0) })
 
 -- a schema whose columns are read
-abbrev pub with_columns : List ℕ → Head → List ColumnTree → Result (SchemaTree × ℕ) Fault
+abbrev pub with_columns : List ℕ → Head → List ColumnTree → Result (SchemaTree × ℕ) IpcFault
 with_columns bytes h cs = do
   ms ← texts_at bytes h.texts
   Ok (record { columns = cs; metadata = ms.0; endianness = h.endianness }, ms.1)
 
 -- the schema of a table, whose columns are no more than so many levels deep, and what it takes
-unfoldable pub schema_at : ℕ → List ℕ → ℕ → Result (SchemaTree × ℕ) Fault
+unfoldable pub schema_at : ℕ → List ℕ → ℕ → Result (SchemaTree × ℕ) IpcFault
 schema_at levels bytes table = do
   h ← head_at bytes table
   columns_by (column_at levels bytes) h.fields >>+ with_columns bytes h
@@ -60,7 +60,7 @@ is_version version = nat_le 3 version && nat_le version 4
 
 -- the schema's table in a message: slot 0 its version, 1 and 2 the header's tag, 1 for a schema, and table; slot 3 the length of its
 -- body, which is 0
-unfoldable pub message_at : List ℕ → Result ℕ Fault
+unfoldable pub message_at : List ℕ → Result ℕ IpcFault
 message_at bytes = do
   message ← (target_at bytes 0 >>= opened_at bytes)
   version ← integer_in bytes message 0 w16 0
@@ -69,18 +69,18 @@ message_at bytes = do
   if is_version version && (tag == 1) && (body == 0) then table_in bytes message 2 else breaks Message message.at
 
 -- the schema's table in a footer: slot 0 its version, 1 the schema
-unfoldable pub footer_at : List ℕ → Result ℕ Fault
+unfoldable pub footer_at : List ℕ → Result ℕ IpcFault
 footer_at bytes = do
   footer ← (target_at bytes 0 >>= opened_at bytes)
   version ← integer_in bytes footer 0 w16 0
   if is_version version then table_in bytes footer 1 else breaks Message footer.at
 
 -- so many bytes from a position on, which are some
-unfoldable pub cut : List ℕ → ℕ → ℕ → Result (List ℕ) Fault
+unfoldable pub cut : List ℕ → ℕ → ℕ → Result (List ℕ) IpcFault
 cut bytes start size = if nat_lt 0 size && nat_le (start + size) (length bytes) then Ok (take size (drop start bytes)) else breaks Envelope start
 
 -- the message of a stream: its size, which may have four bytes 255 before it, and the message
-unfoldable pub message_in : List ℕ → Result (List ℕ) Fault
+unfoldable pub message_in : List ℕ → Result (List ℕ) IpcFault
 message_in bytes = do
   first ← integer_at bytes 0 w32
   if first == 0xffff_ffff then (do
@@ -88,33 +88,33 @@ message_in bytes = do
     cut bytes 8 size) else cut bytes 4 first
 
 -- the size at a file's end, with its magic behind it
-abbrev pub size_before_magic : ℕ → List ℕ → Result ℕ Fault
+abbrev pub size_before_magic : ℕ → List ℕ → Result ℕ IpcFault
 size_before_magic end (a ∷ b ∷ c ∷ d ∷ magic) = if bytes_eq magic (codes "ARROW1") then Ok (from_le_bytes w32 (a ∷ b ∷ c ∷ d ∷ [])) else breaks Envelope end
 size_before_magic end _ = breaks Envelope end
 
 -- the footer of a file: its size and the magic come behind it
-unfoldable pub footer_in : List ℕ → Result (List ℕ) Fault
+unfoldable pub footer_in : List ℕ → Result (List ℕ) IpcFault
 footer_in bytes = if nat_lt (length bytes) 10 then breaks Envelope 0 else (do
   size ← size_before_magic (length bytes - 10) (drop (length bytes - 10) bytes)
   if nat_le size (length bytes - 10) then cut (take (length bytes - 10) bytes) (length bytes - 10 - size) size else breaks Envelope (length bytes - 10))
 
 -- the schema whose table is there
-abbrev pub schema_of : ℕ → Result ℕ Fault → List ℕ → Result (SchemaTree × ℕ) Fault
+abbrev pub schema_of : ℕ → Result ℕ IpcFault → List ℕ → Result (SchemaTree × ℕ) IpcFault
 schema_of levels place bytes = place >>= schema_at levels bytes
 
-unfoldable pub schema_of_message : ℕ → List ℕ → Result (SchemaTree × ℕ) Fault
+unfoldable pub schema_of_message : ℕ → List ℕ → Result (SchemaTree × ℕ) IpcFault
 schema_of_message levels bytes = schema_of levels (message_at bytes) bytes
 
-unfoldable pub schema_of_footer : ℕ → List ℕ → Result (SchemaTree × ℕ) Fault
+unfoldable pub schema_of_footer : ℕ → List ℕ → Result (SchemaTree × ℕ) IpcFault
 schema_of_footer levels bytes = schema_of levels (footer_at bytes) bytes
 
 -- a call that reads a flatbuffer answers what it denotes, which takes no more than eight times its bytes; or says which rule is
 -- broken where, or that it takes more
-abbrev pub MeetsIn : (List ℕ → Result (SchemaTree × ℕ) Fault) → List ℕ → Result Schema IpcError → Type 0
+abbrev pub MeetsIn : (List ℕ → Result (SchemaTree × ℕ) IpcFault) → List ℕ → Result Schema IpcError → Type 0
 MeetsIn read bytes (Ok s) = (n : ℕ) × (n ≤ 8 * length bytes) × (read bytes ≡ Ok (schema_tree s, n))
 MeetsIn read bytes (Err e) = Fails (read bytes) (8 * length bytes) e
 
 -- and one that reads it where it lies in other bytes
-abbrev pub Meets : Result (List ℕ) Fault → (List ℕ → Result (SchemaTree × ℕ) Fault) → Result Schema IpcError → Type 0
+abbrev pub Meets : Result (List ℕ) IpcFault → (List ℕ → Result (SchemaTree × ℕ) IpcFault) → Result Schema IpcError → Type 0
 Meets (Ok bytes) read result = MeetsIn read bytes result
 Meets (Err fault) read result = result ≡ Err (Broken fault)

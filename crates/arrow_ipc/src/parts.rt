@@ -6,7 +6,7 @@ ghost use Rattle.arrow_ipc.specs.Wire.{IsOpen};
 ghost use Rattle.arrow_ipc.specs.Kinds.{int_at, decimal_at, time_at, number_at, kind_at};
 ghost use Rattle.arrow_ipc.specs.Parts.{index_in, zone_or_ids, parts_of, parts_at};
 
-use crate::fault::{Found, Rule, broken, ensure};
+use crate::fault::{Found, IpcRule, broken, ensure};
 use crate::wire::{
     Table, Vector, flag_in, integer_in, led_by, open, slot_at, table_in, target_at, text_in,
     vector_in,
@@ -59,7 +59,7 @@ pub(crate) fn int_at(bytes: &[u8], table: &Table) -> Found<DataType>
         (32, false) => Ok(DataType::UInt32),
         (64, true) => Ok(DataType::Int64),
         (64, false) => Ok(DataType::UInt64),
-        _ => Err(broken(Rule::Parameter, table.at)),
+        _ => Err(broken(IpcRule::Parameter, table.at)),
     }
 }
 
@@ -75,7 +75,7 @@ fn decimal_at(bytes: &[u8], table: &Table) -> Found<Named>
     let fits = precision < 128 && (scale < 128 || scale >= 0xffff_ff80);
     match width {
         32 | 64 | 128 | 256 if fits => Ok(Named::Decimal(width, precision, scale.cast_signed())),
-        _ => Err(broken(Rule::Parameter, table.at)),
+        _ => Err(broken(IpcRule::Parameter, table.at)),
     }
 }
 
@@ -85,10 +85,10 @@ fn time_at(bytes: &[u8], table: &Table, unit: usize) -> Found<Named>
     requires { IsOpen bytes.now table.now }
     ensures { result ≡ time_at bytes.now table.now unit }
 {
-    ensure(unit < 4, Rule::Parameter, table.at)?;
+    ensure(unit < 4, IpcRule::Parameter, table.at)?;
     match (integer_in(bytes, table, 1, 4, 32)?, unit < 2) {
         (32, true) | (64, false) => Ok(Named::Time(unit)),
-        _ => Err(broken(Rule::Parameter, table.at)),
+        _ => Err(broken(IpcRule::Parameter, table.at)),
     }
 }
 
@@ -144,7 +144,7 @@ pub(crate) fn kind_at(bytes: &[u8], tag: usize, table: &Table) -> Found<Kind>
         (24, _) => Ok(Kind::Plain(DataType::Utf8View)),
         (25, _) => Ok(Kind::ListView),
         (26, _) => Ok(Kind::LargeListView),
-        _ => Err(broken(Rule::Parameter, table.at)),
+        _ => Err(broken(IpcRule::Parameter, table.at)),
     }
 }
 
@@ -227,7 +227,7 @@ pub(crate) fn parts_at(bytes: &[u8], at: usize) -> Found<Parts<'_>>
     let name = text_in(bytes, &table, 0)?;
     let nullable = flag_in(bytes, &table, 1)?;
     let tag = integer_in(bytes, &table, 2, 1, 0)?;
-    let rule = if tag == 0 { Rule::Missing } else { Rule::Tag };
+    let rule = if tag == 0 { IpcRule::Missing } else { IpcRule::Tag };
     ensure(0 < tag && tag <= 26, rule, table.at)?;
     let value = open(bytes, table_in(bytes, &table, 3)?)?;
     let _first = slot_at(bytes, &value, 0)?;

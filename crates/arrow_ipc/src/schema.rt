@@ -9,13 +9,13 @@ ghost use Rattle.arrow_ipc.specs.Tells.{Tells, Says};
 ghost use Rattle.arrow_ipc.specs.Columns.{entry_at, put_entry, texts_at, is_new, ids_at, finished, columns_by, column_at};
 ghost use Rattle.arrow_ipc.specs.Schema.{message_at, footer_at, cut, message_in, footer_in, schema_of, Meets, MeetsIn, schema_of_message, schema_of_footer};
 
-use crate::fault::{Found, IpcError, Rule, broken, ensure};
+use crate::fault::{Found, IpcError, IpcRule, broken, ensure};
 use crate::parts::{Kind, Parts, parts_at};
 use crate::types::{type_of, with_dictionary};
 use crate::wire::{
     Vector, integer_at, integer_in, open, table_in, target_at, utf8_at, vector_at, vector_in,
 };
-use arrow_columns::Column;
+use arrow_columns::SchemaColumn;
 use std::alloc::Global;
 use std::collections::BTreeMap;
 
@@ -35,7 +35,7 @@ pub enum Endianness {
 #[derive(Debug, Drop)]
 pub struct Schema {
     /// The columns, in order.
-    pub columns: Vec<Column>,
+    pub columns: Vec<SchemaColumn>,
     /// The metadata of the schema itself.
     pub metadata: BTreeMap<String, String>,
     /// The byte order of the data.
@@ -113,7 +113,7 @@ fn read_ids(alloc: Global, bytes: &[u8], parts: &Parts<'_>, count: usize) -> Rea
     ensures { Says (λ ids. ids.items) (ids_at bytes.now parts.now.table parts.now.ids count) result }
 {
     if matches!(parts.ids, Some((_, written)) if written != count) {
-        return Err(IpcError::Broken(broken(Rule::TypeIds, parts.table)));
+        return Err(IpcError::Broken(broken(IpcRule::TypeIds, parts.table)));
     }
     let mut ids = Vec::new(alloc);
     'ids: for i in 0..count {
@@ -121,7 +121,7 @@ fn read_ids(alloc: Global, bytes: &[u8], parts: &Parts<'_>, count: usize) -> Rea
             None => i,
             Some((start, _)) => integer_at(bytes, start + 4 * i, 4)?,
         };
-        ensure(is_new(id, ids.as_slice()), Rule::TypeIds, parts.table)?;
+        ensure(is_new(id, ids.as_slice()), IpcRule::TypeIds, parts.table)?;
         ids.push(id as i8)?;
     }
     Ok(ids)
@@ -133,9 +133,9 @@ fn finish(
     alloc: Global,
     bytes: &[u8],
     parts: &Parts<'_>,
-    children: Vec<Column>,
+    children: Vec<SchemaColumn>,
     budget: &mut usize,
-) -> Read<Column>
+) -> Read<SchemaColumn>
     requires ids { IfSome parts.now.ids (λ v. v.0 + 4 * v.1 ≤ length bytes.now) }
     requires texts { parts.now.texts.0 + 4 * parts.now.texts.1 ≤ length bytes.now }
     ensures { Tells column_tree (finished bytes.now (parts_of parts.now) (map column_tree children.items)) budget.old budget.new result }
@@ -145,8 +145,8 @@ fn finish(
         _ => Vec::new(alloc),
     };
     let made = type_of(alloc, &parts.kind, parts.zone, ids, children)?;
-    let values = made.ok_or(broken(Rule::Children, parts.table))?;
-    Ok(Column {
+    let values = made.ok_or(broken(IpcRule::Children, parts.table))?;
+    Ok(SchemaColumn {
         data_type: with_dictionary(alloc, &parts.index, values)?,
         metadata: read_texts(alloc, bytes, parts.texts, budget)?,
         name: String::from_str(alloc, parts.name)?,
@@ -157,10 +157,10 @@ fn finish(
 /// Reads the column to which the offset at a position leads, and all that is below it.
 #[tactic(auto, using(crate::proofs::Told::too_deep, crate::proofs::Told::steps))]
 #[cycle(read)]
-fn column(alloc: Global, bytes: &[u8], at: usize, depth: usize, budget: &mut usize) -> Read<Column>
+fn column(alloc: Global, bytes: &[u8], at: usize, depth: usize, budget: &mut usize) -> Read<SchemaColumn>
     ensures { Tells column_tree (column_at depth bytes.now at) budget.old budget.new result }
 {
-    ensure(depth > 0, Rule::Depth, at)?;
+    ensure(depth > 0, IpcRule::Depth, at)?;
     let parts = parts_at(bytes, at)?;
     spend(budget, 16, parts.name, parts.zone, at)?;
     let children = read_columns(alloc, bytes, parts.children, depth - 1, budget)?;
@@ -176,7 +176,7 @@ fn read_columns(
     offsets: Vector,
     depth: usize,
     budget: &mut usize,
-) -> Read<Vec<Column>>
+) -> Read<Vec<SchemaColumn>>
     requires { offsets.0 + 4 * offsets.1 ≤ length bytes.now }
     ensures { Tells (λ v. map column_tree v.items) (columns_by (column_at depth bytes.now) offsets) budget.old budget.new result }
 {
@@ -198,7 +198,7 @@ fn message_at(bytes: &[u8]) -> Found<usize>
     let body = integer_in(bytes, &message, 3, 8, 0)?;
     match (version, tag, body) {
         (3 | 4, 1, 0) => table_in(bytes, &message, 2),
-        _ => Err(broken(Rule::Message, message.at)),
+        _ => Err(broken(IpcRule::Message, message.at)),
     }
 }
 
@@ -210,7 +210,7 @@ fn footer_at(bytes: &[u8]) -> Found<usize>
     let footer = open(bytes, target_at(bytes, 0)?)?;
     match integer_in(bytes, &footer, 0, 2, 0)? {
         3 | 4 => table_in(bytes, &footer, 1),
-        _ => Err(broken(Rule::Message, footer.at)),
+        _ => Err(broken(IpcRule::Message, footer.at)),
     }
 }
 
@@ -223,7 +223,7 @@ fn cut(bytes: &[u8], start: usize, size: usize) -> Found<&[u8]>
 {
     match bytes.get(start..) {
         Some(rest) if 0 < size && size <= rest.len() => Ok(&rest[..size]),
-        _ => Err(broken(Rule::Envelope, start)),
+        _ => Err(broken(IpcRule::Envelope, start)),
     }
 }
 
@@ -245,13 +245,13 @@ fn footer_in(bytes: &[u8]) -> Found<&[u8]>
     ensures is { map_ok (λ m. m.now) result ≡ footer_in bytes.now }
     ensures small { IfOk result (λ m. length m.now < 2 ^ 32) }
 {
-    ensure(bytes.len() >= 10, Rule::Envelope, 0)?;
+    ensure(bytes.len() >= 10, IpcRule::Envelope, 0)?;
     let end = bytes.len() - 10;
     let size = match &bytes[end..] {
         [a, b, c, d, 65, 82, 82, 79, 87, 49] => u32::from_le_bytes([*a, *b, *c, *d]) as usize,
-        _ => return Err(broken(Rule::Envelope, end)),
+        _ => return Err(broken(IpcRule::Envelope, end)),
     };
-    ensure(size <= end, Rule::Envelope, end)?;
+    ensure(size <= end, IpcRule::Envelope, end)?;
     cut(&bytes[..end], end - size, size)
 }
 
@@ -285,7 +285,7 @@ fn read_flatbuffer(alloc: Global, bytes: &[u8], place: Found<usize>) -> Read<Sch
 ///
 /// ```rust
 /// let refused = read_schema(alloc, &[0xff, 0xff, 0xff, 0xff, 0, 0, 0, 0]);
-/// assert!(rt; matches!(refused, Err(IpcError::Broken(fault)) if fault.rule == Rule::Envelope));
+/// assert!(rt; matches!(refused, Err(IpcError::Broken(fault)) if fault.rule == IpcRule::Envelope));
 /// ```
 #[tactic(auto, unfolding(crate::specs::Schema::schema_of_message))]
 pub fn read_schema(alloc: Global, stream: &[u8]) -> Result<Schema, IpcError>

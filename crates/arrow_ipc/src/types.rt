@@ -6,7 +6,7 @@ ghost use Rattle.arrow_ipc.specs.Types.{timed_text, named_text, member_parts, un
 
 use crate::parts::{Index, Kind, Named};
 use arrow_columns::{
-    Column, ColumnType, all_known, fields_of, list_type, member_notation, nested_notation,
+    SchemaColumn, AnyType, all_known, fields_of, list_type, member_notation, nested_notation,
     only_column, parts_of, plain_name, sized_notation, struct_type, union_word,
 };
 use arrow_values::{DataType, UnionFields, UnionMode};
@@ -15,7 +15,7 @@ use std::alloc::{AllocError, Global};
 /// What is made; only memory may lack.
 type Made<T> = Result<T, AllocError>;
 
-type Typed = Made<ColumnType>;
+type Typed = Made<AnyType>;
 
 /// A type of so many units, with a time zone where it has one.
 fn timed_text(alloc: Global, word: &str, unit: usize, zone: &str) -> Made<String>
@@ -55,7 +55,7 @@ fn named_text(alloc: Global, named: Named, zone: &str) -> Made<String>
 
 /// The children as members of a notation, each with its type id.
 #[tactic(auto, using(std::proofs::lemmas::List::map_push, std::proofs::lemmas::List::append_assoc))]
-fn member_parts(alloc: Global, ids: &[i8], children: &[Column]) -> Made<Vec<String>>
+fn member_parts(alloc: Global, ids: &[i8], children: &[SchemaColumn]) -> Made<Vec<String>>
     ensures { IfOk result (λ parts. map string_bytes parts.items ≡ member_parts ids.now (map column_tree children.now)) }
 {
     let mut parts = Vec::new(alloc);
@@ -67,21 +67,21 @@ fn member_parts(alloc: Global, ids: &[i8], children: &[Column]) -> Made<Vec<Stri
 }
 
 /// A union of children under type ids, which are 0 to 127, each once, and as many as the children.
-fn union_type(alloc: Global, mode: UnionMode, ids: Vec<i8>, children: Vec<Column>) -> Typed
+fn union_type(alloc: Global, mode: UnionMode, ids: Vec<i8>, children: Vec<SchemaColumn>) -> Typed
     ensures { IfOk result (λ made. type_tree made ≡ union_type mode ids.items (map column_tree children.items)) }
 {
     if !all_known(children.as_slice()) {
         let parts = member_parts(alloc, ids.as_slice(), children.as_slice())?;
         let text = nested_notation(alloc, union_word(mode), parts.as_slice())?;
-        return Ok(ColumnType::Other(text));
+        return Ok(AnyType::Other(text));
     }
     let fields = fields_of(alloc, children)?;
     let members = UnionFields::try_new(alloc, ids, fields).or(Err(AllocError))?;
-    Ok(ColumnType::Data(DataType::Union(members, mode)))
+    Ok(AnyType::Data(DataType::Union(members, mode)))
 }
 
 /// A type with so many children that is none of the 26.
-fn others(alloc: Global, word: &str, count: usize, children: &[Column]) -> Made<Option<ColumnType>>
+fn others(alloc: Global, word: &str, count: usize, children: &[SchemaColumn]) -> Made<Option<AnyType>>
     ensures { IfOk result (λ o. option_map type_tree o ≡ others word.now count (map column_tree children.now)) }
 {
     if children.len() != count {
@@ -89,7 +89,7 @@ fn others(alloc: Global, word: &str, count: usize, children: &[Column]) -> Made<
     }
     let parts = parts_of(alloc, children)?;
     let text = nested_notation(alloc, word, parts.as_slice())?;
-    Ok(Some(ColumnType::Other(text)))
+    Ok(Some(AnyType::Other(text)))
 }
 
 /// A type of a kind; `None` where the number of children is wrong.
@@ -99,13 +99,13 @@ pub(crate) fn type_of(
     kind: &Kind,
     zone: &str,
     ids: Vec<i8>,
-    children: Vec<Column>,
-) -> Made<Option<ColumnType>>
+    children: Vec<SchemaColumn>,
+) -> Made<Option<AnyType>>
     ensures { IfOk result (λ o. option_map type_tree o ≡ type_of kind.now zone.now ids.items (map column_tree children.items)) }
 {
     match kind {
-        Kind::Plain(data_type) => Ok(Some(ColumnType::Data(data_type.try_clone(alloc)?))),
-        Kind::Named(named) => Ok(Some(ColumnType::Other(named_text(alloc, *named, zone)?))),
+        Kind::Plain(data_type) => Ok(Some(AnyType::Data(data_type.try_clone(alloc)?))),
+        Kind::Named(named) => Ok(Some(AnyType::Other(named_text(alloc, *named, zone)?))),
         Kind::List(form) => match only_column(children) {
             Some(child) => Ok(Some(list_type(alloc, *form, child)?)),
             None => Ok(None),
@@ -120,7 +120,7 @@ pub(crate) fn type_of(
 }
 
 /// A type, or where it has a dictionary, that of the dictionary.
-pub(crate) fn with_dictionary(alloc: Global, index: &Option<Index>, values: ColumnType) -> Typed
+pub(crate) fn with_dictionary(alloc: Global, index: &Option<Index>, values: AnyType) -> Typed
     ensures { IfOk result (λ made. type_tree made ≡ with_dictionary index.now (type_tree values)) }
 {
     let Some(index) = index else {
@@ -130,5 +130,5 @@ pub(crate) fn with_dictionary(alloc: Global, index: &Option<Index>, values: Colu
     let keys = plain_name(&index.integers);
     let ordered = index.ordered as u8;
     let text = format!(in alloc; "dictionary<values={values}, indices={keys}, ordered={ordered}>")?;
-    Ok(ColumnType::Other(text))
+    Ok(AnyType::Other(text))
 }

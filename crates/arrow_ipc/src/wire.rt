@@ -6,7 +6,7 @@ ghost use Rattle.arrow_ipc.specs.Wire.{width, integer_at, ahead, vtable_at, open
 ghost use Rattle.arrow_ipc.specs.Fault.{map_ok};
 ghost use Rattle.arrow_ipc.specs.Slots.{integer_in, flag_in, led_by, text_in, table_in, vector_in};
 
-use crate::fault::{Found, Rule, broken, ensure};
+use crate::fault::{Found, IpcRule, broken, ensure};
 
 /// The number of so many bytes, which are 1, 2, 4 or 8, at a position; the least byte first.
 #[tactic(auto, unfolding(crate::specs::Wire::integer_at))]
@@ -25,13 +25,13 @@ pub(crate) fn integer_at(bytes: &[u8], at: usize, size: usize) -> Found<usize>
         (8, Some([a, b, c, d, e, f, g, h, ..])) if at % 8 == 0 => {
             Ok(u64::from_le_bytes([*a, *b, *c, *d, *e, *f, *g, *h]) as usize)
         }
-        _ => Err(broken(Rule::Number, at)),
+        _ => Err(broken(IpcRule::Number, at)),
     }
 }
 
 /// The position so many bytes on, at most the end.
 #[tactic(auto, unfolding(crate::specs::Wire::ahead))]
-pub(crate) fn ahead(rule: Rule, bytes: &[u8], at: usize, by: usize) -> Found<usize>
+pub(crate) fn ahead(rule: IpcRule, bytes: &[u8], at: usize, by: usize) -> Found<usize>
     ensures { result ≡ ahead rule bytes.now at by }
 {
     ensure(at <= bytes.len() && by <= bytes.len() - at, rule, at)?;
@@ -45,8 +45,8 @@ fn vtable_at(bytes: &[u8], table: usize) -> Found<usize>
     ensures { result ≡ vtable_at bytes.now table }
 {
     match integer_at(bytes, table, 4)? {
-        back if back < 0x8000_0000 => table.checked_sub(back).ok_or(broken(Rule::Vtable, table)),
-        back => ahead(Rule::Vtable, bytes, table, 0x1_0000_0000 - back),
+        back if back < 0x8000_0000 => table.checked_sub(back).ok_or(broken(IpcRule::Vtable, table)),
+        back => ahead(IpcRule::Vtable, bytes, table, 0x1_0000_0000 - back),
     }
 }
 
@@ -71,8 +71,8 @@ pub(crate) fn open(bytes: &[u8], at: usize) -> Found<Table>
 {
     let vtable = vtable_at(bytes, at)?;
     let size = integer_at(bytes, vtable, 2)?;
-    let _end = ahead(Rule::Vtable, bytes, vtable, size)?;
-    ensure(size % 2 == 0, Rule::Vtable, vtable)?;
+    let _end = ahead(IpcRule::Vtable, bytes, vtable, size)?;
+    ensure(size % 2 == 0, IpcRule::Vtable, vtable)?;
     Ok(Table { at, vtable, size })
 }
 
@@ -89,7 +89,7 @@ pub(crate) fn slot_at(bytes: &[u8], table: &Table, i: u8) -> Found<Option<usize>
     }
     match integer_at(bytes, table.vtable + entry, 2)? {
         0 => Ok(None),
-        far => Ok(Some(ahead(Rule::Slot, bytes, table.at, far)?)),
+        far => Ok(Some(ahead(IpcRule::Slot, bytes, table.at, far)?)),
     }
 }
 
@@ -100,8 +100,8 @@ pub(crate) fn target_at(bytes: &[u8], at: usize) -> Found<usize>
     ensures { result ≡ target_at bytes.now at }
 {
     match integer_at(bytes, at, 4)? {
-        0 => Err(broken(Rule::Offset, at)),
-        far => ahead(Rule::Offset, bytes, at, far),
+        0 => Err(broken(IpcRule::Offset, at)),
+        far => ahead(IpcRule::Offset, bytes, at, far),
     }
 }
 
@@ -111,12 +111,12 @@ pub(crate) fn utf8_at(bytes: &[u8], at: usize) -> Found<&str>
     ensures { map_ok (λ s. s.now) result ≡ utf8_at bytes.now at }
 {
     let count = integer_at(bytes, at, 4)?;
-    let start = ahead(Rule::Text, bytes, at, 4)?;
-    let end = ahead(Rule::Text, bytes, start, count)?;
+    let start = ahead(IpcRule::Text, bytes, at, 4)?;
+    let end = ahead(IpcRule::Text, bytes, start, count)?;
     match (bytes.get(end..), std::str::from_utf8(&bytes[start..end])) {
         (Some([0, ..]), Ok(text)) => Ok(text),
-        (Some([0, ..]), Err(_)) => Err(broken(Rule::Utf8, at)),
-        _ => Err(broken(Rule::Text, at)),
+        (Some([0, ..]), Err(_)) => Err(broken(IpcRule::Utf8, at)),
+        _ => Err(broken(IpcRule::Text, at)),
     }
 }
 
@@ -128,8 +128,8 @@ pub(crate) fn vector_at(bytes: &[u8], at: usize) -> Found<Vector>
     ensures within { IfOk result (λ p. p.0 + 4 * p.1 ≤ length bytes.now) }
 {
     let count = integer_at(bytes, at, 4)?;
-    let start = ahead(Rule::Vector, bytes, at, 4)?;
-    let _end = ahead(Rule::Vector, bytes, start, 4 * count)?;
+    let start = ahead(IpcRule::Vector, bytes, at, 4)?;
+    let _end = ahead(IpcRule::Vector, bytes, start, 4 * count)?;
     Ok((start, count))
 }
 
@@ -190,7 +190,7 @@ pub(crate) fn table_in(bytes: &[u8], table: &Table, i: u8) -> Found<usize>
     requires { IsOpen bytes.now table.now }
     ensures { result ≡ table_in bytes.now table.now i }
 {
-    led_by(bytes, table, i)?.ok_or(broken(Rule::Missing, table.at))
+    led_by(bytes, table, i)?.ok_or(broken(IpcRule::Missing, table.at))
 }
 
 /// The vector to which a slot leads; `None` where it is missing.

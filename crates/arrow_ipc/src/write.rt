@@ -1,4 +1,5 @@
 //! A schema as the message at the head of a stream, and the blocks of which a message is made, each of a length that is a multiple of eight.
+ghost use Rattle.arrow_ipc.specs.Rules.{write_code, write_message};
 ghost use Rattle.std.specs.Prelude.{◌≡◌, ◌+◌, ◌*◌, ◌<◌, ◌++◌, ◌∷◌, [], length, OnOk, map, IfOk, IfErr};
 ghost use Rattle.arrow_values.specs.View.{texts_of};
 ghost use Rattle.arrow_columns.specs.Column.{type_tree, column_tree};
@@ -11,24 +12,44 @@ ghost use Rattle.arrow_ipc.specs.Writes.{Streams, RefusesColumns, GivesColumns};
 
 use crate::nesting::data_block;
 use crate::schema::{Endianness, NESTING_LIMIT, Schema};
-use arrow_columns::{Column, ColumnType};
+use arrow_columns::{SchemaColumn, AnyType};
 use std::alloc::{AllocError, AllocFailed, Global};
 use std::collections::BTreeMap;
-use thiserror::Error;
 
 /// Why a schema is not written.
-#[derive(Clone, Copy, Debug, PartialEq, Eq, Error)]
+#[derive(Clone, Copy, Debug, PartialEq, Eq)]
 pub enum WriteError {
     /// No message can hold the type of a column, with the column's index: it is known by its notation alone, is nested deeper than
     /// `NESTING_LIMIT`, has a list of negative size, or a union whose type ids are not 0 to 127, each once.
-    #[error("column {0} has a type that no message can hold")]
     Column(usize),
     /// The message would take 2^31 bytes or more.
-    #[error("the schema takes 2^31 bytes or more")]
     TooLarge,
     /// Out of memory.
-    #[error("out of memory")]
     OutOfMemory,
+}
+
+impl WriteError {
+    /// Returns the code of the error, as reports have it (`docs/FORMAT.md`, 2.8).
+    pub fn code(self) -> &'static str
+        ensures { result.now ≡ write_code self }
+    {
+        match self {
+            WriteError::Column(_) => "ColumnType",
+            WriteError::TooLarge => "SchemaTooLarge",
+            WriteError::OutOfMemory => "OutOfMemory",
+        }
+    }
+
+    /// Returns what is wrong.
+    pub fn message(self) -> &'static str
+        ensures { result.now ≡ write_message self }
+    {
+        match self {
+            WriteError::Column(_) => "a type that no message can hold",
+            WriteError::TooLarge => "the schema takes 2^31 bytes or more",
+            WriteError::OutOfMemory => "out of memory",
+        }
+    }
 }
 
 /// A block that is made, or why it is not.
@@ -153,11 +174,11 @@ pub(crate) fn type_block(alloc: Global, number: Option<u32>, truth: Option<bool>
 }
 
 /// A column of any type.
-fn any_column(alloc: Global, column: &Column) -> Block
+fn any_column(alloc: Global, column: &SchemaColumn) -> Block
     ensures { Gives (λ b. Holds (child_in NESTING_LIMIT) b (column_tree column.now)) (IsUnfitType NESTING_LIMIT (type_tree column.now.data_type)) (room_of (column_tree column.now)) result }
 {
     match &column.data_type {
-        ColumnType::Data(data_type) => data_block(
+        AnyType::Data(data_type) => data_block(
             alloc,
             column.name.as_str(),
             column.nullable,
@@ -166,13 +187,13 @@ fn any_column(alloc: Global, column: &Column) -> Block
             NESTING_LIMIT,
         ),
         // no message can hold the type, here and in the blocks below: `columns_block` puts the index of the column
-        ColumnType::Other(_) => Err(WriteError::Column(0)),
+        AnyType::Other(_) => Err(WriteError::Column(0)),
     }
 }
 
 /// The vector of the columns of a schema.
 #[tactic(auto, using(crate::proofs::Blocks::made_more, std::proofs::lemmas::List::drop_more, std::proofs::lemmas::List::map_push))]
-fn columns_block(alloc: Global, columns: &[Column]) -> Block
+fn columns_block(alloc: Global, columns: &[SchemaColumn]) -> Block
     ensures { GivesColumns NESTING_LIMIT (map column_tree columns.now) result }
 {
     let mut blocks = Vec::new(alloc);
@@ -210,7 +231,7 @@ fn stream_bytes(alloc: Global, columns: Vec<u8>, texts: Vec<u8>, order: Endianne
 /// Errs at a column whose type no message can hold, where the message would take 2^31 bytes or more, and when out of memory.
 ///
 /// ```rust
-/// let number = Column { name: String::from_str(alloc, "n")?, nullable: false, data_type: ColumnType::Data(DataType::Int32), metadata: BTreeMap::new(alloc) };
+/// let number = SchemaColumn { name: String::from_str(alloc, "n")?, nullable: false, data_type: AnyType::Data(DataType::Int32), metadata: BTreeMap::new(alloc) };
 /// let schema = Schema { columns: vec![in alloc; number]?, metadata: BTreeMap::new(alloc), endianness: Endianness::Little };
 /// let stream = write_schema(alloc, &schema)?;
 /// let again = read_schema(alloc, stream.as_slice());

@@ -2,7 +2,7 @@
 use Rattle.std.proofs.Common.{◌≡◌, ℕ, ◌+◌, Bool, List, [], ◌∷◌, ◌++◌, map, take, sym, ap, ◌∙◌, subst}
 use Rattle.std.proofs.lemmas.List.{map-append}
 use Rattle.arrow_columns.specs.Column.{ColumnTree, column_tree}
-use Rattle.arrow_columns.specs.declared.column.Column.{Column}
+use Rattle.arrow_columns.specs.declared.column.SchemaColumn.{SchemaColumn}
 use Rattle.column_check.specs.Finding.{IsFinding, AreFindings}
 use Rattle.column_check.specs.declared.finding.Finding.{Finding}
 
@@ -14,7 +14,7 @@ module _ (infer : Bool) where
   one_more (d ∷ cs) [] c f h g = absurd h
 
   -- one more of the columns
-  pub findings_next : (cs : List Column) (i : ℕ) (fs gs : List Finding) (c : Column) (f : Finding) → take (i + 1) cs ≡ take i cs ++ c ∷ [] → gs ≡ fs ++ f ∷ []
+  pub findings_next : (cs : List SchemaColumn) (i : ℕ) (fs gs : List Finding) (c : SchemaColumn) (f : Finding) → take (i + 1) cs ≡ take i cs ++ c ∷ [] → gs ≡ fs ++ f ∷ []
       → AreFindings infer (map column_tree (take i cs)) fs → IsFinding infer (column_tree c) f → AreFindings infer (map column_tree (take (i + 1) cs)) gs
   findings_next cs i fs gs c f taken pushed before here =
       let trees = ap (map column_tree) taken ∙ map-append column_tree (take i cs) (c ∷ []) in

@@ -3,7 +3,7 @@ use Rattle.std.proofs.Common.{◌≡◌, Bool, Option, None, Some, subst}
 use Rattle.arrow_values.specs.Tree.{Text, Tree}
 use Rattle.arrow_columns.specs.Column.{TypeTree, known, other, ColumnTree, name_on, metadata_on}
 use Rattle.geoarrow_layout.specs.declared.names.ExtensionName.{ExtensionName}
-use Rattle.geoarrow_layout.specs.declared.encodings.Kind.{Kind}
+use Rattle.geoarrow_layout.specs.declared.native_kinds.Kind.{Kind}
 use Rattle.geoarrow_layout.specs.declared.fault.LayoutFault.{LayoutFault}
 use Rattle.geoarrow_layout.specs.Kinds.{name_text}
 use Rattle.geoarrow_layout.specs.Shapes.{Accepts}

@@ -4,7 +4,7 @@ use Rattle.std.proofs.lemmas.List.{map-append}
 use Rattle.std.proofs.lemmas.List.Elements.{filter-append}
 use Rattle.std.specs.List.{filter}
 use Rattle.arrow_values.specs.Tree.{Text, Metadata, Tree, plain, list, large_list, fixed_size_list, struct, union, FieldTrees, no_fields, field, MemberTrees, no_members, member}
-use Rattle.geoarrow_layout.specs.declared.encodings.Kind.{Kind}
+use Rattle.geoarrow_layout.specs.declared.native_kinds.Kind.{Kind}
 use Rattle.column_check.specs.Parts.{Names, below, coordinates_in, coordinates_of, and_below, fields_in, fields_of, members_of, ways_to}
 use Rattle.column_check.specs.Warnings.{is_doubtful, has_extension_name}
 use Rattle.column_check.specs.Walk.{is_own, way_if, found, found_of, found_among, sought_ways}

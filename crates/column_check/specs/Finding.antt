@@ -4,7 +4,7 @@ use Rattle.std.specs.Str.{str_to_ascii_lowercase}
 use Rattle.arrow_values.specs.Tree.{Text}
 use Rattle.arrow_columns.specs.Column.{ColumnTree, name_on, metadata_on}
 use Rattle.geoarrow_layout.specs.declared.names.ExtensionName.{ExtensionName}
-use Rattle.geoarrow_layout.specs.declared.encodings.Kind.{Kind}
+use Rattle.geoarrow_layout.specs.declared.native_kinds.Kind.{Kind}
 use Rattle.geoarrow_layout.specs.Kinds.{name_text}
 use Rattle.column_check.specs.Metadata.{Values, values_of, TextDenotes, TextHasCrs, HasMetadataFault}
 use Rattle.column_check.specs.Types.{TypeAccepted, HasTypeFault, TypeInferred}

@@ -10,16 +10,16 @@ ghost use Rattle.column_check.specs.Finding.{HasName, HasOtherName, IsReserved, 
 use crate::data_type::{TypeFault, kind_under};
 use crate::finding::{Finding, Geometry, Reasons};
 use crate::metadata::{ColumnMetadata, MetadataFault, read_metadata};
-use arrow_columns::{Column, ColumnType};
+use arrow_columns::{SchemaColumn, AnyType};
 use geoarrow_layout::{ExtensionName, Kind, infer_kind};
 use json::Scratch;
 use std::alloc::{AllocError, Global};
 
 /// What each column of a schema holds: one finding for each, in order, which depends only on its own column. Errs only when out
 /// of memory.
-pub fn check_columns(
+pub fn inspect_columns(
     alloc: Global,
-    columns: &[Column],
+    columns: &[SchemaColumn],
     infer: bool,
 ) -> Result<Vec<Finding>, AllocError>
     ensures { IfOk result (λ findings. AreFindings infer (map column_tree columns.now) findings.items) }
@@ -27,7 +27,7 @@ pub fn check_columns(
     let mut scratch = Scratch::new(alloc);
     let mut findings = Vec::new(alloc);
     for column in columns {
-        findings.push(check_column(alloc, &mut scratch, column, infer)?)?;
+        findings.push(inspect_column(alloc, &mut scratch, column, infer)?)?;
     }
     Ok(findings)
 }
@@ -38,20 +38,20 @@ pub fn check_columns(
 /// caller from column to column. Errs only when out of memory.
 ///
 /// ```rust
-/// let column = Column {
+/// let column = SchemaColumn {
 ///     name: String::from_str(alloc, "geom")?,
 ///     nullable: true,
-///     data_type: ColumnType::Data(DataType::Binary),
+///     data_type: AnyType::Data(DataType::Binary),
 ///     metadata: BTreeMap::new(alloc),
 /// };
 /// let mut scratch = Scratch::new(alloc);
-/// assert!(rt; matches!(check_column(alloc, &mut scratch, &column, false)?, Finding::Plain));
-/// assert!(rt; matches!(check_column(alloc, &mut scratch, &column, true)?, Finding::Inferred(_)));
+/// assert!(rt; matches!(inspect_column(alloc, &mut scratch, &column, false)?, Finding::Plain));
+/// assert!(rt; matches!(inspect_column(alloc, &mut scratch, &column, true)?, Finding::Inferred(_)));
 /// ```
-pub fn check_column(
+pub fn inspect_column(
     alloc: Global,
     scratch: &mut Scratch,
-    column: &Column,
+    column: &SchemaColumn,
     infer: bool,
 ) -> Result<Finding, AllocError>
     ensures { IfOk result (IsFinding infer (column_tree column.now)) }
@@ -75,7 +75,7 @@ pub fn check_column(
 fn check_named(
     alloc: Global,
     scratch: &mut Scratch,
-    column: &Column,
+    column: &SchemaColumn,
     name: ExtensionName,
 ) -> Result<Finding, AllocError>
     requires { HasName (column_tree column.now) name }
@@ -129,12 +129,12 @@ fn is_reserved(alloc: Global, name: &str) -> Result<bool, AllocError>
 fn check_unnamed(
     alloc: Global,
     scratch: &mut Scratch,
-    column: &Column,
+    column: &SchemaColumn,
 ) -> Result<Finding, AllocError>
     requires { name_on (column_tree column.now) ≡ None }
     ensures { (infer : Bool) → IsTrue infer → IfOk result (IsFinding infer (column_tree column.now)) }
 {
-    let ColumnType::Data(data_type) = &column.data_type else {
+    let AnyType::Data(data_type) = &column.data_type else {
         return Ok(Finding::Plain);
     };
     let Some(kind) = infer_kind(data_type) else {

@@ -6,7 +6,7 @@ ghost use Rattle.std.specs.Cmp.Lexicographic.{pointwise};
 ghost use Rattle.arrow_values.specs.View.{tree, field_trees};
 ghost use Rattle.geoarrow_layout.specs.Shapes.{names_of};
 ghost use Rattle.geoarrow_layout.specs.Layouts.{coordinate_names, box_names};
-ghost use Rattle.geoarrow_layout.specs.declared.kinds.Dimension.TheVariants.{XY, XYZ, XYM, XYZM};
+ghost use Rattle.geoarrow_layout.specs.declared.dimensions.Dimension.TheVariants.{XY, XYZ, XYM, XYZM};
 ghost use Rattle.geoarrow_layout.specs.Inferred.{is_float64, are_float64};
 ghost use Rattle.column_check.specs.Warnings.{lacks_doubles, lacks_axis_names, is_doubtful};
 

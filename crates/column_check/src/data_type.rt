@@ -4,11 +4,11 @@ ghost use Rattle.arrow_values.specs.View.{tree};
 ghost use Rattle.arrow_columns.specs.Column.{type_tree, known};
 ghost use Rattle.geoarrow_layout.specs.FaultAt.{names_along};
 ghost use Rattle.column_check.specs.Types.{IsSerialized, HasTypeFault, IsTypeRead};
-ghost use Rattle.geoarrow_layout.specs.declared.encodings.Kind.{Kind};
+ghost use Rattle.geoarrow_layout.specs.declared.native_kinds.Kind.{Kind};
 ghost use Rattle.geoarrow_layout.specs.Kinds.{name_text};
 ghost use Rattle.geoarrow_layout.specs.Shapes.{Accepts};
 
-use arrow_columns::ColumnType;
+use arrow_columns::AnyType;
 use arrow_values::DataType;
 use geoarrow_layout::{ExtensionName, Kind, LayoutFault, child_field, find_fault, parse_kind};
 use std::alloc::{AllocError, Global};
@@ -27,19 +27,19 @@ pub enum TypeFault {
 /// The kind of which a column's type is under an extension name; or why it is of none. Errs only when out of memory.
 ///
 /// ```rust
-/// let found = kind_under(alloc, ExtensionName::Wkb, &ColumnType::Data(DataType::Utf8))?;
+/// let found = kind_under(alloc, ExtensionName::Wkb, &AnyType::Data(DataType::Utf8))?;
 /// assert!(rt; matches!(found, Err(TypeFault::WrongStorage)));
 /// ```
 pub fn kind_under(
     alloc: Global,
     name: ExtensionName,
-    column_type: &ColumnType,
+    column_type: &AnyType,
 ) -> Result<Result<Kind, TypeFault>, AllocError>
     ensures { IfOk result (IsTypeRead name (type_tree column_type.now)) }
 {
     match column_type {
-        ColumnType::Other(_) => Ok(Err(TypeFault::UnsupportedType)),
-        ColumnType::Data(data_type) => match parse_kind(name, data_type) {
+        AnyType::Other(_) => Ok(Err(TypeFault::UnsupportedType)),
+        AnyType::Data(data_type) => match parse_kind(name, data_type) {
             Ok(kind) => Ok(Ok(kind)),
             Err(_) => Ok(Err(fault_under(alloc, name, data_type)?)),
         },

@@ -3,7 +3,7 @@ ghost use Rattle.std.specs.Prelude.{◌≡◌, Bool, Option};
 ghost use Rattle.arrow_values.specs.Tree.{Text};
 ghost use Rattle.arrow_columns.specs.Column.{TypeTree, column_tree, type_tree};
 ghost use Rattle.geoarrow_layout.specs.declared.names.ExtensionName.{ExtensionName};
-ghost use Rattle.geoarrow_layout.specs.declared.encodings.Kind.{Kind};
+ghost use Rattle.geoarrow_layout.specs.declared.native_kinds.Kind.{Kind};
 ghost use Rattle.column_check.specs.Metadata.{Values, TextDenotes, HasMetadataFault};
 ghost use Rattle.column_check.specs.Types.{TypeAccepted, HasTypeFault, TypeInferred};
 ghost use Rattle.column_check.specs.Finding.{IsFinding};
@@ -12,11 +12,11 @@ ghost use Rattle.column_check.specs.declared.data_type.TypeFault.{TypeFault};
 ghost use Rattle.column_check.specs.declared.metadata.MetadataFault.{MetadataFault};
 
 use crate::finding::Finding;
-use arrow_columns::{Column, ColumnType};
+use arrow_columns::{SchemaColumn, AnyType};
 use geoarrow_layout::{infer_kind, names_are_distinct, no_fault_if_accepted, one_fault, one_kind};
 
 /// A law: of a column one thing is said, with or without inference: two findings of it say the same. There is no need to run this.
-pub fn finding_is_unique(column: &Column, _one: &Finding, _other: &Finding)
+pub fn finding_is_unique(column: &SchemaColumn, _one: &Finding, _other: &Finding)
     ensures { (infer : Bool) → IsFinding infer (column_tree column.now) _one.now → IsFinding infer (column_tree column.now) _other.now → SameFinding _one.now _other.now }
 {
     names_are_distinct();
@@ -27,10 +27,10 @@ pub fn finding_is_unique(column: &Column, _one: &Finding, _other: &Finding)
 }
 
 /// A law: one kind is inferred from a type.
-fn one_kind_inferred(column_type: &ColumnType)
+fn one_kind_inferred(column_type: &AnyType)
     ensures { (j k : Kind) → TypeInferred (type_tree column_type.now) j → TypeInferred (type_tree column_type.now) k → j ≡ k }
 {
-    if let ColumnType::Data(data_type) = column_type {
+    if let AnyType::Data(data_type) = column_type {
         infer_kind(data_type);
     }
 }

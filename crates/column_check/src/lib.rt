@@ -1,7 +1,7 @@
 //! What each column of a schema holds, with the reasons where it is invalid, whatever its coordinate reference system is.
 //!
 //! `geoarrow_columns` reports what `from_extension_field` answers; this report keeps every CRS, says what is wrong and where, and
-//! has no error but out of memory. The contract of [`check_column`] is the relation `IsFinding` between the column and what is said of it.
+//! has no error but out of memory. The contract of [`inspect_column`] is the relation `IsFinding` between the column and what is said of it.
 //! [`warnings`] says what is doubtful of a column that is not invalid for it.
 #![tactic(auto)]
 
@@ -15,7 +15,7 @@ mod walk;
 mod warning;
 mod way;
 
-pub use check::{check_column, check_columns};
+pub use check::{inspect_column, inspect_columns};
 pub use data_type::{TypeFault, kind_under, names_along};
 pub use finding::{Finding, Geometry, Reasons};
 pub use metadata::{ColumnMetadata, MetadataFault, read_metadata};

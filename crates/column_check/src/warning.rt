@@ -9,7 +9,7 @@ ghost use Rattle.column_check.specs.Warnings.{said, of_column, is_empty_text, cr
 use crate::finding::{Finding, Geometry};
 use crate::metadata::ColumnMetadata;
 use crate::walk::{Sought, push_sought};
-use arrow_columns::{Column, ColumnType};
+use arrow_columns::{SchemaColumn, AnyType};
 use geoarrow_meta::holds_whole_numbers;
 use std::alloc::{AllocError, Global};
 use value_tokens::JsonText;
@@ -55,14 +55,14 @@ pub struct Warning {
 /// Errs only when out of memory.
 ///
 /// ```rust
-/// let finding = check_column(alloc, &mut scratch, &column, false)?;
+/// let finding = inspect_column(alloc, &mut scratch, &column, false)?;
 /// for warning in warnings(alloc, &column, &finding, false)?.iter() {
 ///     println!(rt; "{:?}", warning.code)?;
 /// }
 /// ```
 pub fn warnings(
     alloc: Global,
-    column: &Column,
+    column: &SchemaColumn,
     finding: &Finding,
     notes: bool,
 ) -> Result<Vec<Warning>, AllocError>
@@ -72,7 +72,7 @@ pub fn warnings(
     if let Some(geometry) = finding.geometry() {
         push_geometry(alloc, &mut warnings, column, geometry, notes)?;
     }
-    if let ColumnType::Data(data_type) = &column.data_type {
+    if let AnyType::Data(data_type) = &column.data_type {
         push_sought(alloc, &mut warnings, Sought::Extensions, data_type)?;
     }
     Ok(warnings)
@@ -82,7 +82,7 @@ pub fn warnings(
 fn push_geometry(
     alloc: Global,
     warnings: &mut Vec<Warning>,
-    column: &Column,
+    column: &SchemaColumn,
     geometry: &Geometry,
     notes: bool,
 ) -> Result<(), AllocError>
@@ -91,7 +91,7 @@ fn push_geometry(
     let is_empty = is_empty_text(column.extension_type_metadata());
     push_if(alloc, warnings, WarningCode::MetadataEmpty, is_empty)?;
     push_crs(alloc, warnings, &geometry.metadata, notes)?;
-    let ColumnType::Data(data_type) = &column.data_type else {
+    let AnyType::Data(data_type) = &column.data_type else {
         return Ok(());
     };
     let doubles = Sought::Coordinates(WarningCode::CoordinatesNotDouble, geometry.kind);

@@ -5,7 +5,7 @@ use Rattle.std.specs.Io.KnownBytes.{IsAtEnd}
 use Rattle.std.proofs.lemmas.Bool.{cases_lt, le-leb}
 use Rattle.std.proofs.lemmas.List.{length-append, length-take-le, take-append-le, take_all}
 use Rattle.arrow_ipc.specs.Fault.{breaks}
-use Rattle.arrow_ipc.specs.declared.fault.Rule.TheVariants.{Envelope}
+use Rattle.arrow_ipc.specs.declared.fault.IpcRule.TheVariants.{Envelope}
 use Rattle.arrow_ipc.specs.Schema.{message_in, cut, schema_of_message}
 use Rattle.arrow_ipc.specs.Wire.{integer_at}
 use Rattle.column_files.specs.Forms.{IsForm}

@@ -7,13 +7,13 @@ use Rattle.std.specs.declared.alloc.Global.{Global}
 use Rattle.std.proofs.Math.Seq.{drop-append-add, take-append-add}
 use Rattle.std.proofs.lemmas.Bool.{cases_lt, le-leb, lt-leb, le-ltb, lt-ltb}
 use Rattle.std.proofs.lemmas.List.{length-append, length-drop, length-take-le, nil_from_length}
-use Rattle.arrow_columns.specs.declared.column.Column.{Column}
+use Rattle.arrow_columns.specs.declared.column.SchemaColumn.{SchemaColumn}
 use Rattle.arrow_ipc.specs.Fault.{breaks}
 use Rattle.arrow_ipc.specs.Schema.{SchemaTree, Meets, footer_in, size_before_magic, cut, schema_of_footer}
-use Rattle.arrow_ipc.specs.declared.fault.Fault.{Fault}
+use Rattle.arrow_ipc.specs.declared.fault.IpcFault.{IpcFault}
 use Rattle.arrow_ipc.specs.declared.fault.IpcError.{IpcError}
 use Rattle.arrow_ipc.specs.declared.fault.IpcError.TheVariants.{Broken, Budget, OutOfMemory}
-use Rattle.arrow_ipc.specs.declared.fault.Rule.TheVariants.{Envelope}
+use Rattle.arrow_ipc.specs.declared.fault.IpcRule.TheVariants.{Envelope}
 use Rattle.arrow_ipc.specs.declared.schema.Schema.{Schema}
 use Rattle.column_files.specs.Files.{size_in, HasFooter, IsFooterRead, further, footer_begin}
 use Rattle.column_files.specs.declared.columns.FileFault.{FileFault}
@@ -82,7 +82,7 @@ module _ (bytes : List ℕ) (n : ℕ) (len : length bytes ≡ n + 10) where
       and_true false footer at = refl
 
 -- a footer that is found has ten bytes behind it
-not_ok : (fault : Fault) (footer : List ℕ) → Err fault ≡ Ok footer → ⊥
+not_ok : (fault : IpcFault) (footer : List ℕ) → Err fault ≡ Ok footer → ⊥
 not_ok fault footer is = cc
 
 too_short : (bytes : List ℕ) → length bytes < 10 → footer_in bytes ≡ breaks Envelope 0
@@ -122,7 +122,7 @@ footer_fits bytes footer found =
 
 -- ---- what is found in the whole file is what is found in its end, as much further on
 
-abbrev moved : ℕ → Result (List ℕ) Fault → Result (List ℕ) Fault
+abbrev moved : ℕ → Result (List ℕ) IpcFault → Result (List ℕ) IpcFault
 moved n (Ok footer) = Ok footer
 moved n (Err fault) = Err (record { rule = fault.rule; at = n + fault.at })
 
@@ -157,20 +157,20 @@ module _ (front end : List ℕ) (n : ℕ) (len : length end ≡ n + 10) where
 -- ---- what is read of the end is what is read of the whole file
 
 abbrev Reads : Type 0
-Reads = List ℕ → Result (SchemaTree × ℕ) Fault
+Reads = List ℕ → Result (SchemaTree × ℕ) IpcFault
 
-of_columns : (by : ℕ) (found : Result (List ℕ) Fault) (read : Reads) (s : Schema) → Meets found read (Ok s) → Meets (moved by found) read (Ok s)
+of_columns : (by : ℕ) (found : Result (List ℕ) IpcFault) (read : Reads) (s : Schema) → Meets found read (Ok s) → Meets (moved by found) read (Ok s)
 of_columns by (Ok footer) read s is = is
 of_columns by (Err fault) read s is = absurd (other fault s is)
   where
-    other : (fault : Fault) (s : Schema) → Ok s ≡ Err (Broken fault) → ⊥
+    other : (fault : IpcFault) (s : Schema) → Ok s ≡ Err (Broken fault) → ⊥
     other fault s is = cc
 
 -- how the whole file is refused
-abbrev Refuses : List ℕ → Result (List ℕ) Fault → IpcError → Type 0
+abbrev Refuses : List ℕ → Result (List ℕ) IpcFault → IpcError → Type 0
 Refuses bytes found error = (inner : IpcError) × Meets found (schema_of_footer 61) (Err inner) × (error ≡ further (0 + footer_begin bytes found) inner)
 
-of_refusal : (front end : List ℕ) (found : Result (List ℕ) Fault) → footer_in end ≡ found → (error inner : IpcError) → Meets found (schema_of_footer 61) (Err inner)
+of_refusal : (front end : List ℕ) (found : Result (List ℕ) IpcFault) → footer_in end ≡ found → (error inner : IpcError) → Meets found (schema_of_footer 61) (Err inner)
     → error ≡ further (length front + footer_begin end found) inner → Refuses (front ++ end) (moved (length front) found) error
 of_refusal front end (Ok footer) is error inner meets refused =
     let begins : length front + (length end - 10 - length footer) ≡ 0 + (length (front ++ end) - 10 - length footer) = omega (arith, footer_fits end footer is, length-append front end) in
@@ -183,7 +183,7 @@ of_refusal front end (Err fault) is error inner meets refused =
       refused ∙ ap (further (length front + 0)) same ∙ ap (λ at. Broken (record { rule = fault.rule; at = at })) place,
     )
 
-of_whole : (front end : List ℕ) → 10 + size_in (drop (length end - 10) end) ≤ length end → (r : Result (Vec Column Global) FileFault)
+of_whole : (front end : List ℕ) → 10 + size_in (drop (length end - 10) end) ≤ length end → (r : Result (Vec SchemaColumn Global) FileFault)
     → IsFooterRead (length front) end r → IsFooterRead 0 (front ++ end) r
 of_whole front end fits r is = by_result r is
   where
@@ -193,7 +193,7 @@ of_whole front end fits r is = by_result r is
     found : footer_in (front ++ end) ≡ moved (length front) (footer_in end)
     found = same_found front end n (omega (arith, fits)) (omega (arith, fits))
 
-    by_result : (r : Result (Vec Column Global) FileFault) → IsFooterRead (length front) end r → IsFooterRead 0 (front ++ end) r
+    by_result : (r : Result (Vec SchemaColumn Global) FileFault) → IsFooterRead (length front) end r → IsFooterRead 0 (front ++ end) r
     by_result (Ok columns) (s, meets, is) =
         (s, subst (λ f. Meets f (schema_of_footer 61) (Ok s)) (sym found) (of_columns (length front) (footer_in end) (schema_of_footer 61) s meets), is)
     by_result (Err (Ipc error)) (inner, meets, is) =
@@ -204,7 +204,7 @@ of_whole front end fits r is = by_result r is
     by_result (Err (Parquet error)) is = absurd is
     by_result (Err OutOfMemoryFault) is = absurd is
 
-pub of_end : (start : ℕ) (end : List ℕ) (r : Result (Vec Column Global) FileFault) → IsFooterRead start end r
+pub of_end : (start : ℕ) (end : List ℕ) (r : Result (Vec SchemaColumn Global) FileFault) → IsFooterRead start end r
     → (front : List ℕ) → length front ≡ start → HasFooter 10 start end → IsFooterRead 0 (front ++ end) r
 of_end start end r is front len (inl fits) = of_whole front end fits r (subst (λ n. IsFooterRead n end r) (sym len) is)
 of_end start end r is front len (inr none) =

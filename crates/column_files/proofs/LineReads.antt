@@ -8,7 +8,7 @@ use Rattle.serde_json.specs.Data.{Data, object, Members}
 use Rattle.serde_json.specs.Read.{read}
 use Rattle.arrow_values.specs.Tree.{Text, FieldTree}
 use Rattle.arrow_columns.specs.Column.{column_of}
-use Rattle.arrow_columns.specs.declared.column.Column.{Column}
+use Rattle.arrow_columns.specs.declared.column.SchemaColumn.{SchemaColumn}
 use Rattle.field_lines.specs.FieldOfValue.{field_of_value}
 use Rattle.field_lines.specs.Line.{field_of_line}
 use Rattle.column_files.specs.Lines.{column_or_other, column_of_value, value_of_line, column_of_line}
@@ -35,7 +35,7 @@ pub no_field : (line : Text) (d : Data) → field_of_line line ≡ None → IsUt
 no_field line d none utf8 is = sym (ap (option_and_then field_of_value) (value_is line utf8 ∙ is)) ∙ none
 
 -- what is read of the value is read of the line
-pub line_read : (line : Text) (d : Data) → IsUtf8 line → read line ≡ Some d → (r : Result Column LineFault) → IsValueRead d r → IsLineRead line r
+pub line_read : (line : Text) (d : Data) → IsUtf8 line → read line ≡ Some d → (r : Result SchemaColumn LineFault) → IsValueRead d r → IsLineRead line r
 line_read line d utf8 is = by_result
   where
     value : value_of_line line ≡ Some d
@@ -44,7 +44,7 @@ line_read line d utf8 is = by_result
     column : column_of_line line ≡ column_of_value d
     column = ap (option_and_then column_of_value) value
 
-    by_result : (r : Result Column LineFault) → IsValueRead d r → IsLineRead line r
+    by_result : (r : Result SchemaColumn LineFault) → IsValueRead d r → IsLineRead line r
     by_result (Ok c) this = column ∙ this
     by_result (Err (NotUtf8 at)) this = absurd this
     by_result (Err (NotJson at)) this = absurd this
@@ -54,7 +54,7 @@ line_read line d utf8 is = by_result
     by_result (Err Metadata) this = (column ∙ this.0, (d, value, this.1))
     by_result (Err TypeUnknown) this = (column ∙ this.0, (d, value, this.1))
 
-pub read_of_line : {E : Type 0} (line : Text) (d : Data) → IsUtf8 line → read line ≡ Some d → (r : Result (Result Column LineFault) E) → IfOk r (IsValueRead d) → IfOk r (IsLineRead line)
+pub read_of_line : {E : Type 0} (line : Text) (d : Data) → IsUtf8 line → read line ≡ Some d → (r : Result (Result SchemaColumn LineFault) E) → IfOk r (IsValueRead d) → IfOk r (IsLineRead line)
 read_of_line line d utf8 is (Ok r) this = line_read line d utf8 is r this
 read_of_line line d utf8 is (Err e) this = tt
 

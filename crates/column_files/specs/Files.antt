@@ -4,9 +4,9 @@ use Rattle.std.specs.Int.{w32, from_le_bytes}
 use Rattle.arrow_values.specs.Tree.{Text}
 use Rattle.arrow_values.specs.Texts.{text_of}
 use Rattle.arrow_columns.specs.Column.{ColumnTree, column_tree}
-use Rattle.arrow_columns.specs.declared.column.Column.{Column}
+use Rattle.arrow_columns.specs.declared.column.SchemaColumn.{SchemaColumn}
 use Rattle.arrow_ipc.specs.Schema.{SchemaTree, Meets, message_in, footer_in, schema_of_message, schema_of_footer}
-use Rattle.arrow_ipc.specs.declared.fault.Fault.{Fault}
+use Rattle.arrow_ipc.specs.declared.fault.IpcFault.{IpcFault}
 use Rattle.arrow_ipc.specs.declared.fault.IpcError.{IpcError}
 use Rattle.arrow_ipc.specs.declared.fault.IpcError.TheVariants.{Broken, Budget, OutOfMemory as IpcOutOfMemory}
 use Rattle.arrow_ipc.specs.declared.schema.Schema.{Schema}
@@ -26,7 +26,7 @@ use Rattle.parquet_columns.specs.declared.error.SchemaError.{SchemaError}
 -- ---- lines
 
 -- what is read of lines: the columns that they denote; or how many lines stand before the first that is not blank and denotes none, and why
-abbrev pub AreLinesRead : List ℕ → Result (Vec Column Global) FileFault → Type 0
+abbrev pub AreLinesRead : List ℕ → Result (Vec SchemaColumn Global) FileFault → Type 0
 AreLinesRead text (Ok columns) = (lines : List (List ℕ)) × LinesTo text lines [] × Denote lines (map column_tree columns.items)
 AreLinesRead text (Err (NoField n fault)) =
     (before : List (List ℕ)) × (cs : List ColumnTree) × (rest : List ℕ) × (length before ≡ n) × LinesTo text before rest × Denote before cs × DenotesNone rest fault
@@ -34,7 +34,7 @@ AreLinesRead text (Err OutOfMemory) = ⊤
 AreLinesRead text (Err fault) = ⊥
 
 -- what is read of a file of lines: the same; but that it is empty, where its lines denote no column
-abbrev pub AreLinesInFile : List ℕ → Result (Vec Column Global) FileFault → Type 0
+abbrev pub AreLinesInFile : List ℕ → Result (Vec SchemaColumn Global) FileFault → Type 0
 AreLinesInFile text (Ok columns) = AreLinesRead text (Ok columns) × (columns.items ≢ [])
 AreLinesInFile text (Err Empty) = (lines : List (List ℕ)) × LinesTo text lines [] × Denote lines []
 AreLinesInFile text (Err fault) = AreLinesRead text (Err fault)
@@ -42,7 +42,7 @@ AreLinesInFile text (Err fault) = AreLinesRead text (Err fault)
 -- ---- schemas
 
 -- what is read where a flatbuffer holds a schema: its columns, or how it is refused
-abbrev pub IsSchemaRead : Result (List ℕ) Fault → (List ℕ → Result (SchemaTree × ℕ) Fault) → Result (Vec Column Global) FileFault → Type 0
+abbrev pub IsSchemaRead : Result (List ℕ) IpcFault → (List ℕ → Result (SchemaTree × ℕ) IpcFault) → Result (Vec SchemaColumn Global) FileFault → Type 0
 IsSchemaRead found read (Ok columns) = (s : Schema) × Meets found read (Ok s) × (columns ≡ s.columns)
 IsSchemaRead found read (Err (Ipc error)) = Meets found read (Err error)
 IsSchemaRead found read (Err fault) = ⊥
@@ -54,18 +54,18 @@ further n (Budget at) = Budget (min (n + at) (2 ^ 64 - 1))
 further n IpcOutOfMemory = IpcOutOfMemory
 
 -- where the footer begins that was found in an Arrow file, with ten bytes behind it; 0 where none was
-abbrev pub footer_begin : List ℕ → Result (List ℕ) Fault → ℕ
+abbrev pub footer_begin : List ℕ → Result (List ℕ) IpcFault → ℕ
 footer_begin bytes (Ok footer) = length bytes - 10 - length footer
 footer_begin bytes (Err fault) = 0
 
 -- what is read of the footer in these bytes of an Arrow file, before which so many stand; the place of a refusal is the byte of the file
-abbrev pub IsFooterRead : ℕ → List ℕ → Result (Vec Column Global) FileFault → Type 0
+abbrev pub IsFooterRead : ℕ → List ℕ → Result (Vec SchemaColumn Global) FileFault → Type 0
 IsFooterRead start bytes (Err (Ipc error)) =
     (inner : IpcError) × Meets (footer_in bytes) (schema_of_footer 61) (Err inner) × (error ≡ further (start + footer_begin bytes (footer_in bytes)) inner)
 IsFooterRead start bytes r = IsSchemaRead (footer_in bytes) (schema_of_footer 61) r
 
 -- what is read of a Parquet file with that footer: its columns, or how it is refused
-abbrev pub IsParquetRead : Result (List ℕ) SchemaError → Result (Vec Column Global) FileFault → Type 0
+abbrev pub IsParquetRead : Result (List ℕ) SchemaError → Result (Vec SchemaColumn Global) FileFault → Type 0
 IsParquetRead footer (Ok columns) = parquet.IsFileRead footer (Ok columns)
 IsParquetRead footer (Err (ParquetFault error)) = parquet.IsFileRead footer (Err error)
 IsParquetRead footer (Err fault) = ⊥
@@ -73,7 +73,7 @@ IsParquetRead footer (Err fault) = ⊥
 -- ---- files
 
 -- what is read of the bytes of a file in that format
-abbrev pub IsFileRead : Form → List ℕ → Result (Vec Column Global) FileFault → Type 0
+abbrev pub IsFileRead : Form → List ℕ → Result (Vec SchemaColumn Global) FileFault → Type 0
 IsFileRead ArrowFile bytes r = IsFooterRead 0 bytes r
 IsFileRead ArrowStream bytes r = IsSchemaRead (message_in bytes) (schema_of_message 61) r
 IsFileRead Parquet bytes r = IsParquetRead (parquet.footer_in bytes) r
@@ -89,7 +89,7 @@ abbrev pub HasFooter : ℕ → ℕ → List ℕ → Type 0
 HasFooter tail start end = (tail + size_in (drop (length end - tail) end) ≤ length end) ⊎ (start ≡ 0)
 
 -- what is read of the end of a file in that format, before which so many bytes stand: of an Arrow file what is read of the whole, whichever bytes those are
-abbrev pub IsEndRead : Form → ℕ → List ℕ → Result (Vec Column Global) FileFault → Type 0
+abbrev pub IsEndRead : Form → ℕ → List ℕ → Result (Vec SchemaColumn Global) FileFault → Type 0
 IsEndRead ArrowFile start end r = (front : List ℕ) → length front ≡ start → HasFooter 10 start end → IsFileRead ArrowFile (front ++ end) r
 IsEndRead form start end r = IsFileRead form end r
 

@@ -6,3 +6,4 @@ pub mod Files
 pub mod Sources
 pub mod ReadErrors
 pub mod Reading
+pub mod Refusals

@@ -7,7 +7,7 @@ use Rattle.serde_json.specs.Find.{get_member, as_str, as_bool, as_object}
 use Rattle.serde_json.specs.Read.{read}
 use Rattle.arrow_values.specs.Tree.{Text, FieldTree}
 use Rattle.arrow_columns.specs.Column.{column_tree}
-use Rattle.arrow_columns.specs.declared.column.Column.{Column}
+use Rattle.arrow_columns.specs.declared.column.SchemaColumn.{SchemaColumn}
 use Rattle.field_lines.specs.FieldOfValue.{under, field_of_value, type_in, metadata_of_value}
 use Rattle.column_files.specs.Lines.{other_of_value, with_null, value_of_line, column_of_value, column_of_line, is_blank, FirstLine, Denote}
 use Rattle.column_files.specs.declared.line.LineFault.{LineFault}
@@ -58,14 +58,14 @@ IsLineFault line (NotJson at) = IsUtf8 line × (read line ≡ None)
 IsLineFault line fault = (d : Data) × (value_of_line line ≡ Some d) × IsValueFault d fault
 
 -- what is read of a value: the column that it denotes, or why it denotes none
-abbrev pub IsValueRead : Data → Result Column LineFault → Type 0
+abbrev pub IsValueRead : Data → Result SchemaColumn LineFault → Type 0
 IsValueRead d (Ok column) = column_of_value d ≡ Some (column_tree column)
 IsValueRead d (Err (NotUtf8 at)) = ⊥
 IsValueRead d (Err (NotJson at)) = ⊥
 IsValueRead d (Err fault) = (column_of_value d ≡ None) × IsValueFault d fault
 
 -- what is read of a line: the column that it denotes, or why it denotes none
-abbrev pub IsLineRead : Text → Result Column LineFault → Type 0
+abbrev pub IsLineRead : Text → Result SchemaColumn LineFault → Type 0
 IsLineRead line (Ok column) = column_of_line line ≡ Some (column_tree column)
 IsLineRead line (Err fault) = (column_of_line line ≡ None) × IsLineFault line fault
 
@@ -75,6 +75,6 @@ DenotesNone text fault =
     (line : List ℕ) × (rest : List ℕ) × FirstLine text line rest × (is_blank line ≡ false) × (column_of_line line ≡ None) × IsLineFault line fault
 
 -- what a line adds to the columns before it: its own, or none where it is blank; or why it denotes none; for private clauses
-abbrev pub IsLineAdded : List ℕ → List Column → List Column → Option LineFault → Type 0
-IsLineAdded line old new None = (cs : List Column) × (new ≡ old ++ cs) × Denote (line ∷ []) (map column_tree cs)
+abbrev pub IsLineAdded : List ℕ → List SchemaColumn → List SchemaColumn → Option LineFault → Type 0
+IsLineAdded line old new None = (cs : List SchemaColumn) × (new ≡ old ++ cs) × Denote (line ∷ []) (map column_tree cs)
 IsLineAdded line old new (Some fault) = (new ≡ old) × (is_blank line ≡ false) × IsLineRead line (Err fault)

@@ -8,7 +8,7 @@ use Rattle.memchr.specs.Find.{is_byte, Passes, Nowhere, IsFirstByte}
 use Rattle.std.specs.declared.vec.Vec.{Vec}
 use Rattle.std.specs.declared.alloc.Global.{Global}
 use Rattle.arrow_columns.specs.Column.{ColumnTree, column_tree}
-use Rattle.arrow_columns.specs.declared.column.Column.{Column}
+use Rattle.arrow_columns.specs.declared.column.SchemaColumn.{SchemaColumn}
 use Rattle.column_files.specs.Lines.{line_feed, LinesTo, Denote}
 use Rattle.column_files.specs.LineFaults.{DenotesNone}
 use Rattle.column_files.specs.Files.{IsFileRead, size_in, HasFooter}
@@ -60,7 +60,7 @@ Goes Step (Some text) None = ⊥
 Goes Step (Some text) (Some rest) = Step text rest
 
 -- the columns that a call answers: one, or none
-abbrev pub answered : Result (Option Column) ReadFault → List ColumnTree
+abbrev pub answered : Result (Option SchemaColumn) ReadFault → List ColumnTree
 answered (Ok (Some column)) = column_tree column ∷ []
 answered r = []
 
@@ -72,7 +72,7 @@ PassesLines n m old new cs =
 
 -- what a call answers behind m lines, with the known text left, and of that `held` at hand: the last line's column; that no text is left, where a line had a
 -- column, else that there is none; or why the next line, which is not blank, has no column
-abbrev pub IsNext : ℕ → Bool → Option (List ℕ) → List ℕ → Result (Option Column) ReadFault → Type 0
+abbrev pub IsNext : ℕ → Bool → Option (List ℕ) → List ℕ → Result (Option SchemaColumn) ReadFault → Type 0
 IsNext m some left held (Ok (Some column)) = ⊤
 IsNext m some left held (Ok None) = (some ≡ true) × IsAtEnd left
 IsNext m some left held (Err (LongLine k)) = (k ≡ m) × IfSome left IsLong
@@ -83,7 +83,7 @@ IsNext m some left held (Err (File fault)) = ⊥
 IsNext m some left held (Err (Input error)) = HasNoFeed held × (error_kind error ≢ Interrupted)
 
 -- whether a call answers a column
-abbrev pub is_column : Result (Option Column) ReadFault → Bool
+abbrev pub is_column : Result (Option SchemaColumn) ReadFault → Bool
 is_column (Ok (Some column)) = true
 is_column r = false
 
@@ -127,4 +127,4 @@ IsHead head rest = (length head ≡ 8) ⊎ (rest ≡ [])
 
 -- what is read of these bytes in that format is what is read of all
 abbrev pub ReadAs : Form → List ℕ → List ℕ → Type 0
-ReadAs form bytes all = (r : Result (Vec Column Global) FileFault) → IsFileRead form bytes r ↔ IsFileRead form all r
+ReadAs form bytes all = (r : Result (Vec SchemaColumn Global) FileFault) → IsFileRead form bytes r ↔ IsFileRead form all r

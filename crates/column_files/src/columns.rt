@@ -1,13 +1,13 @@
 //! The columns of what is read of a file, or why there are none.
 ghost use Rattle.std.specs.Prelude.{◌≡◌, ◌+◌, ℕ, List, Result};
 ghost use Rattle.arrow_ipc.specs.Schema.{SchemaTree, Meets, footer_in, schema_of_footer};
-ghost use Rattle.arrow_ipc.specs.declared.fault.Fault.{Fault};
+ghost use Rattle.arrow_ipc.specs.declared.fault.IpcFault.{IpcFault};
 ghost use Rattle.column_files.specs.Files.{IsFooterRead, IsSchemaRead, AreLinesRead, AreLinesInFile};
 ghost use Rattle.column_files.specs.Files.{further, footer_begin};
 
 use crate::line::LineFault;
-use arrow_columns::Column;
-use arrow_ipc::{Fault, IpcError, Schema};
+use arrow_columns::SchemaColumn;
+use arrow_ipc::{IpcFault, IpcError, Schema};
 use parquet_columns::SchemaError;
 use std::alloc::{AllocError, AllocFailed};
 
@@ -54,8 +54,8 @@ impl<T: Drop> From<AllocFailed<T>> for FileFault {
 
 /// The columns of lines that are read, or that there are none.
 pub(crate) fn columns_of_line_file(
-    read: Result<Vec<Column>, FileFault>,
-) -> Result<Vec<Column>, FileFault>
+    read: Result<Vec<SchemaColumn>, FileFault>,
+) -> Result<Vec<SchemaColumn>, FileFault>
     ensures { (text : List ℕ) → AreLinesRead text read → AreLinesInFile text result }
 {
     match read {
@@ -70,7 +70,7 @@ pub(crate) fn columns_of_footer(
     read: Result<Schema, IpcError>,
     start: usize,
     bytes: &[u8],
-) -> Result<Vec<Column>, FileFault>
+) -> Result<Vec<SchemaColumn>, FileFault>
     requires { Meets (footer_in bytes.now) (schema_of_footer 61) read }
     ensures { IsFooterRead start bytes.now result }
 {
@@ -88,7 +88,7 @@ fn further(error: IpcError, by: usize) -> IpcError
     ensures { result ≡ further by error }
 {
     match error {
-        IpcError::Broken(Fault { rule, at }) => IpcError::Broken(Fault {
+        IpcError::Broken(IpcFault { rule, at }) => IpcError::Broken(IpcFault {
             rule,
             at: by.saturating_add(at),
         }),
@@ -119,8 +119,8 @@ fn footer_begin(bytes: &[u8]) -> usize
 }
 
 /// The columns of a schema that is read.
-pub(crate) fn columns_of_schema(read: Result<Schema, IpcError>) -> Result<Vec<Column>, FileFault>
-    ensures { (found : Result (List ℕ) Fault) (reads : List ℕ → Result (SchemaTree × ℕ) Fault) → Meets found reads read → IsSchemaRead found reads result }
+pub(crate) fn columns_of_schema(read: Result<Schema, IpcError>) -> Result<Vec<SchemaColumn>, FileFault>
+    ensures { (found : Result (List ℕ) IpcFault) (reads : List ℕ → Result (SchemaTree × ℕ) IpcFault) → Meets found reads read → IsSchemaRead found reads result }
 {
     match read {
         Ok(schema) => Ok(schema.columns),

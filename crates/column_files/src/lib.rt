@@ -9,6 +9,7 @@ mod line;
 mod lines;
 mod opening;
 mod reading;
+mod refusal;
 mod schema_bytes;
 mod source;
 
@@ -19,4 +20,5 @@ pub use line::{LineFault, column_line, parse_column_line};
 pub use lines::columns_of_lines;
 pub use opening::{File, open, open_end};
 pub use reading::{LineColumns, MAX_LINE_BYTES};
+pub use refusal::{Fault, Place, fault_of, long_line, write_fault};
 pub use schema_bytes::{FileEnd, read_head, read_schema_bytes, read_schema_end};

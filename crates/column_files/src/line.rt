@@ -11,7 +11,7 @@ ghost use Rattle.column_files.specs.Lines.{other_of_value, with_null, with_other
 ghost use Rattle.column_files.specs.ColumnLines.{line_of_column, FitsLine};
 ghost use Rattle.column_files.specs.LineFaults.{IsLineRead, IsValueRead, IsPartFault, IsNullRead};
 
-use arrow_columns::{Column, ColumnType};
+use arrow_columns::{SchemaColumn, AnyType};
 use arrow_values::Field;
 use field_lines::laws::written_null_is_read;
 use field_lines::{field_line, other_line, parse_line, parse_line_with_scratch};
@@ -44,7 +44,7 @@ pub enum LineFault {
 /// ```rust
 /// let line = br#"{"name":"at","nullable":true,"type":{"other":"timestamp[ms]"}}"#;
 /// let read = parse_column_line(alloc, line, &mut Scratch::new(alloc))?;
-/// assert!(rt; matches!(read, Ok(column) if matches!(column.data_type, ColumnType::Other(_))));
+/// assert!(rt; matches!(read, Ok(column) if matches!(column.data_type, AnyType::Other(_))));
 /// let read = parse_column_line(alloc, b"{}", &mut Scratch::new(alloc))?;
 /// assert!(rt; matches!(read, Err(LineFault::Name)));
 /// ```
@@ -53,11 +53,11 @@ pub fn parse_column_line(
     alloc: Global,
     line: &[u8],
     scratch: &mut Scratch,
-) -> Result<Result<Column, LineFault>, AllocError>
+) -> Result<Result<SchemaColumn, LineFault>, AllocError>
     ensures { IfOk result (IsLineRead line.now) }
 {
     match parse_line_with_scratch(alloc, line, scratch)? {
-        Some(field) => Ok(Ok(Column::from_field(alloc, field)?)),
+        Some(field) => Ok(Ok(SchemaColumn::from_field(alloc, field)?)),
         None => parse_other_line(alloc, line),
     }
 }
@@ -72,25 +72,25 @@ pub fn parse_column_line(
 /// let written = column_line(alloc, column)?;
 /// assert_eq!(rt; written.as_bytes(), line.as_slice());
 /// ```
-pub fn column_line(alloc: Global, column: Column) -> Result<String, AllocError>
+pub fn column_line(alloc: Global, column: SchemaColumn) -> Result<String, AllocError>
     ensures text { IfOk result (λ s. string_bytes s ≡ line_of_column (column_tree column)) }
     ensures reads_back { IfOk result (λ s. FitsLine (column_tree column) → column_of_line (string_bytes s) ≡ Some (column_tree column)) }
 {
     written_null_is_read();
-    let Column {
+    let SchemaColumn {
         name,
         nullable,
         data_type,
         metadata,
     } = column;
     match data_type {
-        ColumnType::Data(data_type) => {
+        AnyType::Data(data_type) => {
             let field = Field::from_parts(name, data_type, nullable, metadata);
             let line = field_line(alloc, &field);
             drop(field);
             line
         }
-        ColumnType::Other(notation) => {
+        AnyType::Other(notation) => {
             other_line(alloc, name.as_str(), nullable, &metadata, notation.as_str())
         }
     }
@@ -99,7 +99,7 @@ pub fn column_line(alloc: Global, column: Column) -> Result<String, AllocError>
 /// The column that a line denotes which denotes no field.
 #[cold]
 #[tactic(auto, using(crate::proofs::LineReads::no_utf8))]
-fn parse_other_line(alloc: Global, line: &[u8]) -> Result<Result<Column, LineFault>, AllocError>
+fn parse_other_line(alloc: Global, line: &[u8]) -> Result<Result<SchemaColumn, LineFault>, AllocError>
     requires { field_of_line line.now ≡ None }
     ensures { IfOk result (IsLineRead line.now) }
 {
@@ -111,7 +111,7 @@ fn parse_other_line(alloc: Global, line: &[u8]) -> Result<Result<Column, LineFau
 
 /// The column that a text denotes which denotes no field.
 #[tactic(auto, using(crate::proofs::LineReads::no_field, crate::proofs::LineReads::read_of_line, crate::proofs::LineReads::no_json))]
-fn parse_other_text(alloc: Global, text: &str) -> Result<Result<Column, LineFault>, AllocError>
+fn parse_other_text(alloc: Global, text: &str) -> Result<Result<SchemaColumn, LineFault>, AllocError>
     requires { field_of_line text.now ≡ None }
     ensures { IfOk result (IsLineRead text.now) }
 {
@@ -132,7 +132,7 @@ fn parse_other_text(alloc: Global, text: &str) -> Result<Result<Column, LineFaul
 
 /// The column that a value denotes which denotes no field. An object then has the type null.
 #[tactic(auto, using(crate::proofs::NullType::not_object, crate::proofs::NullType::no_column_of))]
-fn column_of(alloc: Global, value: &mut Value) -> Result<Result<Column, LineFault>, AllocError>
+fn column_of(alloc: Global, value: &mut Value) -> Result<Result<SchemaColumn, LineFault>, AllocError>
     requires none { field_of_value (view value.old) ≡ None }
     requires shallow { depth (view value.old) ≤ max_depth }
     ensures { IfOk result (IsValueRead (view value.old)) }
@@ -223,15 +223,15 @@ fn field_of(alloc: Global, value: &Value) -> Result<Option<Field>, AllocError>
 }
 
 /// The column of a field, with another type in place of its own.
-fn other_column(alloc: Global, field: Field, notation: String) -> Result<Column, AllocError>
+fn other_column(alloc: Global, field: Field, notation: String) -> Result<SchemaColumn, AllocError>
     ensures { IfOk result (λ column. column_tree column ≡ with_other (string_bytes notation) field) }
 {
     let (name, data_type, nullable, metadata) = field.into_parts(alloc)?;
     drop(data_type);
-    Ok(Column {
+    Ok(SchemaColumn {
         name,
         nullable,
-        data_type: ColumnType::Other(notation),
+        data_type: AnyType::Other(notation),
         metadata,
     })
 }

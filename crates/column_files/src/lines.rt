@@ -6,7 +6,7 @@ ghost use Rattle.column_files.specs.Files.{AreLinesRead};
 
 use crate::columns::FileFault;
 use crate::line::{LineFault, parse_column_line};
-use arrow_columns::Column;
+use arrow_columns::SchemaColumn;
 use json::Scratch;
 use memchr::memchr;
 use std::alloc::{AllocError, Global};
@@ -21,7 +21,7 @@ use std::alloc::{AllocError, Global};
 /// let refused = columns_of_lines(alloc, b"\n[]\n");
 /// assert!(rt; matches!(refused, Err(FileFault::NoField(1, LineFault::NotObject))));
 /// ```
-pub fn columns_of_lines(alloc: Global, text: &[u8]) -> Result<Vec<Column>, FileFault>
+pub fn columns_of_lines(alloc: Global, text: &[u8]) -> Result<Vec<SchemaColumn>, FileFault>
     ensures { AreLinesRead text.now result }
 {
     let mut columns = Vec::new(alloc);
@@ -45,7 +45,7 @@ fn add_column(
     alloc: Global,
     line: &[u8],
     scratch: &mut Scratch,
-    columns: &mut Vec<Column>,
+    columns: &mut Vec<SchemaColumn>,
 ) -> Result<Option<LineFault>, AllocError>
     ensures { IfOk result (IsLineAdded line.now columns.old.items columns.new.items) }
 {

@@ -5,7 +5,7 @@ ghost use Rattle.column_files.specs.Files.{IsOpened, IsEndOpened};
 use crate::columns::{FileFault, columns_of_footer, columns_of_line_file, columns_of_schema};
 use crate::form::{Form, form_of};
 use crate::lines::columns_of_lines;
-use arrow_columns::Column;
+use arrow_columns::SchemaColumn;
 use arrow_ipc::{read_file_footer, read_schema};
 use parquet_columns::read_file;
 use std::alloc::Global;
@@ -19,7 +19,7 @@ pub struct File<'a> {
     /// Its format.
     pub form: Form,
     /// Its columns.
-    pub columns: Vec<Column>,
+    pub columns: Vec<SchemaColumn>,
     /// Of a Parquet file the text at the key `geo` of its metadata, if there is one: a part of the
     /// bytes that were read.
     pub geo: Option<&'a str>,
@@ -78,7 +78,7 @@ pub fn open_end<'a>(
 }
 
 /// A file in that format with these columns, or why it has none.
-fn without_geo<'a>(form: Form, read: Result<Vec<Column>, FileFault>) -> Result<File<'a>, FileFault>
+fn without_geo<'a>(form: Form, read: Result<Vec<SchemaColumn>, FileFault>) -> Result<File<'a>, FileFault>
     ensures { MatchResult result (λ file. (file.form ≡ form) × (read ≡ Ok file.columns) × (file.geo ≡ None)) (λ fault. read ≡ Err fault) }
 {
     match read {

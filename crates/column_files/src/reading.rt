@@ -15,7 +15,7 @@ use crate::fault::ReadFault;
 use crate::line::parse_column_line;
 use crate::lines::is_blank;
 use crate::source::{CHUNK_BYTES, move_front, part_of, read_behind, rest_of};
-use arrow_columns::Column;
+use arrow_columns::SchemaColumn;
 use json::Scratch;
 use memchr::memchr;
 use std::alloc::{AllocError, Global};
@@ -74,7 +74,7 @@ impl<R: Read> LineColumns<R> {
     /// bytes, with how many stand before it; with `Input` where the source fails, unless a signal
     /// interrupts it, which is tried again; and when out of memory. The line is then not passed
     /// over: a further call begins with it, and goes on where the source failed.
-    pub fn next_column(&mut self) -> Result<Option<Column>, ReadFault>
+    pub fn next_column(&mut self) -> Result<Option<SchemaColumn>, ReadFault>
         ensures passed { PassesLines (passed self.old) (passed self.new)
             (text_left R.remaining self.old) (text_left R.remaining self.new) (answered result) }
         ensures next { IsNext (passed self.new) (has_column self.old)

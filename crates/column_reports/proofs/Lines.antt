@@ -5,7 +5,7 @@ use Rattle.std.proofs.lemmas.List.{map-append, append_assoc, append-nil, length-
 use Rattle.std.proofs.lemmas.List.Folds.{list_any-append}
 use Rattle.arrow_values.specs.Tree.{Text}
 use Rattle.arrow_columns.specs.Column.{ColumnTree, column_tree}
-use Rattle.arrow_columns.specs.declared.column.Column.{Column}
+use Rattle.arrow_columns.specs.declared.column.SchemaColumn.{SchemaColumn}
 use Rattle.column_check.specs.States.{is_invalid, is_geometry}
 use Rattle.column_reports.specs.Columns.{IsColumnReport}
 use Rattle.column_reports.specs.declared.report.ColumnReport.{ColumnReport}
@@ -47,7 +47,7 @@ module _ (file : Option Text) where
 
   module _ (o : Options) where
     -- one more of the columns
-    pub report_next : (cs : List Column) (c : Column) (index : ℕ) (r : ColumnReport) (old new : Report) → index ≡ length cs → IsReportOf file o (map column_tree cs) old
+    pub report_next : (cs : List SchemaColumn) (c : SchemaColumn) (index : ℕ) (r : ColumnReport) (old new : Report) → index ≡ length cs → IsReportOf file o (map column_tree cs) old
         → IsColumnReport o (column_tree c) r → AddsColumn file index r old new → IsReportOf file o (map column_tree (cs ++ c ∷ [])) new
     report_next cs c index r old new count is said adds =
         let as_many = same_length o (map column_tree cs) is.columns is.are ∙ length-map cs column_tree in
@@ -65,7 +65,7 @@ module _ (file : Option Text) where
         }
 
     -- the report of the first columns has more bytes than the limit
-    pub first_past : (all cs : List Column) (c : Column) (limit : ℕ) (r : Report) → cs ≡ take (length cs) all → length cs < length all → c ≡ get_or all (length cs) c
+    pub first_past : (all cs : List SchemaColumn) (c : SchemaColumn) (limit : ℕ) (r : Report) → cs ≡ take (length cs) all → length cs < length all → c ≡ get_or all (length cs) c
         → IsReportOf file o (map column_tree (cs ++ c ∷ [])) r → limit < size r → ArePast file o limit (map column_tree all)
     first_past all cs c limit r front within item said past =
         let n = length cs + 1 in

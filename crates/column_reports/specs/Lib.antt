@@ -6,3 +6,4 @@ pub mod Summary
 pub mod Warnings
 pub mod Checks
 pub mod FileReport
+pub mod Faults

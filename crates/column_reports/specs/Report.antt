@@ -6,7 +6,7 @@ use Rattle.arrow_columns.specs.Column.{ColumnTree, column_tree, name_on}
 use Rattle.arrow_columns.specs.Notation.{type_text}
 use Rattle.geoarrow_meta.specs.declared.edges.Edges.{Edges}
 use Rattle.geoarrow_meta.specs.Read.{edges_text, crs_type_text}
-use Rattle.geoarrow_layout.specs.declared.encodings.Kind.{Kind}
+use Rattle.geoarrow_layout.specs.declared.native_kinds.Kind.{Kind}
 use Rattle.geoarrow_layout.specs.Kinds.{coord_type_of, dimension_of}
 use Rattle.geoarrow_layout.specs.KindWords.{kind_word, coord_type_word, dimension_word}
 use Rattle.column_check.specs.declared.finding.Geometry.{Geometry as GeometryColumn}

@@ -9,7 +9,7 @@ ghost use Rattle.column_reports.specs.FileReport.{ParquetReports};
 
 use crate::file::{Report, push_line, report_columns, within};
 use crate::report::Options;
-use arrow_columns::Column;
+use arrow_columns::SchemaColumn;
 use column_files::FileFault;
 use geoparquet::{GeoFinding, check_geo, check_lines, geo_columns, no_geo_line};
 use std::alloc::{AllocError, Global};
@@ -18,7 +18,7 @@ use std::alloc::{AllocError, Global};
 #[derive(Debug, Drop)]
 pub struct Checked {
     /// The columns, as `geo_columns` of `geoparquet` answers them.
-    pub columns: Vec<Column>,
+    pub columns: Vec<SchemaColumn>,
     /// What the rules say, as `check_geo` of `geoparquet` answers it of the columns that the file
     /// denotes; none where the file has no text at the key `geo`. The columns are then those that
     /// the file denotes.
@@ -31,7 +31,7 @@ pub struct Checked {
 pub fn checked_columns(
     alloc: Global,
     geo: Option<&str>,
-    columns: Vec<Column>,
+    columns: Vec<SchemaColumn>,
 ) -> Result<Checked, AllocError>
     ensures { IfOk result (AreChecked (text_of geo.entry) (map column_tree columns.items)) }
 {
@@ -102,7 +102,7 @@ pub(crate) fn parquet_report(
     alloc: Global,
     file: Option<&str>,
     geo: Option<&str>,
-    columns: Vec<Column>,
+    columns: Vec<SchemaColumn>,
     options: Options,
     limit: u128,
 ) -> Result<Report, FileFault>

@@ -8,7 +8,7 @@ use crate::checks::parquet_report;
 use crate::line::json_line;
 use crate::report::{ColumnReport, Options, report_column};
 use crate::summary::Summary;
-use arrow_columns::Column;
+use arrow_columns::SchemaColumn;
 use column_files::{File, FileFault, Form, open};
 use json::Scratch;
 use parquet_columns::report_budget;
@@ -82,7 +82,7 @@ fn report_opened(
 pub fn report_columns(
     alloc: Global,
     file: Option<&str>,
-    columns: Vec<Column>,
+    columns: Vec<SchemaColumn>,
     options: Options,
     limit: u128,
 ) -> Result<Report, FileFault>

@@ -12,7 +12,7 @@ use crate::reasons::put_reasons;
 use crate::report::ColumnReport;
 use crate::warnings::put_warnings;
 use crate::words::{crs_of, crs_type_of, edges_of, state_word, type_word};
-use arrow_columns::Column;
+use arrow_columns::SchemaColumn;
 use column_check::Geometry;
 use json::{Scratch, Writer};
 use std::alloc::{AllocError, Global};
@@ -31,10 +31,10 @@ const LINE_ROOM: usize = 512;
 /// when out of memory.
 ///
 /// ```rust
-/// let column = Column {
+/// let column = SchemaColumn {
 ///     name: String::from_str(alloc, "geom")?,
 ///     nullable: false,
-///     data_type: ColumnType::Data(DataType::Int64),
+///     data_type: AnyType::Data(DataType::Int64),
 ///     metadata: BTreeMap::new(alloc),
 /// };
 /// let mut scratch = Scratch::new(alloc);
@@ -107,7 +107,7 @@ fn put_crs(
 fn put_names(
     out: &mut Writer,
     geometry: Option<&Geometry>,
-    column: &Column,
+    column: &SchemaColumn,
     file: Option<&str>,
 ) -> Result<(), AllocError>
     ensures { OnOk result (AddsMembers (names_of (text_of file.entry) (column_tree column.now) (option_map (λ g. g.now) geometry.entry)) out.old out.new) }

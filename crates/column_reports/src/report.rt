@@ -3,8 +3,8 @@ ghost use Rattle.std.specs.Prelude.{IfOk};
 ghost use Rattle.arrow_columns.specs.Column.{column_tree};
 ghost use Rattle.column_reports.specs.Columns.{IsColumnReport};
 
-use arrow_columns::Column;
-use column_check::{Finding, Warning, check_column, warnings};
+use arrow_columns::SchemaColumn;
+use column_check::{Finding, Warning, inspect_column, warnings};
 use json::Scratch;
 use std::alloc::{AllocError, Global};
 
@@ -22,8 +22,8 @@ pub struct Options {
 #[derive(Debug, Drop)]
 pub struct ColumnReport {
     /// The column itself.
-    pub column: Column,
-    /// What is said of it, as `check_column` of `column_check` answers it.
+    pub column: SchemaColumn,
+    /// What is said of it, as `inspect_column` of `column_check` answers it.
     pub finding: Finding,
     /// What is doubtful of it, as `warnings` of `column_check` answers it.
     pub warnings: Vec<Warning>,
@@ -33,10 +33,10 @@ pub struct ColumnReport {
 /// the caller from column to column. Errs only when out of memory.
 ///
 /// ```rust
-/// let column = Column {
+/// let column = SchemaColumn {
 ///     name: String::from_str(alloc, "geom")?,
 ///     nullable: false,
-///     data_type: ColumnType::Data(DataType::Binary),
+///     data_type: AnyType::Data(DataType::Binary),
 ///     metadata: BTreeMap::new(alloc),
 /// };
 /// let options = Options { infer: true, notes: false };
@@ -47,12 +47,12 @@ pub struct ColumnReport {
 pub fn report_column(
     alloc: Global,
     scratch: &mut Scratch,
-    column: Column,
+    column: SchemaColumn,
     options: Options,
 ) -> Result<ColumnReport, AllocError>
     ensures { IfOk result (IsColumnReport options (column_tree column)) }
 {
-    let finding = check_column(alloc, scratch, &column, options.infer)?;
+    let finding = inspect_column(alloc, scratch, &column, options.infer)?;
     let warnings = warnings(alloc, &column, &finding, options.notes)?;
     Ok(ColumnReport {
         column,

@@ -4,7 +4,7 @@ ghost use Rattle.arrow_values.specs.Texts.{text_of};
 ghost use Rattle.arrow_columns.specs.Column.{column_tree};
 ghost use Rattle.column_reports.specs.Report.{state_word, kind_text, edges_word, type_word, crs_of, crs_type_of, edges_of};
 
-use arrow_columns::Column;
+use arrow_columns::SchemaColumn;
 use column_check::{Finding, Geometry};
 use geoarrow_layout::{Kind, coord_type_word, dimension_word, kind_word};
 use geoarrow_meta::Edges;
@@ -51,7 +51,7 @@ fn edges_word(edges: Option<Edges>) -> &'static str
 /// type in Arrow's usual notation. Errs only when out of memory.
 pub fn type_word(
     alloc: Global,
-    column: &Column,
+    column: &SchemaColumn,
     geometry: Option<&Geometry>,
 ) -> Result<String, AllocError>
     ensures { IfOk result (λ text. string_bytes text ≡ type_word (column_tree column.now) (option_map (λ g. g.now) geometry.entry)) }

@@ -1,8 +1,8 @@
 //! Rows of Parquet footers: calls of `parquet_footer` and `parquet_columns`. A row's text is bytes in
 //! hexadecimal digits.
-use arrow_columns::Column;
+use arrow_columns::SchemaColumn;
 use arrow_ipc::IpcError;
-use parquet_columns::{ColumnsError, Fault, FileColumns, SchemaError, columns_of, read_file};
+use parquet_columns::{ColumnsError, ElementFault, FileColumns, SchemaError, columns_of, read_file};
 use parquet_footer::{
     Footer, FooterError, KeyValue, LogicalType, SchemaElement, footer_length, read_footer,
 };
@@ -158,7 +158,7 @@ fn say_answer(said: &mut Said, read: &Result<Footer<'_>, FooterError>) {
 }
 
 /// Says columns in Arrow's notation, or the rule that is broken and by which element; out of memory is no answer.
-fn say_columns(said: &mut Said, made: &Result<Vec<Column>, ColumnsError>) {
+fn say_columns(said: &mut Said, made: &Result<Vec<SchemaColumn>, ColumnsError>) {
     match made {
         Ok(columns) => {
             for (at, column) in columns.iter().enumerate() {
@@ -168,7 +168,7 @@ fn say_columns(said: &mut Said, made: &Result<Vec<Column>, ColumnsError>) {
             }
         }
         Err(ColumnsError::Broken(fault)) => {
-            let Fault { rule, at } = fault;
+            let ElementFault { rule, at } = fault;
             say!(said, "{rule:?} {at}");
         }
         Err(ColumnsError::OutOfMemory) => said.fail(),
@@ -176,7 +176,7 @@ fn say_columns(said: &mut Said, made: &Result<Vec<Column>, ColumnsError>) {
 }
 
 /// Says the columns of a file in Arrow's notation, each with the name and the metadata of its extension type behind it.
-fn say_named_columns(said: &mut Said, columns: &[Column]) {
+fn say_named_columns(said: &mut Said, columns: &[SchemaColumn]) {
     for (at, column) in columns.iter().enumerate() {
         said.push(if at > 0 { "; " } else { "" });
         let notation = column.notation(said.alloc);
@@ -222,7 +222,7 @@ fn say_fault(said: &mut Said, error: &SchemaError) {
             say!(said, "Footer {rule:?} {offset}");
         }
         SchemaError::Elements(fault) => {
-            let Fault { rule, at } = fault;
+            let ElementFault { rule, at } = fault;
             say!(said, "Elements {rule:?} {at}");
         }
         SchemaError::Ipc(IpcError::Broken(fault)) => {

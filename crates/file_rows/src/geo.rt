@@ -1,5 +1,5 @@
 //! Rows of GeoParquet metadata: calls of `geoparquet`. A row's text is the text at the key `geo`, and then lines of fields, each with ` & ` before it.
-use arrow_columns::Column;
+use arrow_columns::SchemaColumn;
 use column_files::{column_line, columns_of_lines};
 use geoparquet::{GeoFinding, check_geo, geo_columns};
 use rows::asked::Asked;
@@ -27,7 +27,7 @@ pub fn answer(it: &mut Asked<'_>) {
 }
 
 /// Says how many checks there are, and which do not hold.
-fn say_checks(it: &mut Asked<'_>, geo: &str, columns: &[Column]) {
+fn say_checks(it: &mut Asked<'_>, geo: &str, columns: &[SchemaColumn]) {
     match check_geo(it.alloc, geo, columns) {
         Ok(findings) => {
             let count = findings.len();
@@ -43,7 +43,7 @@ fn say_checks(it: &mut Asked<'_>, geo: &str, columns: &[Column]) {
 }
 
 /// Says the lines of columns, with ` & ` between them.
-fn say_columns(it: &mut Asked<'_>, made: Result<Vec<Column>, AllocError>) {
+fn say_columns(it: &mut Asked<'_>, made: Result<Vec<SchemaColumn>, AllocError>) {
     match made {
         Ok(columns) => {
             for (place, column) in columns.into_iter().enumerate() {

@@ -2,7 +2,7 @@
 use Rattle.std.proofs.Common.{◌≡◌, ℕ, List, [], String, length, map, None, Ok, Vec, Global, string_bytes, refl, subst}
 use Rattle.arrow_values.specs.View.{texts_of}
 use Rattle.arrow_columns.specs.Column.{ColumnTree, column_tree}
-use Rattle.arrow_columns.specs.declared.column.Column.{Column}
+use Rattle.arrow_columns.specs.declared.column.SchemaColumn.{SchemaColumn}
 use Rattle.arrow_ipc.specs.Schema.{SchemaTree}
 use Rattle.arrow_ipc.specs.Denotes.{IsStreamOf}
 use Rattle.arrow_ipc.specs.declared.schema.Endianness.TheVariants.{Little}
@@ -25,7 +25,7 @@ module _ (filled : Bytes) (len : ℕ) (len_is : length filled ≡ len) (Done : B
   report_gives number bytes options report lines is reports =
       record { options = options; report = report; is = is; reports = reports; len_is = subst (λ text. length text ≡ len) lines len_is; done = subst Done lines done }
 
-  pub stream_gives : (lines : Bytes) (columns : Vec Column Global) (stream : Bytes) → filled ≡ stream → AreLinesRead lines (Ok columns)
+  pub stream_gives : (lines : Bytes) (columns : Vec SchemaColumn Global) (stream : Bytes) → filled ≡ stream → AreLinesRead lines (Ok columns)
       → (entries : List (String Global × String Global)) → entries ≡ [] → IsStreamOf 61 stream (of_entries (map column_tree columns.items) entries) → StreamGives lines len Done
   stream_gives lines columns stream bytes read entries none is = record {
     columns = map column_tree columns.items;

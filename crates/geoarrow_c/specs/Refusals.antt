@@ -1,7 +1,7 @@
 -- What the check of a file means by its options, what it writes, and the numbers by which it refuses bytes.
 use Rattle.std.specs.Prelude.{◌≡◌, ℕ, ◌+◌, length, None, Ok, Err, string_bytes, if◌then◌else◌}
-use Rattle.arrow_ipc.specs.declared.fault.Rule.{Rule}
-use Rattle.arrow_ipc.specs.declared.fault.Rule.TheVariants.{Envelope, Number, Offset, Vtable, Slot, Text, Utf8, Vector, Missing, Message, Tag, Parameter, Children, TypeIds, Depth}
+use Rattle.arrow_ipc.specs.declared.fault.IpcRule.{IpcRule}
+use Rattle.arrow_ipc.specs.declared.fault.IpcRule.TheVariants.{Envelope, Number, Offset, Vtable, Slot, Text, Utf8, Vector, Missing, Message, Tag, Parameter, Children, TypeIds, Depth}
 use Rattle.arrow_ipc.specs.declared.fault.IpcError.{IpcError}
 use Rattle.arrow_ipc.specs.declared.fault.IpcError.TheVariants.{Broken, Budget, OutOfMemory as NoMemory}
 use Rattle.column_files.specs.declared.columns.FileFault.{FileFault}
@@ -18,7 +18,7 @@ abbrev pub options_number : Options → ℕ
 options_number o = (if o.infer then 1 else 0) + (if o.notes then 2 else 0)
 
 -- the number of a rule of Arrow's IPC format
-abbrev pub rule_number : Rule → ℕ
+abbrev pub rule_number : IpcRule → ℕ
 rule_number Envelope = 16
 rule_number Number = 17
 rule_number Offset = 18

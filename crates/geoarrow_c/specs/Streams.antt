@@ -3,7 +3,7 @@ use Rattle.std.specs.Prelude.{◌≡◌, ℕ, List, [], length, map, Ok, Err}
 use Rattle.std.specs.declared.vec.Vec.{Vec}
 use Rattle.std.specs.declared.alloc.Global.{Global}
 use Rattle.arrow_columns.specs.Column.{ColumnTree, column_tree}
-use Rattle.arrow_columns.specs.declared.column.Column.{Column}
+use Rattle.arrow_columns.specs.declared.column.SchemaColumn.{SchemaColumn}
 use Rattle.arrow_ipc.specs.Schema.{SchemaTree}
 use Rattle.arrow_ipc.specs.Denotes.{IsStreamOf}
 use Rattle.arrow_ipc.specs.Rooms.{schema_room}
@@ -18,7 +18,7 @@ use Rattle.geoarrow_c.specs.Refusals.{fault_number, fault_place}
 
 -- the columns that lines denote
 abbrev pub AreOf : Bytes → List ColumnTree → Type 0
-AreOf lines columns = (read : Vec Column Global) × AreLinesRead lines (Ok read) × (columns ≡ map column_tree read.items)
+AreOf lines columns = (read : Vec SchemaColumn Global) × AreLinesRead lines (Ok read) × (columns ≡ map column_tree read.items)
 
 -- the schema of columns: without metadata of its own, of the byte order of little-endian
 abbrev pub schema_of : List ColumnTree → SchemaTree

@@ -40,7 +40,7 @@ fn options_with(infer: bool, notes: bool) -> Options
 /// number where the bytes are refused, with `out` unchanged and the place in `len`: 5 for a line
 /// that is no field, with how many lines stand before it; 6 for a Parquet file whose columns are
 /// not read, with 0; 7 where more is to be read than eight times the message's bytes, and 16 to 30
-/// for the rules of Arrow's IPC format (docs/FORMAT.md, 3) in the order of `Rule`, with the byte of
+/// for the rules of Arrow's IPC format (docs/FORMAT.md, 3) in the order of `IpcRule`, with the byte of
 /// the message, or of the Arrow file; 10 where the report would have more bytes than its budget
 /// (docs/FORMAT.md, 2.5), with 0; 11 where there are no bytes, or blank lines alone, with 0.
 #[unsafe(no_mangle)]

@@ -3,30 +3,30 @@ ghost use Rattle.std.specs.Prelude.{◌≡◌, ◌≢◌, ◌⊎◌, ◌≤◌};
 ghost use Rattle.geoarrow_c.specs.Refusals.{rule_number, ipc_number, fault_number, ipc_place, fault_place};
 
 use crate::status::MEMORY;
-use arrow_ipc::{IpcError, Rule};
+use arrow_ipc::{IpcError, IpcRule};
 use column_files::FileFault;
 use parquet_columns::SchemaError;
 
 /// The number of a rule.
-fn rule_number(rule: Rule) -> u8
+fn rule_number(rule: IpcRule) -> u8
     ensures { (result ≡ rule_number rule) × (5 ≤ result) }
 {
     match rule {
-        Rule::Envelope => 16,
-        Rule::Number => 17,
-        Rule::Offset => 18,
-        Rule::Vtable => 19,
-        Rule::Slot => 20,
-        Rule::Text => 21,
-        Rule::Utf8 => 22,
-        Rule::Vector => 23,
-        Rule::Missing => 24,
-        Rule::Message => 25,
-        Rule::Tag => 26,
-        Rule::Parameter => 27,
-        Rule::Children => 28,
-        Rule::TypeIds => 29,
-        Rule::Depth => 30,
+        IpcRule::Envelope => 16,
+        IpcRule::Number => 17,
+        IpcRule::Offset => 18,
+        IpcRule::Vtable => 19,
+        IpcRule::Slot => 20,
+        IpcRule::Text => 21,
+        IpcRule::Utf8 => 22,
+        IpcRule::Vector => 23,
+        IpcRule::Missing => 24,
+        IpcRule::Message => 25,
+        IpcRule::Tag => 26,
+        IpcRule::Parameter => 27,
+        IpcRule::Children => 28,
+        IpcRule::TypeIds => 29,
+        IpcRule::Depth => 30,
     }
 }
 

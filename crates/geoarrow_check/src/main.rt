@@ -7,8 +7,8 @@ mod source;
 use crate::report::Report;
 use crate::source::{Failure, report_columns};
 use check_options::{Asked, Said, asked_by};
-use column_files::{Form, MAX_LINE_BYTES, ReadFault};
-use report_words::{long_line_text, problem_text};
+use column_files::{Form, ReadFault, fault_of, long_line};
+use column_reports::fault_text;
 use std::alloc::{AllocError, Global};
 use std::io::{ErrorKind, Write};
 use std::process::ExitCode;
@@ -41,8 +41,8 @@ fn print_report(rt: &HostRuntime, file: &str, report: &mut Report<'_>) -> io::Re
 fn problem_of(alloc: Global, form: Form, fault: ReadFault) -> Result<String, AllocError> {
     match fault {
         ReadFault::Input(error) => format!(in alloc; "{error}"),
-        ReadFault::LongLine(before) => long_line_text(alloc, before, MAX_LINE_BYTES),
-        ReadFault::File(fault) => problem_text(alloc, form, &fault),
+        ReadFault::LongLine(before) => fault_text(alloc, &long_line(before)),
+        ReadFault::File(fault) => fault_text(alloc, &fault_of(form, fault)),
     }
 }
 

@@ -1,12 +1,12 @@
 //! The report of a file, a column at a time.
 
 use crate::source::Reported;
-use arrow_columns::Column;
+use arrow_columns::SchemaColumn;
 use arrow_ipc::{Endianness, Schema, write_schema};
 use check_options::{Asked, Output};
-use column_files::{FileFault, Form, MAX_LINE_BYTES, column_line};
+use column_files::{FileFault, Form, MAX_LINE_BYTES, column_line, write_fault};
 use column_reports::{
-    ColumnReport, Options, Summary, has_failed, json_line, report_budget, report_column,
+    ColumnReport, Options, Summary, fault_text, has_failed, json_line, report_budget, report_column,
 };
 use geoparquet::GeoFinding;
 use json::Scratch;
@@ -31,7 +31,7 @@ pub(crate) struct Report<'a> {
     text: String,
     rows: Vec<Row>,
     /// The columns for `--ipc`.
-    columns: Vec<Column>,
+    columns: Vec<SchemaColumn>,
     /// What is found of each expectation.
     found: Vec<Found>,
     count: usize,
@@ -79,7 +79,7 @@ impl<'a> Report<'a> {
     }
 
     /// Adds columns.
-    pub(crate) fn add_all(&mut self, rt: &HostRuntime, columns: Vec<Column>) -> Reported {
+    pub(crate) fn add_all(&mut self, rt: &HostRuntime, columns: Vec<SchemaColumn>) -> Reported {
         for column in columns {
             self.add(rt, column)?;
         }
@@ -88,7 +88,7 @@ impl<'a> Report<'a> {
 
     /// Adds a column, and writes what is to be printed of it, but for a table, a stream, and the
     /// lines of JSON of a schema.
-    pub(crate) fn add(&mut self, rt: &HostRuntime, column: Column) -> Reported {
+    pub(crate) fn add(&mut self, rt: &HostRuntime, column: SchemaColumn) -> Reported {
         if matches!(self.form, Form::Lines) {
             self.size = 0;
         }
@@ -117,7 +117,7 @@ impl<'a> Report<'a> {
     }
 
     /// Looks at what a column is, and adds what is to be printed of it.
-    fn look_at(&mut self, alloc: Global, column: Column) -> Result<(), FileFault> {
+    fn look_at(&mut self, alloc: Global, column: SchemaColumn) -> Result<(), FileFault> {
         let flags = &self.asked.flags;
         let options = Options {
             infer: flags.infer,
@@ -255,7 +255,7 @@ impl<'a> Report<'a> {
 
     /// Writes columns as an Arrow stream of its schema alone (docs/FORMAT.md, 3.6). Where no
     /// message can hold them, it says so on standard error. Returns the status.
-    fn write_stream(&self, rt: &HostRuntime, columns: Vec<Column>) -> io::Result<u8> {
+    fn write_stream(&self, rt: &HostRuntime, columns: Vec<SchemaColumn>) -> io::Result<u8> {
         let schema = Schema {
             columns,
             metadata: BTreeMap::new(rt.alloc()),
@@ -267,7 +267,7 @@ impl<'a> Report<'a> {
                 Ok(0)
             }
             Err(error) => {
-                let words = error.to_string(rt.alloc())?;
+                let words = fault_text(rt.alloc(), &write_fault(error))?;
                 self.say(rt, words.as_str())?;
                 Ok(2)
             }

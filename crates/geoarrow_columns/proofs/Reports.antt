@@ -9,7 +9,7 @@ use Rattle.arrow_values.specs.Errors.{IsMemory}
 use Rattle.arrow_values.specs.declared.error.ArrowError.{ArrowError}
 use Rattle.arrow_values.specs.declared.error.GeoArrowError.{GeoArrowError}
 use Rattle.arrow_values.specs.declared.error.GeoArrowError.TheVariants.{Arrow as OfArrow}
-use Rattle.geoarrow_layout.specs.declared.encodings.Kind.{Kind}
+use Rattle.geoarrow_layout.specs.declared.native_kinds.Kind.{Kind}
 use Rattle.geoarrow_layout.specs.Inferred.{YieldsInferred}
 use Rattle.geoarrow_meta.specs.declared.metadata.Metadata.{Metadata}
 use Rattle.geoarrow_meta.specs.Read.{DenotesMetadata}

@@ -8,7 +8,7 @@ use Rattle.std.proofs.lemmas.List.Elements.{All-contains}
 use Rattle.std.proofs.lemmas.List.Sums.{AllPass-from_list_all}
 use Rattle.arrow_values.specs.View.{field_trees}
 use Rattle.field_lines.specs.LineForm.{FieldsHaveLineForm}
-use Rattle.geoarrow_layout.specs.declared.encodings.TheConstants.Kind.{ALL}
+use Rattle.geoarrow_layout.specs.declared.native_kinds.TheConstants.Kind.{ALL}
 use Rattle.geoarrow_layout.specs.Layouts.{coordinate, coordinate_names, leaf_layout, mixed_layout, box_names}
 use Rattle.geoarrow_fields.proofs.Terms.{depth, Text, CoordType, Interleaved, Separated, Dimension, XY, GeometryCollection, Plain, Kind, Native, OfGeometry, Rect, Wkb, Wkt, layout, type_value, HasLineForm, is_held}
 

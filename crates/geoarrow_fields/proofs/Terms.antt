@@ -5,14 +5,14 @@ pub use Rattle.serde_json.specs.Read.{max_depth, read}
 pub use Rattle.serde_json.specs.Written.{compact_text, has_float}
 pub use Rattle.arrow_values.specs.Tree.{FieldTree, Metadata as Texts, Text, Tree}
 pub use Rattle.arrow_values.specs.Texts.{extension_metadata, extension_name, metadata_key, name_key, put_text, remove_text, set_extension, text_at}
-pub use Rattle.geoarrow_layout.specs.declared.kinds.CoordType.{CoordType}
-pub use Rattle.geoarrow_layout.specs.declared.kinds.CoordType.TheVariants.{Interleaved, Separated}
-pub use Rattle.geoarrow_layout.specs.declared.kinds.Dimension.{Dimension}
-pub use Rattle.geoarrow_layout.specs.declared.kinds.Dimension.TheVariants.{XY}
-pub use Rattle.geoarrow_layout.specs.declared.encodings.NativeKind.TheVariants.{GeometryCollection}
-pub use Rattle.geoarrow_layout.specs.declared.encodings.Width.TheVariants.{Plain}
-pub use Rattle.geoarrow_layout.specs.declared.encodings.Kind.{Kind}
-pub use Rattle.geoarrow_layout.specs.declared.encodings.Kind.TheVariants.{Geometry as OfGeometry, Native, Rect, Wkb, Wkt}
+pub use Rattle.geoarrow_layout.specs.declared.dimensions.CoordType.{CoordType}
+pub use Rattle.geoarrow_layout.specs.declared.dimensions.CoordType.TheVariants.{Interleaved, Separated}
+pub use Rattle.geoarrow_layout.specs.declared.dimensions.Dimension.{Dimension}
+pub use Rattle.geoarrow_layout.specs.declared.dimensions.Dimension.TheVariants.{XY}
+pub use Rattle.geoarrow_layout.specs.declared.native_kinds.NativeKind.TheVariants.{GeometryCollection}
+pub use Rattle.geoarrow_layout.specs.declared.native_kinds.Width.TheVariants.{Plain}
+pub use Rattle.geoarrow_layout.specs.declared.native_kinds.Kind.{Kind}
+pub use Rattle.geoarrow_layout.specs.declared.native_kinds.Kind.TheVariants.{Geometry as OfGeometry, Native, Rect, Wkb, Wkt}
 pub use Rattle.geoarrow_layout.specs.Kinds.{coord_type_of, dimension_of, extension_of, name_of}
 pub use Rattle.geoarrow_layout.specs.KindWords.{coord_type_word, dimension_word, kind_word}
 pub use Rattle.geoarrow_layout.specs.Layouts.{layout}

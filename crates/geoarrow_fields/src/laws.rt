@@ -1,7 +1,7 @@
 //! Laws of the answers: functions with nothing to run, whose contract is the law.
 ghost use Rattle.std.specs.Prelude.{◌≡◌, List, length, Some};
 ghost use Rattle.arrow_values.specs.Tree.{FieldTree};
-ghost use Rattle.geoarrow_layout.specs.declared.encodings.Kind.{Kind};
+ghost use Rattle.geoarrow_layout.specs.declared.native_kinds.Kind.{Kind};
 ghost use Rattle.geoarrow_layout.specs.Layouts.{layout};
 ghost use Rattle.geoarrow_meta.specs.Written.{NestsWithin};
 ghost use Rattle.geoarrow_schema.specs.declared.types.GeoArrowType.{GeoArrowType};

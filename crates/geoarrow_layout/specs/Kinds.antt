@@ -2,7 +2,7 @@
 use Rattle.std.specs.Prelude.{◌+◌, ◌≡◌, ◌⊎◌, ◌*◌, ◌++◌, ◌∷◌}
 use Rattle.geoarrow_layout.specs.Words.{Text, ℕ, List, [], Option, Some, None, codes, string_bytes, decimal, Bool, cond, nat_eq, bytes_eq, Dimensions, GeoArrowError, InvalidGeoArrow, CoordType, Separated, Dimension, NativeKind, Point, LineString, Polygon, MultiPoint, MultiLineString, MultiPolygon, GeometryCollection, ExtensionName, Candidates, Kind, Native, Geometry, Rect, Wkb, Wkt}
 use Rattle.arrow_values.specs.declared.coordinates.Dimensions.TheVariants.{Xy, Xyz, Xym, Xyzm, Unknown}
-use Rattle.geoarrow_layout.specs.declared.kinds.Dimension.TheVariants.{XY, XYZ, XYM, XYZM}
+use Rattle.geoarrow_layout.specs.declared.dimensions.Dimension.TheVariants.{XY, XYZ, XYM, XYZM}
 use Rattle.geoarrow_layout.specs.declared.names.Candidates.TheVariants as candidates
 use Rattle.geoarrow_layout.specs.declared.names.ExtensionName.TheVariants as names
 

@@ -8,18 +8,18 @@ pub use Rattle.arrow_values.specs.declared.error.GeoArrowError.{GeoArrowError}
 pub use Rattle.arrow_values.specs.declared.error.GeoArrowError.TheVariants.{InvalidGeoArrow}
 pub use Rattle.arrow_values.specs.declared.tree.UnionMode.{UnionMode}
 pub use Rattle.arrow_values.specs.declared.tree.UnionMode.TheVariants.{Dense}
-pub use Rattle.geoarrow_layout.specs.declared.encodings.Kind.{Kind}
-pub use Rattle.geoarrow_layout.specs.declared.encodings.Kind.TheVariants.{Geometry, Geometry as OfGeometry, Native, Native as OfNative, Rect, Rect as OfRect, Wkb, Wkb as OfWkb, Wkt, Wkt as OfWkt}
-pub use Rattle.geoarrow_layout.specs.declared.encodings.NativeKind.{NativeKind}
-pub use Rattle.geoarrow_layout.specs.declared.encodings.NativeKind.TheVariants.{GeometryCollection, LineString, MultiLineString, MultiPoint, MultiPolygon, Point, Polygon}
-pub use Rattle.geoarrow_layout.specs.declared.encodings.Width.{Width}
-pub use Rattle.geoarrow_layout.specs.declared.encodings.Width.TheVariants.{Large, Plain, View}
+pub use Rattle.geoarrow_layout.specs.declared.native_kinds.Kind.{Kind}
+pub use Rattle.geoarrow_layout.specs.declared.native_kinds.Kind.TheVariants.{Geometry, Geometry as OfGeometry, Native, Native as OfNative, Rect, Rect as OfRect, Wkb, Wkb as OfWkb, Wkt, Wkt as OfWkt}
+pub use Rattle.geoarrow_layout.specs.declared.native_kinds.NativeKind.{NativeKind}
+pub use Rattle.geoarrow_layout.specs.declared.native_kinds.NativeKind.TheVariants.{GeometryCollection, LineString, MultiLineString, MultiPoint, MultiPolygon, Point, Polygon}
+pub use Rattle.geoarrow_layout.specs.declared.native_kinds.Width.{Width}
+pub use Rattle.geoarrow_layout.specs.declared.native_kinds.Width.TheVariants.{Large, Plain, View}
 pub use Rattle.geoarrow_layout.specs.declared.fault.LayoutFault.{LayoutFault}
 pub use Rattle.geoarrow_layout.specs.declared.fault.LayoutFault.TheVariants.{BadFieldCount, BadFieldNames, BadInterleavedName, BadSize, BadTypeId, EmptyUnion, MemberDimension, MixedWidths, SeveralCoordTypes, SeveralDimensions, UnexpectedType}
-pub use Rattle.geoarrow_layout.specs.declared.kinds.CoordType.{CoordType}
-pub use Rattle.geoarrow_layout.specs.declared.kinds.CoordType.TheVariants.{Interleaved, Separated}
-pub use Rattle.geoarrow_layout.specs.declared.kinds.Dimension.{Dimension}
-pub use Rattle.geoarrow_layout.specs.declared.kinds.Dimension.TheVariants.{XY, XYM, XYZ}
+pub use Rattle.geoarrow_layout.specs.declared.dimensions.CoordType.{CoordType}
+pub use Rattle.geoarrow_layout.specs.declared.dimensions.CoordType.TheVariants.{Interleaved, Separated}
+pub use Rattle.geoarrow_layout.specs.declared.dimensions.Dimension.{Dimension}
+pub use Rattle.geoarrow_layout.specs.declared.dimensions.Dimension.TheVariants.{XY, XYM, XYZ}
 pub use Rattle.geoarrow_layout.specs.declared.names.Candidates.{Candidates}
 pub use Rattle.geoarrow_layout.specs.declared.names.ExtensionName.{ExtensionName}
 pub use Rattle.geoarrow_layout.specs.declared.summary.Bottom.{Bottom}

@@ -1,7 +1,7 @@
 //! Which kind is inferred from a data type, without an extension name.
 ghost use Rattle.geoarrow_layout.specs.Cited.{YieldsInferred, tree};
 
-use crate::encodings::{Kind, NativeKind};
+use crate::native_kinds::{Kind, NativeKind};
 use crate::read::{infer_point, parse_wkb, parse_wkt};
 use arrow_values::DataType;
 

@@ -2,7 +2,7 @@
 ghost use Rattle.std.specs.Prelude.{◌≡◌, ◌≢◌, ◌↔◌, ◌⊎◌};
 ghost use Rattle.geoarrow_layout.specs.Cited.{Some, ExtensionName, Text, Tree, IsAccepted, Share, name_text};
 
-use crate::encodings::NativeKind;
+use crate::native_kinds::NativeKind;
 
 /// The extension names of columns of geometries, at a field's `ARROW:extension:name` (GeoArrow, "Extension types").
 ///

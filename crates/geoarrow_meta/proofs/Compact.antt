@@ -5,7 +5,7 @@ use Rattle.json.specs.Print.{print}
 use Rattle.json.proofs.Printed.Tokens.{tokens-print}
 use Rattle.serde_json.specs.Data.{Data}
 use Rattle.value_tokens.specs.Next.{next_value}
-use Rattle.geoarrow_meta.specs.CrsText.{IsJson, is_projjson}
+use Rattle.geoarrow_meta.specs.CrsText.{IsJson, is_projjson_text}
 use Rattle.geoarrow_meta.specs.Compact.{compact_projjson}
 use Rattle.geoarrow_meta.proofs.Printable.{printable}
 use Rattle.geoarrow_meta.proofs.Objects.{is_json}
@@ -15,7 +15,7 @@ pub record IsSameJson (s text : List ℕ) : Type 0 where
   pub tokens_same : tokens text ≡ tokens s
   pub value : (d : Data) × IsJson text d
 
-compact_by : (s text : List ℕ) (b : Bool) → is_projjson s ≡ b → (if b then Some (print (tokens s)) else None) ≡ Some text → IsSameJson s text
+compact_by : (s text : List ℕ) (b : Bool) → is_projjson_text s ≡ b → (if b then Some (print (tokens s)) else None) ≡ Some text → IsSameJson s text
 compact_by s text false not e = absurd (cc)
 compact_by s text true is e =
     let json = is_json (next_value 126 (tokens s)) is in
@@ -24,4 +24,4 @@ compact_by s text true is e =
     record { tokens_same = same; value = (json.0, ap (next_value 126) same ∙ json.1) }
 
 pub compact_is_same : (s text : List ℕ) → compact_projjson s ≡ Some text → IsSameJson s text
-compact_is_same s text e = compact_by s text (is_projjson s) refl e
+compact_is_same s text e = compact_by s text (is_projjson_text s) refl e

@@ -22,8 +22,8 @@ is_object_alone (Some (d, t ∷ ts)) = false
 abbrev pub is_alone_object : List Token → Bool
 is_alone_object ts = is_object_alone (next_value 126 ts)
 
-abbrev pub is_projjson : Bytes → Bool
-is_projjson s = is_alone_object (tokens s)
+abbrev pub is_projjson_text : Bytes → Bool
+is_projjson_text s = is_alone_object (tokens s)
 
 -- the JSON value of a CRS that is written so
 abbrev pub IsCrs : WrittenCrs → Data → Type 0

@@ -9,7 +9,7 @@ ghost use Rattle.geoarrow_meta.specs.CrsValue.{IsCrsValue};
 mod crs_type;
 mod value;
 
-use crate::walks::{holds_whole_numbers, same_value};
+use crate::json_values::{holds_whole_numbers, same_value};
 pub use crs_type::CrsType;
 use serde_json::Value;
 use std::alloc::{AllocError, Global};

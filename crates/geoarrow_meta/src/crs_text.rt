@@ -2,7 +2,7 @@
 ghost use Rattle.std.specs.Prelude.{◌≡◌, ◌∷◌, IfOk, IsTrue};
 ghost use Rattle.json.specs.Token.{begin_object};
 ghost use Rattle.serde_json.specs.Data.{Data};
-ghost use Rattle.geoarrow_meta.specs.CrsText.{IsJson, is_alone_object, is_projjson};
+ghost use Rattle.geoarrow_meta.specs.CrsText.{IsJson, is_alone_object, is_projjson_text};
 
 use json::{Reader, Scratch, Token};
 use std::alloc::{AllocError, Global};
@@ -23,11 +23,11 @@ pub enum WrittenCrs<'a> {
 /// metadata, which `serde_json` reads to 127 levels. Errs only when out of memory.
 ///
 /// ```rust
-/// assert!(rt; is_projjson(alloc, r#"{"type": "GeographicCRS"}"#)?);
-/// assert!(rt; !is_projjson(alloc, "EPSG:4326")?);
+/// assert!(rt; is_projjson_text(alloc, r#"{"type": "GeographicCRS"}"#)?);
+/// assert!(rt; !is_projjson_text(alloc, "EPSG:4326")?);
 /// ```
-pub fn is_projjson(alloc: Global, text: &str) -> Result<bool, AllocError>
-    ensures exact { IfOk result (λ answer. answer ≡ is_projjson text.now) }
+pub fn is_projjson_text(alloc: Global, text: &str) -> Result<bool, AllocError>
+    ensures exact { IfOk result (λ answer. answer ≡ is_projjson_text text.now) }
     ensures json { IfOk result (λ answer. IsTrue answer → (d : Data) × IsJson text.now d) }
 {
     let mut scratch = Scratch::new(alloc);

@@ -11,12 +11,12 @@ pub mod laws;
 mod metadata;
 mod text;
 mod transform;
-mod walks;
+mod json_values;
 
 pub use crs::{Crs, CrsType};
-pub use crs_text::{WrittenCrs, is_projjson};
+pub use crs_text::{WrittenCrs, is_projjson_text};
 pub use edges::Edges;
 pub use metadata::{KeyValues, Metadata, read_values};
 pub use text::{compact_projjson, metadata_text};
 pub use transform::{CrsTransform, DefaultCrsTransform};
-pub use walks::holds_whole_numbers;
+pub use json_values::holds_whole_numbers;

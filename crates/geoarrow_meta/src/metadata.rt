@@ -24,7 +24,7 @@ mod write;
 use crate::crs::{Crs, CrsValue};
 use crate::edges::Edges;
 use crate::error::{crs_fault, external_fault, into_external, unread};
-use crate::walks::holds_whole_numbers;
+use crate::json_values::holds_whole_numbers;
 use arrow_values::{ArrowError, Field, GeoArrowResult};
 use json::Writer;
 pub use key_values::KeyValues;

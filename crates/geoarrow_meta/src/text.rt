@@ -9,7 +9,7 @@ ghost use Rattle.geoarrow_meta.specs.CrsText.{IsCrs, IsJson};
 ghost use Rattle.geoarrow_meta.specs.Compact.{compact_projjson};
 ghost use Rattle.geoarrow_meta.specs.MetadataText.{crs_tokens, string_tokens, metadata_tokens, metadata_data};
 
-use crate::crs_text::{WrittenCrs, is_projjson};
+use crate::crs_text::{WrittenCrs, is_projjson_text};
 use crate::{CrsType, Edges};
 use json::{Reader, Scratch, Token, Writer};
 use std::alloc::{AllocError, Global};
@@ -40,7 +40,7 @@ pub fn metadata_text(
     Ok(text_of(out))
 }
 
-/// Returns the text of a PROJJSON, a JSON object as `is_projjson` has it, without blanks: its tokens
+/// Returns the text of a PROJJSON, a JSON object as `is_projjson_text` has it, without blanks: its tokens
 /// are those of the text, so each number stays as it is written. Returns `None` where the text is no
 /// PROJJSON. Errs only when out of memory.
 ///
@@ -51,7 +51,7 @@ pub fn metadata_text(
 pub fn compact_projjson(alloc: Global, text: &str) -> Result<Option<String>, AllocError>
     ensures { IfOk result (λ found. option_map string_bytes found ≡ compact_projjson text.now) }
 {
-    if !is_projjson(alloc, text)? {
+    if !is_projjson_text(alloc, text)? {
         return Ok(None);
     }
     Ok(Some(json_text(alloc, text)?))

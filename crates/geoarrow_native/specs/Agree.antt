@@ -1,8 +1,8 @@
 -- The numbers of kinds in type ids; that encodings of one coordinate type and one dimension are the same.
 use Rattle.std.specs.Prelude.{◌≡◌, ℤ, pos, ◌≤ℤ◌}
 use Rattle.std.proofs.Common.{◌∙◌, ap, arith}
-use Rattle.geoarrow_layout.specs.declared.encodings.NativeKind.{NativeKind}
-use Rattle.geoarrow_layout.specs.declared.encodings.NativeKind.TheVariants.{Point}
+use Rattle.geoarrow_layout.specs.declared.native_kinds.NativeKind.{NativeKind}
+use Rattle.geoarrow_layout.specs.declared.native_kinds.NativeKind.TheVariants.{Point}
 use Rattle.geoarrow_layout.specs.Kinds.{offset_of}
 use Rattle.geoarrow_native.specs.declared.boxes.Rect.{Rect}
 use Rattle.geoarrow_native.specs.declared.geometry.Geometry.{Geometry}

@@ -4,7 +4,7 @@ use Rattle.arrow_values.specs.Tree.{Text, Tree, FieldTree, field_tree}
 use Rattle.arrow_values.specs.Texts.{extension_name, extension_metadata, set_extension}
 use Rattle.arrow_values.specs.Errors.{is_schema}
 use Rattle.arrow_values.specs.declared.error.ArrowError.{ArrowError}
-use Rattle.geoarrow_layout.specs.declared.encodings.Kind.{Kind}
+use Rattle.geoarrow_layout.specs.declared.native_kinds.Kind.{Kind}
 use Rattle.geoarrow_layout.specs.declared.fault.LayoutFault.{LayoutFault}
 use Rattle.geoarrow_layout.specs.declared.names.ExtensionName.{ExtensionName}
 use Rattle.geoarrow_layout.specs.Faults.{IsErrorOfFault}

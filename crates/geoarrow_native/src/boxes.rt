@@ -1,6 +1,6 @@
 //! The encoding of boxes.
 ghost use Rattle.std.specs.Prelude.{◌≡◌};
-ghost use Rattle.geoarrow_layout.specs.declared.encodings.Kind.TheVariants as kinds;
+ghost use Rattle.geoarrow_layout.specs.declared.native_kinds.Kind.TheVariants as kinds;
 ghost use Rattle.geoarrow_layout.specs.declared.names.ExtensionName.TheVariants as names;
 ghost use Rattle.geoarrow_layout.specs.Cited.{BoxShape, box_shape_same};
 ghost use Rattle.geoarrow_native.specs.Agree.{same_box};

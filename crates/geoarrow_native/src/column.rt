@@ -1,7 +1,7 @@
 //! The type of a column, written once for all encodings.
 ghost use Rattle.std.proofs.Common.{◌≡◌, ◌⊎◌, ◌↔◌, None, IfOk, IfErr, MatchResult, refl, sym, subst};
 ghost use Rattle.std.specs.Arc.{arc_value};
-ghost use Rattle.geoarrow_layout.specs.declared.encodings.Kind.{Kind};
+ghost use Rattle.geoarrow_layout.specs.declared.native_kinds.Kind.{Kind};
 ghost use Rattle.geoarrow_layout.specs.declared.names.ExtensionName.{ExtensionName};
 ghost use Rattle.geoarrow_layout.specs.Cited.{IsMemory, Tree, layout, name_text as text_of, tree};
 ghost use Rattle.geoarrow_meta.specs.declared.metadata.Metadata.{Metadata as MetadataValue};

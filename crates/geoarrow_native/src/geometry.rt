@@ -1,9 +1,9 @@
 //! The encoding of geometries of any kind and dimension.
 ghost use Rattle.std.specs.Prelude.{◌≡◌, IfOk};
 ghost use Rattle.std.specs.Arc.{arc_value};
-ghost use Rattle.geoarrow_layout.specs.declared.kinds.CoordType.TheVariants.{Separated};
+ghost use Rattle.geoarrow_layout.specs.declared.dimensions.CoordType.TheVariants.{Separated};
 ghost use Rattle.geoarrow_meta.specs.Read.{empty};
-ghost use Rattle.geoarrow_layout.specs.declared.encodings.Kind.TheVariants as kinds;
+ghost use Rattle.geoarrow_layout.specs.declared.native_kinds.Kind.TheVariants as kinds;
 ghost use Rattle.geoarrow_layout.specs.declared.names.ExtensionName.TheVariants as names;
 ghost use Rattle.geoarrow_layout.specs.Cited.{Geometry as IsOfGeometry, geometry_same};
 ghost use Rattle.geoarrow_native.specs.Agree.{same_geometry};

@@ -1,8 +1,8 @@
 //! Laws of columns, for the crates above: functions with nothing to run, whose contract is the law.
 ghost use Rattle.std.specs.Arc.{arc_value};
 ghost use Rattle.std.specs.Prelude.{◌≡◌, ◌↔◌, Bool, IsTrue, pos};
-ghost use Rattle.geoarrow_layout.specs.declared.encodings.Kind.{Kind};
-ghost use Rattle.geoarrow_layout.specs.declared.encodings.NativeKind.TheVariants as kinds;
+ghost use Rattle.geoarrow_layout.specs.declared.native_kinds.Kind.{Kind};
+ghost use Rattle.geoarrow_layout.specs.declared.native_kinds.NativeKind.TheVariants as kinds;
 ghost use Rattle.geoarrow_layout.specs.declared.names.ExtensionName.TheVariants as names;
 ghost use Rattle.geoarrow_layout.specs.Cited.{Text, name_text, type_id_of};
 ghost use Rattle.geoarrow_meta.specs.declared.metadata.Metadata.{Metadata};

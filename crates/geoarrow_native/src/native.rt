@@ -1,7 +1,7 @@
 //! The native encoding, written once for all shapes.
 ghost use Rattle.std.specs.Prelude.{◌≡◌};
-ghost use Rattle.geoarrow_layout.specs.declared.kinds.CoordType.TheVariants.{Separated};
-ghost use Rattle.geoarrow_layout.specs.declared.encodings.Kind.TheVariants as kinds;
+ghost use Rattle.geoarrow_layout.specs.declared.dimensions.CoordType.TheVariants.{Separated};
+ghost use Rattle.geoarrow_layout.specs.declared.native_kinds.Kind.TheVariants as kinds;
 ghost use Rattle.geoarrow_layout.specs.declared.names.ExtensionName.TheVariants as names;
 ghost use Rattle.geoarrow_layout.specs.Cited.{Native as IsOfKind, any_native_same};
 ghost use Rattle.geoarrow_native.specs.Agree.{same_native};

@@ -1,7 +1,7 @@
 //! The serialized encodings, written once for well-known binary and text.
 ghost use Rattle.std.specs.Prelude.{◌≡◌, IfOk, IfErr, refl};
 ghost use Rattle.std.specs.Arc.{arc_value};
-ghost use Rattle.geoarrow_layout.specs.declared.encodings.Width.{Width};
+ghost use Rattle.geoarrow_layout.specs.declared.native_kinds.Width.{Width};
 ghost use Rattle.geoarrow_layout.specs.declared.names.ExtensionName.{ExtensionName};
 ghost use Rattle.geoarrow_layout.specs.declared.names.ExtensionName.TheVariants as names;
 ghost use Rattle.geoarrow_layout.specs.Cited.{FaultAt, HasFault, IsBytes, IsText, Tree, YieldsOne, name_text, tree};

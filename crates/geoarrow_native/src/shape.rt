@@ -1,7 +1,7 @@
 //! What differs between the native types.
 ghost use Rattle.std.specs.Prelude.{◌≡◌, ℤ, pos, refl};
-ghost use Rattle.geoarrow_layout.specs.declared.encodings.NativeKind.{NativeKind};
-ghost use Rattle.geoarrow_layout.specs.declared.encodings.NativeKind.TheVariants as kinds;
+ghost use Rattle.geoarrow_layout.specs.declared.native_kinds.NativeKind.{NativeKind};
+ghost use Rattle.geoarrow_layout.specs.declared.native_kinds.NativeKind.TheVariants as kinds;
 ghost use Rattle.geoarrow_layout.specs.declared.names.ExtensionName.TheVariants as names;
 ghost use Rattle.geoarrow_layout.specs.Kinds.{name_text, offset_of};
 

@@ -1,6 +1,6 @@
 //! The id of a type among the members of a union.
 ghost use Rattle.std.specs.Prelude.{◌≡◌, ℤ, pos, ◌≤ℤ◌, ◌+ℤ◌, ◌*◌};
-ghost use Rattle.geoarrow_layout.specs.declared.kinds.Dimension.{Dimension};
+ghost use Rattle.geoarrow_layout.specs.declared.dimensions.Dimension.{Dimension};
 ghost use Rattle.geoarrow_layout.specs.Kinds.{order_of};
 ghost use Rattle.geoarrow_native.specs.Agree.{within_at};
 

@@ -3,8 +3,8 @@ use Rattle.geoarrow_schema.proofs.Terms.{◌≡◌, ◌∙◌, refl, sym, subst,
 use Rattle.geoarrow_schema.proofs.Terms.{DenotesMetadata, empty, GeoArrowType, kind_of, meta_of, InfersAs, Infers, InferredAs, IsInferable, IsBareColumn}
 use Rattle.std.proofs.lemmas.Bool.{false≢true}
 use Rattle.std.proofs.lemmas.Slice.Eq.{bytes_eq-Decides}
-use Rattle.geoarrow_layout.specs.declared.kinds.CoordType.TheVariants.{Interleaved, Separated}
-use Rattle.geoarrow_layout.specs.declared.kinds.Dimension.TheVariants.{XYZ, XYM}
+use Rattle.geoarrow_layout.specs.declared.dimensions.CoordType.TheVariants.{Interleaved, Separated}
+use Rattle.geoarrow_layout.specs.declared.dimensions.Dimension.TheVariants.{XYZ, XYM}
 use Rattle.geoarrow_layout.specs.Shapes.{SameNames}
 
 leaf_inferred : (c : CoordType) (d : Dimension) → Inferred (leaf_layout c d) c d

@@ -5,7 +5,7 @@ use Rattle.geoarrow_schema.proofs.Terms.{TextRefusedAs, Arc, Global, ReadsAs, Ge
 use Rattle.geoarrow_schema.proofs.Terms.{HasWrongStorage, ColumnRefusedAs, IsRefusedBy, IsTypeRefusal, InfersAs, ReadsOrInfersAlone}
 use Rattle.geoarrow_layout.specs.declared.names.ExtensionName.{ExtensionName}
 use Rattle.geoarrow_layout.specs.declared.names.ExtensionName.TheVariants.{Wkb, Wkt}
-use Rattle.geoarrow_layout.specs.declared.encodings.Kind.TheVariants as kinds
+use Rattle.geoarrow_layout.specs.declared.native_kinds.Kind.TheVariants as kinds
 
 -- a field that is read has a GeoArrow name
 pub read_has_name : (f : FieldTree) (k : Kind) (m : Metadata) → ReadsAs f k m → HasGeoArrowName f

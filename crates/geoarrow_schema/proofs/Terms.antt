@@ -9,13 +9,13 @@ pub use Rattle.arrow_values.specs.Errors.{IsMemory, IsGeoMemory, IsInvalidOf}
 pub use Rattle.arrow_values.specs.declared.error.ArrowError.{ArrowError}
 pub use Rattle.arrow_values.specs.declared.error.GeoArrowError.{GeoArrowError}
 pub use Rattle.arrow_values.specs.declared.error.GeoArrowError.TheVariants.{Arrow, InvalidGeoArrow}
-pub use Rattle.geoarrow_layout.specs.declared.encodings.Width.{Width}
-pub use Rattle.geoarrow_layout.specs.declared.encodings.Kind.{Kind}
+pub use Rattle.geoarrow_layout.specs.declared.native_kinds.Width.{Width}
+pub use Rattle.geoarrow_layout.specs.declared.native_kinds.Kind.{Kind}
 pub use Rattle.geoarrow_layout.specs.Cited.{name_text, extension_of, name_of, Accepts, Accepted, IsBytes, IsText, Inferred, InferredAs, YieldsInferred, layout, leaf_layout, Text, Tree, FieldTree, plain, list, large_list, fixed_size_list, struct}
-pub use Rattle.geoarrow_layout.specs.declared.kinds.CoordType.{CoordType}
-pub use Rattle.geoarrow_layout.specs.declared.kinds.Dimension.{Dimension}
-pub use Rattle.geoarrow_layout.specs.declared.encodings.NativeKind.TheVariants.{Point}
-pub use Rattle.geoarrow_layout.specs.declared.encodings.Kind.TheVariants.{Native}
+pub use Rattle.geoarrow_layout.specs.declared.dimensions.CoordType.{CoordType}
+pub use Rattle.geoarrow_layout.specs.declared.dimensions.Dimension.{Dimension}
+pub use Rattle.geoarrow_layout.specs.declared.native_kinds.NativeKind.TheVariants.{Point}
+pub use Rattle.geoarrow_layout.specs.declared.native_kinds.Kind.TheVariants.{Native}
 pub use Rattle.geoarrow_meta.specs.declared.metadata.Metadata.{Metadata}
 pub use Rattle.geoarrow_meta.specs.Read.{DenotesMetadata, TextRefusedAs, empty}
 unfoldable pub use Rattle.geoarrow_native.specs.Column.{ReadsAs}

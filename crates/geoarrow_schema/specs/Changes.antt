@@ -1,8 +1,8 @@
 -- Kinds with another coordinate type or dimension.
-use Rattle.geoarrow_layout.specs.declared.kinds.CoordType.{CoordType}
-use Rattle.geoarrow_layout.specs.declared.kinds.Dimension.{Dimension}
-use Rattle.geoarrow_layout.specs.declared.encodings.Kind.{Kind}
-use Rattle.geoarrow_layout.specs.declared.encodings.Kind.TheVariants.{Native, Geometry, Rect}
+use Rattle.geoarrow_layout.specs.declared.dimensions.CoordType.{CoordType}
+use Rattle.geoarrow_layout.specs.declared.dimensions.Dimension.{Dimension}
+use Rattle.geoarrow_layout.specs.declared.native_kinds.Kind.{Kind}
+use Rattle.geoarrow_layout.specs.declared.native_kinds.Kind.TheVariants.{Native, Geometry, Rect}
 
 -- a native kind and geometries of any kind have a coordinate type to change
 abbrev pub with_coord_type : CoordType → Kind → Kind

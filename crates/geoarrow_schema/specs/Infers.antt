@@ -5,9 +5,9 @@ use Rattle.arrow_values.specs.Texts.{extension_name, extension_metadata}
 use Rattle.arrow_values.specs.Errors.{IsGeoMemory}
 use Rattle.arrow_values.specs.declared.error.GeoArrowError.{GeoArrowError}
 use Rattle.arrow_values.specs.declared.error.GeoArrowError.TheVariants.{Arrow, InvalidGeoArrow}
-use Rattle.geoarrow_layout.specs.declared.encodings.NativeKind.TheVariants.{Point}
-use Rattle.geoarrow_layout.specs.declared.encodings.Kind.{Kind}
-use Rattle.geoarrow_layout.specs.declared.encodings.Kind.TheVariants.{Native, Wkb, Wkt}
+use Rattle.geoarrow_layout.specs.declared.native_kinds.NativeKind.TheVariants.{Point}
+use Rattle.geoarrow_layout.specs.declared.native_kinds.Kind.{Kind}
+use Rattle.geoarrow_layout.specs.declared.native_kinds.Kind.TheVariants.{Native, Wkb, Wkt}
 use Rattle.geoarrow_layout.specs.Inferred.{InferredAs, is_float64, are_float64}
 use Rattle.geoarrow_layout.specs.Layouts.{layout}
 use Rattle.geoarrow_meta.specs.declared.metadata.Metadata.{Metadata}

@@ -3,10 +3,10 @@ use Rattle.std.specs.Prelude.{◌≡◌}
 use Rattle.std.specs.Arc.{arc_value, arc_with_value}
 use Rattle.std.specs.declared.sync.Arc.{Arc}
 use Rattle.std.specs.declared.alloc.Global.{Global}
-use Rattle.geoarrow_layout.specs.declared.encodings.NativeKind.TheVariants as natives
-use Rattle.geoarrow_layout.specs.declared.encodings.Width.TheVariants as widths
-use Rattle.geoarrow_layout.specs.declared.encodings.Kind.{Kind}
-use Rattle.geoarrow_layout.specs.declared.encodings.Kind.TheVariants as kinds
+use Rattle.geoarrow_layout.specs.declared.native_kinds.NativeKind.TheVariants as natives
+use Rattle.geoarrow_layout.specs.declared.native_kinds.Width.TheVariants as widths
+use Rattle.geoarrow_layout.specs.declared.native_kinds.Kind.{Kind}
+use Rattle.geoarrow_layout.specs.declared.native_kinds.Kind.TheVariants as kinds
 use Rattle.geoarrow_meta.specs.declared.metadata.Metadata.{Metadata}
 use Rattle.geoarrow_schema.specs.declared.types.GeoArrowType.{GeoArrowType}
 use Rattle.geoarrow_schema.specs.declared.types.GeoArrowType.TheVariants.{Point, LineString, Polygon, MultiPoint, MultiLineString, MultiPolygon, GeometryCollection, Rect, Geometry, Wkb, LargeWkb, WkbView, Wkt, LargeWkt, WktView}

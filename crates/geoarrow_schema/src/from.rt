@@ -1,6 +1,6 @@
 //! Each type as a `GeoArrowType`.
 ghost use Rattle.std.specs.Prelude.{◌≡◌};
-ghost use Rattle.geoarrow_layout.specs.declared.encodings.Kind.TheVariants.{Native as OfNative};
+ghost use Rattle.geoarrow_layout.specs.declared.native_kinds.Kind.TheVariants.{Native as OfNative};
 ghost use Rattle.geoarrow_schema.specs.declared.types.GeoArrowType.TheVariants as types;
 ghost use Rattle.geoarrow_schema.specs.Types.{kind_of, metadata_of};
 

@@ -2,7 +2,7 @@
 ghost use Rattle.std.specs.Prelude.{◌≡◌, ◌⊎◌, Some, IfOk};
 ghost use Rattle.arrow_values.specs.Texts.{extension_name};
 ghost use Rattle.geoarrow_layout.specs.Cited.{InferredAs, IsGeoMemory, tree};
-ghost use Rattle.geoarrow_layout.specs.declared.encodings.Kind.{Kind};
+ghost use Rattle.geoarrow_layout.specs.declared.native_kinds.Kind.{Kind};
 ghost use Rattle.geoarrow_schema.specs.Reads.{HasGeoArrowName};
 ghost use Rattle.geoarrow_schema.specs.Infers.{ReadsOrInfersAlone, InfersNone, uninferred_text, UninferredAs, IsInference};
 

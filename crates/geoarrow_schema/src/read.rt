@@ -2,7 +2,7 @@
 ghost use Rattle.std.specs.Prelude.{◌≡◌, Some, IfOk, IfErr, IfSome};
 ghost use Rattle.arrow_values.specs.Texts.{text_of, extension_name, extension_metadata};
 ghost use Rattle.geoarrow_layout.specs.declared.names.ExtensionName.{ExtensionName};
-ghost use Rattle.geoarrow_layout.specs.declared.encodings.Kind.{Kind};
+ghost use Rattle.geoarrow_layout.specs.declared.native_kinds.Kind.{Kind};
 ghost use Rattle.geoarrow_layout.specs.Cited.{Accepts, FaultAt, HasFault, Text, name_text};
 ghost use Rattle.geoarrow_schema.specs.Reads.{HasName, Reads, ReadsAlone, IsRefusedBy, IsReading, IsTypeReading};
 ghost use Rattle.geoarrow_schema.specs.Infers.{ReadsOrInfersAlone};

@@ -2,7 +2,7 @@
 ghost use Rattle.std.specs.Prelude.{◌≡◌, IfOk};
 ghost use Rattle.geoarrow_schema.specs.Types.{kind_of, metadata_of, meta_of};
 ghost use Rattle.geoarrow_schema.specs.Changes.{with_coord_type, with_dimension};
-ghost use Rattle.geoarrow_layout.specs.declared.encodings.Kind.TheVariants.{Native as OfNative};
+ghost use Rattle.geoarrow_layout.specs.declared.native_kinds.Kind.TheVariants.{Native as OfNative};
 ghost use Rattle.geoarrow_layout.specs.Kinds.{coord_type_of, dimension_of};
 
 use geoarrow_layout::{CoordType, Dimension, Kind, NativeKind, Width};

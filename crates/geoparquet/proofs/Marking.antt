@@ -16,7 +16,7 @@ use Rattle.serde_json.specs.Read.{read}
 use Rattle.arrow_values.specs.Tree.{Text}
 use Rattle.arrow_columns.specs.Column.{ColumnTree, column_tree}
 use Rattle.arrow_columns.specs.Names.{first_of}
-use Rattle.arrow_columns.specs.declared.column.Column.{Column}
+use Rattle.arrow_columns.specs.declared.column.SchemaColumn.{SchemaColumn}
 use Rattle.geoarrow_layout.specs.declared.names.ExtensionName.{ExtensionName}
 use Rattle.geoparquet.specs.Encodings.{IsEncodedAs}
 use Rattle.geoparquet.specs.Extensions.{IsExtensionText, IsJson, IsRead, crs_of, edges_of, member_named, member_text, named_in, text_at, text_with}
@@ -34,7 +34,7 @@ one_behind geo before (x ∷ cs) (y ∷ ds) c d are is =
 one_behind geo before [] (y ∷ ds) c d are is = absurd are
 one_behind geo before (x ∷ cs) [] c d are is = absurd are
 
-pub one_pushed : (geo : Text) (cs ds after : List Column) (c d : Column) → AreGeoColumns geo (map column_tree cs) (map column_tree ds) → IsGeoColumn geo (map column_tree cs) (column_tree c) (column_tree d)
+pub one_pushed : (geo : Text) (cs ds after : List SchemaColumn) (c d : SchemaColumn) → AreGeoColumns geo (map column_tree cs) (map column_tree ds) → IsGeoColumn geo (map column_tree cs) (column_tree c) (column_tree d)
     → after ≡ ds ++ d ∷ [] → AreGeoColumns geo (map column_tree (cs ++ c ∷ [])) (map column_tree after)
 one_pushed geo cs ds after c d are is pushed =
     let more = one_behind geo [] (map column_tree cs) (map column_tree ds) (column_tree c) (column_tree d) are is in
@@ -117,7 +117,7 @@ left_step true false o m e = e
 left_step false true o m e = refl
 left_step false false o m e = e
 
-pub left_behind : (j : Json) (before : List Column) (c : Column) (old new : BTreeMap (Bor Text) (Bor (Value Global)))
+pub left_behind : (j : Json) (before : List SchemaColumn) (c : SchemaColumn) (old new : BTreeMap (Bor Text) (Bor (Value Global)))
     → UpdatesBy (λ x y. slice_cmp nat_cmp x.now y.now) (λ k. slice_cmp nat_cmp (column_tree c).name k.now) old new None
     → ((name : Text) → value_in old name ≡ left_for j (map column_tree before) name) → (name : Text) → value_in new name ≡ left_for j (map column_tree (before ++ c ∷ [])) name
 left_behind j before c old new taken left name =

@@ -8,7 +8,7 @@ use Rattle.serde_json.specs.View.{view, items_view}
 use Rattle.serde_json.specs.declared.value.Value.{Value}
 use Rattle.arrow_values.specs.Tree.{Text}
 use Rattle.arrow_columns.specs.Column.{ColumnTree}
-use Rattle.geoarrow_layout.specs.declared.encodings.NativeKind.{NativeKind}
+use Rattle.geoarrow_layout.specs.declared.native_kinds.NativeKind.{NativeKind}
 use Rattle.geoarrow_layout.specs.declared.names.ExtensionName.{ExtensionName}
 use Rattle.geoarrow_layout.specs.declared.names.ExtensionName.TheVariants.{Native}
 use Rattle.geoparquet.specs.Encodings.{encoding_text, IsStoredAs, IsEncodedAs}

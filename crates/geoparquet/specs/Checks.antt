@@ -18,8 +18,8 @@ use Rattle.geoparquet.specs.declared.finding.GeoCheck.TheVariants.{Object, Versi
 use Rattle.geoparquet.specs.declared.finding.GeoFinding.{GeoFinding}
 
 -- the value that a text is; a text that is no JSON counts as null
-abbrev pub value_of : Text → Data
-value_of s = unwrap_or (read s) null
+abbrev pub geo_value : Text → Data
+geo_value s = unwrap_or (read s) null
 
 -- the members of `columns`, where it is an object
 abbrev pub columns_in : Data → Option Members
@@ -128,7 +128,7 @@ AreAnswers d cs _ _ = ⊥
 
 -- the findings on the metadata with that text
 abbrev pub AreFindings : Text → List ColumnTree → List GeoFinding → Type 0
-AreFindings s cs fs = AreAnswers (value_of s) cs (places_in (value_of s)) (map answer_of fs)
+AreFindings s cs fs = AreAnswers (geo_value s) cs (places_in (geo_value s)) (map answer_of fs)
 
 -- for private contracts: the answer that a check and whether it holds give; and that they are those of these checks, in order
 abbrev pub given : Option Text → GeoCheck × Bool → Answer

@@ -2,13 +2,13 @@
 use Rattle.std.specs.Prelude.{◌≡◌, codes, Option, None, Some, ⊤}
 use Rattle.arrow_values.specs.Tree.{Text}
 use Rattle.arrow_columns.specs.Column.{TypeTree, ColumnTree}
-use Rattle.geoarrow_layout.specs.declared.kinds.CoordType.TheVariants.{Separated}
-use Rattle.geoarrow_layout.specs.declared.kinds.Dimension.TheVariants.{XY, XYZ}
-use Rattle.geoarrow_layout.specs.declared.encodings.NativeKind.TheVariants.{Point, LineString, Polygon, MultiPoint, MultiLineString, MultiPolygon}
+use Rattle.geoarrow_layout.specs.declared.dimensions.CoordType.TheVariants.{Separated}
+use Rattle.geoarrow_layout.specs.declared.dimensions.Dimension.TheVariants.{XY, XYZ}
+use Rattle.geoarrow_layout.specs.declared.native_kinds.NativeKind.TheVariants.{Point, LineString, Polygon, MultiPoint, MultiLineString, MultiPolygon}
 use Rattle.geoarrow_layout.specs.declared.names.ExtensionName.{ExtensionName}
 use Rattle.geoarrow_layout.specs.declared.names.ExtensionName.TheVariants.{Native, Wkb}
-use Rattle.geoarrow_layout.specs.declared.encodings.Kind.{Kind}
-use Rattle.geoarrow_layout.specs.declared.encodings.Kind.TheVariants.{Native as OfNative, Wkb as OfWkb}
+use Rattle.geoarrow_layout.specs.declared.native_kinds.Kind.{Kind}
+use Rattle.geoarrow_layout.specs.declared.native_kinds.Kind.TheVariants.{Native as OfNative, Wkb as OfWkb}
 use Rattle.column_check.specs.Types.{TypeAccepted}
 
 -- the text of an encoding, by the extension name of GeoArrow for such columns

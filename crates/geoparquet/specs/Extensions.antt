@@ -16,13 +16,13 @@ use Rattle.geoarrow_meta.specs.declared.edges.Edges.TheVariants.{Spherical}
 use Rattle.geoarrow_meta.specs.declared.crs.crs_type.CrsType.{CrsType}
 use Rattle.geoarrow_meta.specs.declared.crs.crs_type.CrsType.TheVariants.{Projjson, AuthorityCode}
 use Rattle.geoarrow_meta.specs.MetadataText.{metadata_tokens}
-use Rattle.geoparquet.specs.Checks.{value_of}
+use Rattle.geoparquet.specs.Checks.{geo_value}
 use Rattle.geoparquet.specs.Identifiers.{default_identifier}
 use Rattle.geoparquet.specs.Values.{at, text_of_value}
 
 -- the member of `columns` with that name
 abbrev pub member_named : Text → Text → Option Data
-member_named geo name = at name (get (codes "columns") (value_of geo))
+member_named geo name = at name (get (codes "columns") (geo_value geo))
 
 -- the text is that JSON value, each number as it is written and the members in their order, and `serde_json` reads it as that value
 pub record IsJson (s : Text) (j : Json) : Type 0 where

@@ -12,9 +12,9 @@ use crate::finding::{GeoCheck, GeoFinding};
 use crate::schema::{are_columns, is_covering, is_primary, own_metadata};
 use crate::values::{
     columns_in, copied, is_bbox, is_crs, is_edges, is_epoch, is_orientation, member_at,
-    member_of_column, present_at, text_in, value_of,
+    member_of_column, present_at, text_in, geo_value,
 };
-use arrow_columns::Column;
+use arrow_columns::SchemaColumn;
 use serde_json::Value;
 use std::alloc::{AllocError, Global};
 
@@ -24,10 +24,10 @@ use std::alloc::{AllocError, Global};
 /// out of memory.
 ///
 /// ```rust
-/// let column = Column {
+/// let column = SchemaColumn {
 ///     name: String::from_str(alloc, "geom")?,
 ///     nullable: true,
-///     data_type: ColumnType::Data(DataType::Binary),
+///     data_type: AnyType::Data(DataType::Binary),
 ///     metadata: BTreeMap::new(alloc),
 /// };
 /// let columns = vec![in alloc; column]?;
@@ -40,11 +40,11 @@ use std::alloc::{AllocError, Global};
 pub fn check_geo(
     alloc: Global,
     geo: &str,
-    columns: &[Column],
+    columns: &[SchemaColumn],
 ) -> Result<Vec<GeoFinding>, AllocError>
     ensures { IfOk result (λ findings. AreFindings geo.now (map column_tree columns.now) findings.items) }
 {
-    let value = value_of(alloc, geo)?;
+    let value = geo_value(alloc, geo)?;
     let names = SchemaColumns::new(alloc, columns)?;
     let mut findings = Vec::new(alloc);
     add_all(alloc, &mut findings, &value, &names)?;

@@ -9,7 +9,7 @@ ghost use Rattle.arrow_values.specs.View.{tree, field_trees};
 ghost use Rattle.geoparquet.specs.Coverings.{is_floating, has_floats, IsColumnWith};
 ghost use Rattle.geoparquet.specs.Coverings.{AreFloatsOf, AreFloats};
 
-use arrow_columns::{Column, ColumnNames, ColumnType};
+use arrow_columns::{SchemaColumn, ColumnNames, AnyType};
 use arrow_values::{DataType, Field, Fields};
 use std::alloc::{AllocError, Global};
 use std::collections::{BTreeMap, BTreeSet};
@@ -27,13 +27,13 @@ impl<'c> Model for SchemaColumns<'c> {
     ghost use Rattle.std.specs.Prelude.{List, map};
     ghost use Rattle.std.specs.Coded.{codes};
     ghost use Rattle.arrow_columns.specs.Column.{column_tree};
-    ghost use Rattle.arrow_columns.specs.declared.column.Column.{Column};
-    ghost use Rattle.arrow_columns.specs.contracts.column.Column as row;
+    ghost use Rattle.arrow_columns.specs.declared.column.SchemaColumn.{SchemaColumn};
+    ghost use Rattle.arrow_columns.specs.contracts.column.SchemaColumn as row;
     ghost use Rattle.geoparquet.specs.Coverings.{AreFloats};
 
     ghost coded = { Prim.hlevel (codes, row.the_row.coded) };
 
-    ghost Value = { List Column };
+    ghost Value = { List SchemaColumn };
 
     ghost view = { λ r. r.names };
 
@@ -42,7 +42,7 @@ impl<'c> Model for SchemaColumns<'c> {
 
 impl<'c> SchemaColumns<'c> {
     /// These columns. Errs only when out of memory.
-    pub(crate) fn new(alloc: Global, columns: &'c [Column]) -> Result<SchemaColumns<'c>, AllocError>
+    pub(crate) fn new(alloc: Global, columns: &'c [SchemaColumn]) -> Result<SchemaColumns<'c>, AllocError>
         ensures { IfOk result (λ made. made ≡ columns.now) }
     {
         let names = ColumnNames::new(alloc, columns)?;
@@ -51,7 +51,7 @@ impl<'c> SchemaColumns<'c> {
     }
 
     /// The first column of that name, if one has it.
-    pub(crate) fn first(&self, name: &str) -> Option<&'c Column>
+    pub(crate) fn first(&self, name: &str) -> Option<&'c SchemaColumn>
         ensures { option_map (λ c. column_tree c.now) result
             ≡ first_of (map column_tree self.now) name.now }
     {
@@ -113,11 +113,11 @@ fn floats_in(alloc: Global, fields: &Fields) -> Result<BTreeSet<String>, AllocEr
 
 /// The names of the members of floats, where a type is a group; of another type none. Errs only
 /// when out of memory.
-fn floats_of(alloc: Global, column_type: &ColumnType) -> Result<BTreeSet<String>, AllocError>
+fn floats_of(alloc: Global, column_type: &AnyType) -> Result<BTreeSet<String>, AllocError>
     ensures { IfOk result (λ names. AreFloatsOf (type_tree column_type.now) names) }
 {
     match column_type {
-        ColumnType::Data(DataType::Struct(fields)) => floats_in(alloc, fields),
+        AnyType::Data(DataType::Struct(fields)) => floats_in(alloc, fields),
         _ => Ok(BTreeSet::new(alloc)),
     }
 }
@@ -126,7 +126,7 @@ fn floats_of(alloc: Global, column_type: &ColumnType) -> Result<BTreeSet<String>
 fn add_column(
     alloc: Global,
     floats: &mut BTreeMap<String, BTreeSet<String>>,
-    column: &Column,
+    column: &SchemaColumn,
 ) -> Result<(), AllocError>
     ensures { OnOk result ((cs : List ColumnTree) → AreFloats cs floats.old
         → AreFloats (cs ++ column_tree column.now ∷ []) floats.new) }
@@ -143,7 +143,7 @@ fn add_column(
 /// The floats of the first column of each name. Errs only when out of memory.
 fn floats_by_column(
     alloc: Global,
-    columns: &[Column],
+    columns: &[SchemaColumn],
 ) -> Result<BTreeMap<String, BTreeSet<String>>, AllocError>
     ensures { IfOk result (λ floats. AreFloats (map column_tree columns.now) floats) }
 {

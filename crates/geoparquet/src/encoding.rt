@@ -4,12 +4,12 @@ ghost use Rattle.arrow_values.specs.Texts.{text_of};
 ghost use Rattle.arrow_columns.specs.Column.{type_tree, column_tree};
 ghost use Rattle.geoarrow_layout.specs.declared.names.ExtensionName.{ExtensionName};
 ghost use Rattle.serde_json.specs.View.{view, items_view};
-ghost use Rattle.geoarrow_layout.specs.declared.encodings.NativeKind.{NativeKind};
+ghost use Rattle.geoarrow_layout.specs.declared.native_kinds.NativeKind.{NativeKind};
 ghost use Rattle.geoparquet.specs.GeometryTypes.{type_name, IsNameOf, IsOwn, IsTypeName, is_text, is_among, AreTypes};
 ghost use Rattle.geoparquet.specs.Encodings.{encoding_text, IsStored, IsStoredAs, IsEncodedAs, IsEncoding};
 
 use crate::values::items_in;
-use arrow_columns::{Column, ColumnType};
+use arrow_columns::{SchemaColumn, AnyType};
 use geoarrow_layout::{CoordType, Dimension, ExtensionName, Kind, NativeKind, parse_kind};
 use serde_json::Value;
 
@@ -40,10 +40,10 @@ fn is_stored(kind: Kind) -> bool
 }
 
 /// Whether a type is stored as a column of that extension name.
-fn is_stored_as(name: ExtensionName, column_type: &ColumnType) -> bool
+fn is_stored_as(name: ExtensionName, column_type: &AnyType) -> bool
     ensures { IsTrue result ↔ IsStoredAs name (type_tree column_type.now) }
 {
-    let ColumnType::Data(data_type) = column_type else {
+    let AnyType::Data(data_type) = column_type else {
         return false;
     };
     match parse_kind(name, data_type) {
@@ -55,16 +55,16 @@ fn is_stored_as(name: ExtensionName, column_type: &ColumnType) -> bool
 /// The extension name of GeoArrow that a column has by its encoding (GeoParquet 1.1, "encoding"): where the rule `Encoding` of `GeoCheck` holds of both.
 ///
 /// ```rust
-/// let column = Column {
+/// let column = SchemaColumn {
 ///     name: String::from_str(alloc, "geom")?,
 ///     nullable: true,
-///     data_type: ColumnType::Data(DataType::Binary),
+///     data_type: AnyType::Data(DataType::Binary),
 ///     metadata: BTreeMap::new(alloc),
 /// };
 /// assert_eq!(rt; encoded_as(Some("WKB"), &column), Some(ExtensionName::Wkb));
 /// assert_eq!(rt; encoded_as(Some("point"), &column), None);
 /// ```
-pub fn encoded_as(encoding: Option<&str>, column: &Column) -> Option<ExtensionName>
+pub fn encoded_as(encoding: Option<&str>, column: &SchemaColumn) -> Option<ExtensionName>
     ensures { (name : ExtensionName) → (result ≡ Some name) ↔ IsEncodedAs (text_of encoding.entry) name (column_tree column.now) }
 {
     let name = encoding_named(encoding?)?;
@@ -72,7 +72,7 @@ pub fn encoded_as(encoding: Option<&str>, column: &Column) -> Option<ExtensionNa
 }
 
 /// Whether there are an encoding and a column, and the column has a type of it.
-pub(crate) fn is_encoding(encoding: Option<&str>, column: Option<&Column>) -> bool
+pub(crate) fn is_encoding(encoding: Option<&str>, column: Option<&SchemaColumn>) -> bool
     ensures { IsTrue result ↔ IsEncoding (text_of encoding.entry) (option_map (λ c. column_tree c.now) column.entry) }
 {
     match column {

@@ -10,7 +10,7 @@ ghost use Rattle.value_tokens.specs.Values.{IsReadable};
 
 use crate::encoding::encoded_as;
 use crate::extension::{extension_text, text_at};
-use arrow_columns::{Column, with_extension};
+use arrow_columns::{SchemaColumn, with_extension};
 use geoarrow_layout::ExtensionName;
 use json::{Scratch, Value};
 use std::alloc::{AllocError, Global};
@@ -30,10 +30,10 @@ use value_tokens::{Refusal, member_of, read_json};
 /// of the number of members of `columns`.
 ///
 /// ```rust
-/// let column = Column {
+/// let column = SchemaColumn {
 ///     name: String::from_str(alloc, "geom")?,
 ///     nullable: true,
-///     data_type: ColumnType::Data(DataType::Binary),
+///     data_type: AnyType::Data(DataType::Binary),
 ///     metadata: BTreeMap::new(alloc),
 /// };
 /// let geo = r#"{"columns":{"geom":{"encoding":"WKB","crs":{"epoch": 2010.50}}}}"#;
@@ -45,8 +45,8 @@ use value_tokens::{Refusal, member_of, read_json};
 pub fn geo_columns(
     alloc: Global,
     geo: &str,
-    columns: Vec<Column>,
-) -> Result<Vec<Column>, AllocError>
+    columns: Vec<SchemaColumn>,
+) -> Result<Vec<SchemaColumn>, AllocError>
     ensures { IfOk result (λ made. AreGeoColumns geo.now (map column_tree columns.items) (map column_tree made.items)) }
 {
     let mut scratch = Scratch::new(alloc);
@@ -102,8 +102,8 @@ fn by_name<'v, 'a>(
 fn geo_column(
     alloc: Global,
     member: Option<&Value<'_>>,
-    column: Column,
-) -> Result<Column, AllocError>
+    column: SchemaColumn,
+) -> Result<SchemaColumn, AllocError>
     requires { IfSome member (λ v. IsRead (value_view v.now)) }
     ensures { IfOk result (λ new. IsGeoColumnOf (option_map (λ v. value_view v.now) member.entry) (column_tree column) (column_tree new)) }
 {
@@ -118,7 +118,7 @@ fn geo_column(
 }
 
 /// The extension name that a column, the first of its name, takes by its member of `columns`.
-fn name_for(member: &Value<'_>, column: &Column) -> Option<ExtensionName>
+fn name_for(member: &Value<'_>, column: &SchemaColumn) -> Option<ExtensionName>
     requires { IsReadable (value_view member.now) }
     ensures { IsNameFor (text_at (codes "encoding") (value_view member.now)) (column_tree column.now) result }
 {

@@ -6,7 +6,7 @@ ghost use Rattle.arrow_values.specs.Texts.{text_of};
 ghost use Rattle.geoarrow_meta.specs.Read.{at_key};
 ghost use Rattle.geoparquet.specs.Values.{at, text_of_value, IsCrs, edges_text, IsEdges, EdgesAgree, IsOrientation, IsEpoch};
 ghost use Rattle.geoparquet.specs.Boxes.{AreInOrder, IsFlat, IsBox, IsBbox};
-ghost use Rattle.geoparquet.specs.Checks.{value_of, columns_in};
+ghost use Rattle.geoparquet.specs.Checks.{geo_value, columns_in};
 
 use serde_json::{Map, Value};
 use std::alloc::{AllocError, Global};
@@ -14,11 +14,11 @@ use std::alloc::{AllocError, Global};
 /// The JSON value that the text of the metadata is, and null where it is no JSON. Errs only when out of memory.
 ///
 /// ```rust
-/// assert!(rt; value_of(alloc, r#"{"version":"1.1.0"}"#)?.is_object());
-/// assert!(rt; value_of(alloc, "1.1.0")?.is_null());
+/// assert!(rt; geo_value(alloc, r#"{"version":"1.1.0"}"#)?.is_object());
+/// assert!(rt; geo_value(alloc, "1.1.0")?.is_null());
 /// ```
-pub fn value_of(alloc: Global, text: &str) -> Result<Value, AllocError>
-    ensures { IfOk result (λ value. view value ≡ value_of text.now) }
+pub fn geo_value(alloc: Global, text: &str) -> Result<Value, AllocError>
+    ensures { IfOk result (λ value. view value ≡ geo_value text.now) }
 {
     match Value::from_str(alloc, text) {
         Ok(value) => Ok(value),
@@ -37,7 +37,7 @@ pub(crate) fn member_at<'v>(value: Option<&'v Value>, key: &str) -> Option<&'v V
 /// What the metadata say of the column with a name: the member of `columns` with that key, where `columns` is an object and has it.
 ///
 /// ```rust
-/// let value = value_of(alloc, r#"{"columns":{"geom":{"encoding":"WKB"}}}"#)?;
+/// let value = geo_value(alloc, r#"{"columns":{"geom":{"encoding":"WKB"}}}"#)?;
 /// assert!(rt; member_of_column(&value, "geom").is_some());
 /// assert!(rt; member_of_column(&value, "columns").is_none());
 /// ```

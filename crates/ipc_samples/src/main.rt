@@ -7,7 +7,7 @@
 //! stands there as this library writes it.
 #![tactic(auto)]
 
-use arrow_columns::{Column, ColumnType};
+use arrow_columns::{SchemaColumn, AnyType};
 use arrow_ipc::{IpcError, Schema, read_file_footer, read_schema, write_schema};
 use arrow_values::{DataType, Field};
 use field_lines::field_line;
@@ -24,19 +24,19 @@ fn read(alloc: Global, form: &str, bytes: &[u8]) -> Result<Schema, IpcError> {
 }
 
 /// The line of a column.
-fn column_line(alloc: Global, column: Column) -> Result<String, AllocError> {
-    let Column {
+fn column_line(alloc: Global, column: SchemaColumn) -> Result<String, AllocError> {
+    let SchemaColumn {
         name,
         nullable,
         data_type,
         metadata,
     } = column;
     match data_type {
-        ColumnType::Data(data_type) => {
+        AnyType::Data(data_type) => {
             let field = Field::from_parts(name, data_type, nullable, metadata);
             field_line(alloc, &field)
         }
-        ColumnType::Other(text) => {
+        AnyType::Other(text) => {
             let field = Field::from_parts(name, DataType::Null, nullable, metadata);
             let line = field_line(alloc, &field)?;
             format!(in alloc; "{line} {text}")

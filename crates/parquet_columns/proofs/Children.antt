@@ -6,7 +6,7 @@ use Rattle.std.specs.List.{slice_get}
 use Rattle.std.specs.Slice.{IsItemAt}
 use Rattle.std.specs.Borrow.{Bor}
 use Rattle.arrow_columns.specs.Column.{ColumnTree, column_tree}
-use Rattle.arrow_columns.specs.declared.column.Column.{Column}
+use Rattle.arrow_columns.specs.declared.column.SchemaColumn.{SchemaColumn}
 use Rattle.parquet_footer.specs.declared.element.SchemaElement.{SchemaElement}
 use Rattle.parquet_footer.specs.Element.{Element, element}
 use Rattle.parquet_footer.specs.Footer.{Pairing}
@@ -71,7 +71,7 @@ marked-length pairs es [] = refl
 marked-length pairs [] (c ∷ cs) = ap suc (marked-length pairs [] cs)
 marked-length pairs (e ∷ es) (c ∷ cs) = ap suc (marked-length pairs es cs)
 
-pub one_more : (pairs : List Pairing) (es : List Element) (made after yielded : List Column) (m c : Column) (child : Option Element) (at : ℕ)
+pub one_more : (pairs : List Pairing) (es : List Element) (made after yielded : List SchemaColumn) (m c : SchemaColumn) (child : Option Element) (at : ℕ)
     → map column_tree made ≡ marked_columns pairs es (map column_tree yielded) → at ≡ length made → child ≡ slice_get es at → column_tree m ≡ marked pairs child (column_tree c) → after ≡ made ++ m ∷ []
     → map column_tree after ≡ marked_columns pairs es (map column_tree (yielded ++ c ∷ []))
 one_more pairs es made after yielded m c child at so_far place found marks is =

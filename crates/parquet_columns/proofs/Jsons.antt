@@ -7,7 +7,7 @@ use Rattle.serde_json.specs.Data.{Data}
 use Rattle.arrow_values.specs.Tree.{Text}
 use Rattle.geoarrow_meta.specs.declared.edges.Edges.{Edges}
 use Rattle.geoarrow_meta.specs.declared.crs.crs_type.CrsType.TheVariants.{Projjson}
-use Rattle.geoarrow_meta.specs.CrsText.{is_projjson, IsJson}
+use Rattle.geoarrow_meta.specs.CrsText.{is_projjson_text, IsJson}
 use Rattle.geoarrow_meta.specs.MetadataText.{metadata_tokens}
 use Rattle.geoarrow_meta.proofs.Compact.{compact_is_same}
 use Rattle.parquet_columns.specs.Geometry.{text_crs, keyed_crs, text_with}
@@ -17,9 +17,9 @@ use Rattle.parquet_columns.specs.Values.{compact_of}
 pub of_json : (s text : Text) (value : Option Text) (e : Option Edges) → compact_of value ≡ Some text
     → print (metadata_tokens (tokens text) (Some Projjson) e) ≡ text_with (keyed_crs s value) e
 of_json s text None e is = absurd (cc)
-of_json s text (Some value) e is = json_step (is_projjson value) refl is
+of_json s text (Some value) e is = json_step (is_projjson_text value) refl is
   where
-    json_step : (b : Bool) → is_projjson value ≡ b → (if b then Some (print (tokens value)) else None) ≡ Some text
+    json_step : (b : Bool) → is_projjson_text value ≡ b → (if b then Some (print (tokens value)) else None) ≡ Some text
         → print (metadata_tokens (tokens text) (Some Projjson) e) ≡ text_with (if b then (record { tokens = tokens value; crs_type = Some Projjson }) else text_crs s None) e
     json_step true same found = ap (λ ts. print (metadata_tokens ts (Some Projjson) e)) (compact_is_same value text is).tokens_same
     json_step false other found = absurd (cc)
@@ -33,7 +33,7 @@ is_read text (Some value) is = (compact_is_same value text is).value
 pub of_text : (s : Text) (value : Option Text) (e : Option Edges) → compact_of value ≡ None
     → print (metadata_tokens (string s ∷ []) None e) ≡ text_with (keyed_crs s value) e
 of_text s None e is = refl
-of_text s (Some value) e is = text_step (is_projjson value) is
+of_text s (Some value) e is = text_step (is_projjson_text value) is
   where
     text_step : (b : Bool) → (if b then Some (print (tokens value)) else None) ≡ None
         → print (metadata_tokens (string s ∷ []) None e) ≡ text_with (if b then (record { tokens = tokens value; crs_type = Some Projjson }) else text_crs s None) e

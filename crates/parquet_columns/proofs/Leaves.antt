@@ -3,15 +3,15 @@ use Rattle.std.proofs.Common.{◌≡◌, ℕ, Option, Some, None, option_map, un
 use Rattle.arrow_values.specs.Tree.{Text, Tree, Plain, plain, null}
 use Rattle.arrow_columns.specs.Column.{TypeTree, known, other}
 use Rattle.parquet_footer.specs.declared.element.PhysicalType.{PhysicalType}
-use Rattle.parquet_columns.specs.declared.fault.Fault.{Fault}
+use Rattle.parquet_columns.specs.declared.fault.ElementFault.{ElementFault}
 use Rattle.parquet_columns.specs.declared.meaning.Meaning.{Meaning}
 use Rattle.parquet_columns.specs.Leaf.{clock_text, digits_of, decimal_text, plain_of, fixed_type, is_null, first_type, leaf_type}
 
-plain_first : (t : Tree) (o : Option Plain) (scale : ℕ) (fixed : Result TypeTree Fault) → Some t ≡ option_map plain o → first_type None None scale o fixed ≡ Ok (known t)
+plain_first : (t : Tree) (o : Option Plain) (scale : ℕ) (fixed : Result TypeTree ElementFault) → Some t ≡ option_map plain o → first_type None None scale o fixed ≡ Ok (known t)
 plain_first t None scale fixed is = absurd (cc)
 plain_first t (Some p) scale fixed is = cc
 
-plain_last : (o : Option Plain) (scale : ℕ) (fixed : Result TypeTree Fault) → None ≡ option_map plain o → first_type None None scale o fixed ≡ fixed
+plain_last : (o : Option Plain) (scale : ℕ) (fixed : Result TypeTree ElementFault) → None ≡ option_map plain o → first_type None None scale o fixed ≡ fixed
 plain_last None scale fixed none = refl
 plain_last (Some p) scale fixed none = absurd (cc)
 

@@ -8,11 +8,11 @@ use Rattle.arrow_values.specs.Tree.{Text, Metadata}
 use Rattle.arrow_values.specs.View.{texts_of}
 use Rattle.arrow_columns.specs.Column.{TypeTree, ColumnTree, column_tree}
 use Rattle.arrow_columns.specs.Nested.{list_type}
-use Rattle.arrow_columns.specs.declared.column.Column.{Column}
+use Rattle.arrow_columns.specs.declared.column.SchemaColumn.{SchemaColumn}
 use Rattle.arrow_columns.specs.declared.nested.ListForm.TheVariants.{Small}
 use Rattle.parquet_footer.specs.declared.element.Repetition.{Repetition}
 use Rattle.parquet_footer.specs.declared.element.Repetition.TheVariants.{Required, Optional, Repeated}
-use Rattle.parquet_columns.specs.declared.fault.Rule.TheVariants.{List as ListRule, Map as MapRule}
+use Rattle.parquet_columns.specs.declared.fault.SchemaRule.TheVariants.{List as ListRule, Map as MapRule}
 use Rattle.parquet_columns.specs.declared.nodes.Node.{Node}
 use Rattle.parquet_columns.specs.Nodes.{NodeTree, typed, wrapper, group, node_tree, shape_type, is_optional, is_repeated, plain_column, column_by, column_of, one_shape, group_shape, is_item_name, item_by, list_of, list_shape, is_group, map_type, map_of, map_shape}
 
@@ -107,7 +107,7 @@ module _ (name : Text) (r : Repetition) (t : TypeTree) (c : ColumnTree) (nullabl
       let by : column_by name r t ≡ plain_column name (is_optional r) t = rw none refl in
       is ∙ ap (λ b. plain_column name b t) optional ∙ sym by
 
-  pub repeated_by : {E : Type 0} (list : TypeTree) (made : Result Column E) → is_repeated r ≡ true → list ≡ list_type Small c → IfOk made (λ m. column_tree m ≡ plain_column name false list)
+  pub repeated_by : {E : Type 0} (list : TypeTree) (made : Result SchemaColumn E) → is_repeated r ≡ true → list ≡ list_type Small c → IfOk made (λ m. column_tree m ≡ plain_column name false list)
       → IfOk made (λ m. column_tree m ≡ column_by name r t)
   repeated_by list made repeated list_is told =
       let by : column_by name r t ≡ plain_column name false (list_type Small (plain_column name false t)) = rw repeated refl in
@@ -133,7 +133,7 @@ pub map_is : (at : ℕ) (n : NodeTree) (entries t : TypeTree) → is_repeated n.
     → map_of at n ≡ Ok (typed t)
 map_is at n entries t is grouped entries_is t_is = rw (is, grouped, t_is, entries_is) refl
 
-pub column_more : (xs : List Node) (x : Node) (cs ds : List Column) (c : Column) → map column_tree cs ≡ map column_of (map node_tree xs) → ds ≡ cs ++ c ∷ [] → column_tree c ≡ column_of (node_tree x)
+pub column_more : (xs : List Node) (x : Node) (cs ds : List SchemaColumn) (c : SchemaColumn) → map column_tree cs ≡ map column_of (map node_tree xs) → ds ≡ cs ++ c ∷ [] → column_tree c ≡ column_of (node_tree x)
     → map column_tree ds ≡ map column_of (map node_tree (xs ++ x ∷ []))
 column_more xs x cs ds c so_far is same =
     ap (map column_tree) is ∙ map_push column_tree cs c ∙ ap (λ ts. ts ++ column_tree c ∷ []) so_far ∙ ap (λ t. map column_of (map node_tree xs) ++ t ∷ []) same ∙ sym (column_next xs x)

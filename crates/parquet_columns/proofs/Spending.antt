@@ -3,7 +3,7 @@ use Rattle.std.proofs.Common.{◌≡◌, ℕ, ◌+◌, ◌<◌, ◌≤◌, List,
 use Rattle.std.proofs.lemmas.List.{map-append, length-map, take_more, take-append-drop}
 use Rattle.std.specs.List.{slice_get}
 use Rattle.arrow_columns.specs.Column.{ColumnTree, column_tree}
-use Rattle.arrow_columns.specs.declared.column.Column.{Column}
+use Rattle.arrow_columns.specs.declared.column.SchemaColumn.{SchemaColumn}
 use Rattle.parquet_footer.specs.Element.{Element}
 use Rattle.parquet_footer.specs.Footer.{Pairing}
 use Rattle.parquet_columns.specs.Budget.{size_of}
@@ -28,13 +28,13 @@ given_front pairs [] (c ∷ cs) ds = omega arith
 given_front pairs (e ∷ es) (c ∷ cs) ds = omega (arith, given_front pairs es cs ds)
 
 -- the place of a column among those that are made so far
-pub place_of : (pairs : List Pairing) (es : List Element) (made yielded : List Column) (at : ℕ) → map column_tree made ≡ marked_columns pairs es (map column_tree yielded) → at ≡ length made
+pub place_of : (pairs : List Pairing) (es : List Element) (made yielded : List SchemaColumn) (at : ℕ) → map column_tree made ≡ marked_columns pairs es (map column_tree yielded) → at ≡ length made
     → at ≡ length (map column_tree yielded)
 place_of pairs es made yielded at so_far place =
     place ∙ sym (length-map made column_tree) ∙ ap length so_far ∙ marked-length pairs es (map column_tree yielded)
 
 -- one column more is paid for
-pub one_paid : (pairs : List Pairing) (es : List Element) (yielded : List Column) (c : Column) (child : Option Element) (at left rest amount : ℕ)
+pub one_paid : (pairs : List Pairing) (es : List Element) (yielded : List SchemaColumn) (c : SchemaColumn) (child : Option Element) (at left rest amount : ℕ)
     → given_bytes pairs es (map column_tree yielded) + left ≡ amount → at ≡ length (map column_tree yielded) → child ≡ slice_get es at → size_of (given pairs child (column_tree c)) + rest ≡ left
     → given_bytes pairs es (map column_tree (yielded ++ c ∷ [])) + rest ≡ amount
 one_paid pairs es yielded c child at left rest amount paid place found cost =
@@ -46,7 +46,7 @@ one_paid pairs es yielded c child at left rest amount paid place found cost =
     omega (arith, size, more, paid, cost)
 
 -- with a column that is not paid for, all columns are not
-pub not_paid : (pairs : List Pairing) (es : List Element) (yielded all : List Column) (c : Column) (child : Option Element) (at left amount : ℕ)
+pub not_paid : (pairs : List Pairing) (es : List Element) (yielded all : List SchemaColumn) (c : SchemaColumn) (child : Option Element) (at left amount : ℕ)
     → given_bytes pairs es (map column_tree yielded) + left ≡ amount → at ≡ length (map column_tree yielded) → child ≡ slice_get es at → left < size_of (given pairs child (column_tree c))
     → yielded ≡ take (length yielded) all → length yielded < length all → c ≡ get_or all (length yielded) c → amount < given_bytes pairs es (map column_tree all)
 not_paid pairs es yielded all c child at left amount paid place found cost front within item =
@@ -64,7 +64,7 @@ not_paid pairs es yielded all c child at left amount paid place found cost front
     omega (arith, size, more, most, paid, cost)
 
 -- why a column is not marked is why the columns are not
-pub marked_fails : (pairs : List Pairing) (es : List Element) (yielded all : List Column) (c : Column) (child : Option Element) (at left amount : ℕ) (e : SchemaError)
+pub marked_fails : (pairs : List Pairing) (es : List Element) (yielded all : List SchemaColumn) (c : SchemaColumn) (child : Option Element) (at left amount : ℕ) (e : SchemaError)
     → given_bytes pairs es (map column_tree yielded) + left ≡ amount → at ≡ length (map column_tree yielded) → child ≡ slice_get es at
     → yielded ≡ take (length yielded) all → length yielded < length all → c ≡ get_or all (length yielded) c
     → IsMarked pairs child (column_tree c) left (Err e) → AreMarked pairs es (map column_tree all) amount (Err e)
@@ -73,7 +73,7 @@ marked_fails pairs es yielded all c child at left amount OutOfMemory paid place 
 marked_fails pairs es yielded all c child at left amount _ paid place found front within item f = absurd f
 
 -- all columns are paid for
-pub all_paid : (pairs : List Pairing) (es : List Element) (made : Vec Column Global) (yielded all : List Column) (left amount : ℕ) → yielded ≡ all
+pub all_paid : (pairs : List Pairing) (es : List Element) (made : Vec SchemaColumn Global) (yielded all : List SchemaColumn) (left amount : ℕ) → yielded ≡ all
     → map column_tree made.items ≡ marked_columns pairs es (map column_tree yielded) → given_bytes pairs es (map column_tree yielded) + left ≡ amount → AreMarked pairs es (map column_tree all) amount (Ok made)
 all_paid pairs es made yielded all left amount whole so_far paid =
     let enough : given_bytes pairs es (map column_tree yielded) ≤ amount = omega (arith, paid) in

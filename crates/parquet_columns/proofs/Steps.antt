@@ -4,10 +4,10 @@ use Rattle.base64.specs.Engines.{standard}
 use Rattle.base64.specs.GeneralPurpose.{decode_of}
 use Rattle.arrow_values.specs.Tree.{Text}
 use Rattle.arrow_columns.specs.Column.{ColumnTree, column_tree}
-use Rattle.arrow_columns.specs.declared.column.Column.{Column}
+use Rattle.arrow_columns.specs.declared.column.SchemaColumn.{SchemaColumn}
 use Rattle.arrow_ipc.specs.declared.schema.Schema.{Schema}
 use Rattle.parquet_footer.specs.Footer.{Contents}
-use Rattle.parquet_columns.specs.declared.fault.Fault as elements
+use Rattle.parquet_columns.specs.declared.fault.ElementFault as elements
 use Rattle.parquet_columns.specs.Columns.{columns_of}
 use Rattle.parquet_columns.specs.Keys.{schema_key, value_of}
 use Rattle.parquet_columns.specs.Budget.{budget}
@@ -26,21 +26,21 @@ memory_by : (cs : List ColumnTree) (value : Option Text) → IsReadBy (Ok cs) va
 memory_by cs (Some text) = tt
 memory_by cs None = tt
 
-pub memory_read : (there : Result (List ColumnTree) elements.Fault) (value : Option Text) → IsReadBy there value (Err OutOfMemory)
+pub memory_read : (there : Result (List ColumnTree) elements.ElementFault) (value : Option Text) → IsReadBy there value (Err OutOfMemory)
 memory_read (Ok cs) value = memory_by cs value
 memory_read (Err fault) value = tt
 
 module _ (value : Option Text) where
-  pub elements_fail : (there : Result (List ColumnTree) elements.Fault) (e : SchemaError) → IsBuilt there (Err e) → IsReadBy there value (Err e)
+  pub elements_fail : (there : Result (List ColumnTree) elements.ElementFault) (e : SchemaError) → IsBuilt there (Err e) → IsReadBy there value (Err e)
   elements_fail (Err fault) e f = f
   elements_fail (Ok cs) (Elements fault) f = absurd (cc)
   elements_fail (Ok cs) OutOfMemory f = memory_by cs value
   elements_fail (Ok cs) _ f = absurd f
 
-  pub by_elements : (there : Result (List ColumnTree) elements.Fault) (columns : Vec Column Global) → there ≡ Ok (map column_tree columns.items) → value ≡ None → IsReadBy there value (Ok columns)
+  pub by_elements : (there : Result (List ColumnTree) elements.ElementFault) (columns : Vec SchemaColumn Global) → there ≡ Ok (map column_tree columns.items) → value ≡ None → IsReadBy there value (Ok columns)
   by_elements there columns is none = rw (is, none) refl
 
-  pub by_text : (there : Result (List ColumnTree) elements.Fault) (cs : List ColumnTree) (text : Text) (r : Result (Vec Column Global) SchemaError) → there ≡ Ok cs → value ≡ Some text → IsReadBy (Ok cs) (Some text) r → IsReadBy there value r
+  pub by_text : (there : Result (List ColumnTree) elements.ElementFault) (cs : List ColumnTree) (text : Text) (r : Result (Vec SchemaColumn Global) SchemaError) → there ≡ Ok cs → value ≡ Some text → IsReadBy (Ok cs) (Some text) r → IsReadBy there value r
   by_text there cs text r is some f = rw (is, some) f
 
 module _ (cs : List ColumnTree) (text : Text) where
@@ -56,13 +56,13 @@ module _ (cs : List ColumnTree) (text : Text) where
     schema_fails _ f = absurd f
 
     -- what a message and the columns of its schema are as slices, and whether the names are the same
-    module _ (message : List ℕ) (whole : message ≡ bytes) (s : Schema) (held : HoldsSchema message (Ok s)) (columns : List Column) (all : columns ≡ s.columns.items)
+    module _ (message : List ℕ) (whole : message ≡ bytes) (s : Schema) (held : HoldsSchema message (Ok s)) (columns : List SchemaColumn) (all : columns ≡ s.columns.items)
         (same : Bool) (says : same ≡ same_names (map column_tree columns) cs) where
       holds : HoldsSchema bytes (Ok s)
       holds = subst (λ m. HoldsSchema m (Ok s)) whole held
 
       compared : same_names (map column_tree s.columns.items) cs ≡ same
-      compared = ap (λ (xs : List Column). same_names (map column_tree xs) cs) (sym all) ∙ sym says
+      compared = ap (λ (xs : List SchemaColumn). same_names (map column_tree xs) cs) (sym all) ∙ sym says
 
       pub names_differ : same ≡ false → IsStoredRead cs text (Err Names)
       names_differ differ = (bytes, are, s, holds, compared ∙ differ)
@@ -75,7 +75,7 @@ module _ (cs : List ColumnTree) (text : Text) where
 pub memory_footer : (n : ℕ) (c : Contents) → IsFooterRead n c (Err OutOfMemory)
 memory_footer n c = memory_read (columns_of c.schema) (value_of schema_key c.key_value_metadata)
 
-not_budget : (there : Result (List ColumnTree) elements.Fault) (value : Option Text) → IsReadBy there value (Err Budget) → ⊥
+not_budget : (there : Result (List ColumnTree) elements.ElementFault) (value : Option Text) → IsReadBy there value (Err Budget) → ⊥
 not_budget (Ok cs) (Some text) f = f.4
 not_budget (Ok cs) None f = f
 not_budget (Err fault) value f = f
@@ -86,7 +86,7 @@ stored_fails n c Budget f = absurd (not_budget (columns_of c.schema) (value_of s
 stored_fails n c _ f = f
 
 -- they are marked within the budget, or it is not enough
-pub all_marked : (n : ℕ) (c : Contents) (stored : Vec Column Global) (amount : ℕ) (r : Result (Vec Column Global) SchemaError) → amount ≡ budget n → AreStored c (Ok stored)
+pub all_marked : (n : ℕ) (c : Contents) (stored : Vec SchemaColumn Global) (amount : ℕ) (r : Result (Vec SchemaColumn Global) SchemaError) → amount ≡ budget n → AreStored c (Ok stored)
     → AreMarked c.key_value_metadata (root_children c.schema) (map column_tree stored.items) amount r → IsFooterRead n c r
 all_marked n c stored amount (Ok made) is are f =
     (stored, are, subst (λ a. given_bytes c.key_value_metadata (root_children c.schema) (map column_tree stored.items) ≤ a) is f.1, f.0)

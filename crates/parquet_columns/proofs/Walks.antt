@@ -7,8 +7,8 @@ use Rattle.arrow_columns.specs.Column.{ColumnTree}
 use Rattle.std.proofs.lemmas.Option.{slice_get-map, slice_get_past, slice_get_read}
 use Rattle.parquet_footer.specs.declared.element.SchemaElement.{SchemaElement}
 use Rattle.parquet_footer.specs.Element.{Element, element}
-use Rattle.parquet_columns.specs.declared.fault.Fault.{Fault}
-use Rattle.parquet_columns.specs.declared.fault.Rule.TheVariants.{Root, Children, Depth}
+use Rattle.parquet_columns.specs.declared.fault.ElementFault.{ElementFault}
+use Rattle.parquet_columns.specs.declared.fault.SchemaRule.TheVariants.{Root, Children, Depth}
 use Rattle.parquet_columns.specs.declared.fault.ColumnsError.{ColumnsError}
 use Rattle.parquet_columns.specs.declared.fault.ColumnsError.TheVariants.{Broken, OutOfMemory}
 use Rattle.parquet_columns.specs.Fault.{◌>>=◌, Says}
@@ -16,12 +16,12 @@ use Rattle.parquet_columns.specs.Nodes.{NodeTree, column_of}
 use Rattle.parquet_columns.specs.Columns.{HeadTree, element_at, head_at, children_of, finished, nodes_by, node_at, used_up, columns_of}
 
 -- an error was handed on
-pub said : {X A : Type 0} (view : X → A) (there : Result A Fault) (r : Result X ColumnsError) (e : ColumnsError) → r ≡ Err e → Says view there (Err e) → Says view there r
+pub said : {X A : Type 0} (view : X → A) (there : Result A ElementFault) (r : Result X ColumnsError) (e : ColumnsError) → r ≡ Err e → Says view there (Err e) → Says view there r
 said view there (Ok x) e is f = absurd (cc)
 said view there (Err d) e is f = let same : e ≡ d = cc in subst (λ e. Says view there (Err e)) same f
 
 -- an error of the first step
-pub first_fails : {X Y A B : Type 0} (view : X → A) (over : Y → B) (step : Result A Fault) (rest : A → Result B Fault) (e : ColumnsError) → Says view step (Err e) → Says over (step >>= rest) (Err e)
+pub first_fails : {X Y A B : Type 0} (view : X → A) (over : Y → B) (step : Result A ElementFault) (rest : A → Result B ElementFault) (e : ColumnsError) → Says view step (Err e) → Says over (step >>= rest) (Err e)
 first_fails view over step rest (Broken fault) f = ap (λ r. r >>= rest) f
 first_fails view over step rest OutOfMemory f = tt
 
@@ -40,7 +40,7 @@ module _ (es : List Element) (at : ℕ) where
   unfolding node_at
   too_deep levels none = rw none refl
 
-  abbrev rest : ℕ → HeadTree → Result (NodeTree × ℕ) Fault
+  abbrev rest : ℕ → HeadTree → Result (NodeTree × ℕ) ElementFault
   rest levels h = nodes_by (node_at levels es) (at + 1) (children_of h.kind) >>= λ below. finished at h below.0 >>= λ n. Ok (n, below.1)
 
   next : (levels : ℕ) → 0 < levels → node_at levels es at ≡ (head_at es at >>= rest (levels - 1))
@@ -50,14 +50,14 @@ module _ (es : List Element) (at : ℕ) where
       let here : node_at (suc (levels - 1)) es at ≡ (head_at es at >>= rest (levels - 1)) = refl in
       ap (λ d. node_at d es at) k ∙ here
 
-  pub no_head : (levels : ℕ) (fault : Fault) → 0 < levels → head_at es at ≡ Err fault → node_at levels es at ≡ Err fault
+  pub no_head : (levels : ℕ) (fault : ElementFault) → 0 < levels → head_at es at ≡ Err fault → node_at levels es at ≡ Err fault
   no_head levels fault some e = next levels some ∙ ap (λ r. r >>= rest (levels - 1)) e
 
   module _ (h : HeadTree) (says : head_at es at ≡ Ok h) (levels : ℕ) (some : 0 < levels) (count : ℕ) (many : count ≡ children_of h.kind) where
-    abbrev below : Result (List NodeTree × ℕ) Fault
+    abbrev below : Result (List NodeTree × ℕ) ElementFault
     below = nodes_by (node_at (levels - 1) es) (at + 1) count
 
-    abbrev ends : List NodeTree × ℕ → Result (NodeTree × ℕ) Fault
+    abbrev ends : List NodeTree × ℕ → Result (NodeTree × ℕ) ElementFault
     ends b = finished at h b.0 >>= λ n. Ok (n, b.1)
 
     whole : node_at levels es at ≡ (below >>= ends)
@@ -74,21 +74,21 @@ module _ (es : List Element) (at : ℕ) where
       finish_fails view over e f = subst (λ r. Says over r (Err e)) (sym then_ends) (first_fails view over (finished at h b.0) (λ n. Ok (n, b.1)) e f)
 
       pub is_node : (n : NodeTree) → finished at h b.0 ≡ Ok n → node_at levels es at ≡ Ok (n, b.1)
-      is_node n is = then_ends ∙ ap (λ (r : Result NodeTree Fault). r >>= λ n. Ok (n, b.1)) is
+      is_node n is = then_ends ∙ ap (λ (r : Result NodeTree ElementFault). r >>= λ n. Ok (n, b.1)) is
 
 -- elements that were read before, and those that are still read
-abbrev pub with_front : List NodeTree → Result (List NodeTree × ℕ) Fault → Result (List NodeTree × ℕ) Fault
+abbrev pub with_front : List NodeTree → Result (List NodeTree × ℕ) ElementFault → Result (List NodeTree × ℕ) ElementFault
 with_front front there = there >>= λ x. Ok (front ++ x.0, x.1)
 
-pub starts : (there : Result (List NodeTree × ℕ) Fault) → with_front [] there ≡ there
+pub starts : (there : Result (List NodeTree × ℕ) ElementFault) → with_front [] there ≡ there
 starts (Ok x) = refl
 starts (Err e) = refl
 
-regroup : (front : List NodeTree) (n : NodeTree) (there : Result (List NodeTree × ℕ) Fault) → with_front front (there >>= λ o. Ok (n ∷ o.0, o.1)) ≡ with_front (front ++ n ∷ []) there
+regroup : (front : List NodeTree) (n : NodeTree) (there : Result (List NodeTree × ℕ) ElementFault) → with_front front (there >>= λ o. Ok (n ∷ o.0, o.1)) ≡ with_front (front ++ n ∷ []) there
 regroup front n (Ok x) = ap (λ (ys : List NodeTree). Ok (ys, x.1)) (simp append_assoc)
 regroup front n (Err e) = refl
 
-module _ (read : ℕ → Result (NodeTree × ℕ) Fault) (front : List NodeTree) (at i count : ℕ) (total : Result (List NodeTree × ℕ) Fault)
+module _ (read : ℕ → Result (NodeTree × ℕ) ElementFault) (front : List NodeTree) (at i count : ℕ) (total : Result (List NodeTree × ℕ) ElementFault)
     (so_far : with_front front (nodes_by read at (count - i)) ≡ total) where
   module _ (more : i < count) where
     turn : nodes_by read at (count - i) ≡ (read at >>= λ x. nodes_by read x.1 (count - (i + 1)) >>= λ o. Ok (x.0 ∷ o.0, o.1))
@@ -131,7 +131,7 @@ module _ (d : SchemaElement) where
   root_says (x ∷ es) n some is = rw is refl
 
   module _ (es : List SchemaElement) (n : ℕ) (some : 0 < length es) (is : (get_or es 0 d).num_children ≡ Some n) where
-    abbrev children : Result (List NodeTree × ℕ) Fault
+    abbrev children : Result (List NodeTree × ℕ) ElementFault
     children = nodes_by (node_at 64 (map element es)) 1 n
 
     pub below_fails : {X Y : Type 0} (view : X → List NodeTree × ℕ) (over : Y → List ColumnTree) (e : ColumnsError) → Says view children (Err e) → Says over (columns_of (map element es)) (Err e)

@@ -11,8 +11,8 @@ use Rattle.parquet_columns.specs.declared.annotation.Annotation.TheVariants.{Pla
 use Rattle.parquet_columns.specs.declared.columns.Kind.{Kind}
 use Rattle.parquet_columns.specs.declared.columns.Kind.TheVariants.{Leaf, Group}
 use Rattle.parquet_columns.specs.declared.columns.Head.{Head}
-use Rattle.parquet_columns.specs.declared.fault.Fault.{Fault}
-use Rattle.parquet_columns.specs.declared.fault.Rule.TheVariants.{Root, Children, Element as NoElement, Repetition as NoRepetition, Depth}
+use Rattle.parquet_columns.specs.declared.fault.ElementFault.{ElementFault}
+use Rattle.parquet_columns.specs.declared.fault.SchemaRule.TheVariants.{Root, Children, Element as NoElement, Repetition as NoRepetition, Depth}
 use Rattle.parquet_columns.specs.Fault.{breaks, ◌>>=◌}
 use Rattle.parquet_columns.specs.Meaning.{meaning_of}
 use Rattle.parquet_columns.specs.Leaf.{leaf_type}
@@ -24,15 +24,15 @@ abbrev pub has_children : Option ℕ → Bool
 has_children None = false
 has_children (Some n) = nat_lt 0 n
 
-abbrev pub group_at : ℕ → Option ℕ → Result Kind Fault
+abbrev pub group_at : ℕ → Option ℕ → Result Kind ElementFault
 group_at at None = breaks NoElement at
 group_at at (Some n) = if n == 0 then breaks NoElement at else Ok (Group n)
 
-abbrev pub kind_at : ℕ → Option PhysicalType → Option ℕ → Result Kind Fault
+abbrev pub kind_at : ℕ → Option PhysicalType → Option ℕ → Result Kind ElementFault
 kind_at at (Some physical) count = if has_children count then breaks NoElement at else Ok (Leaf physical)
 kind_at at None count = group_at at count
 
-abbrev pub repetition_at : ℕ → Option Repetition → Result Repetition Fault
+abbrev pub repetition_at : ℕ → Option Repetition → Result Repetition ElementFault
 repetition_at at None = breaks NoRepetition at
 repetition_at at (Some repetition) = Ok repetition
 
@@ -41,7 +41,7 @@ children_of (Leaf physical) = 0
 children_of (Group n) = n
 
 -- the element with that index, which is there, and what it says
-abbrev pub element_at : ℕ → Option Element → Result Element Fault
+abbrev pub element_at : ℕ → Option Element → Result Element ElementFault
 element_at at None = breaks Children at
 element_at at (Some e) = Ok e
 
@@ -53,7 +53,7 @@ pub record HeadTree : Type 0 where
 abbrev pub head_tree : Head → HeadTree
 head_tree h = record { element = element h.element.now; kind = h.kind; repetition = h.repetition }
 
-unfoldable pub head_at : List Element → ℕ → Result HeadTree Fault
+unfoldable pub head_at : List Element → ℕ → Result HeadTree ElementFault
 head_at es at = do
   e ← element_at at (slice_get es at)
   kind ← kind_at at e.storage.physical_type e.num_children
@@ -61,30 +61,30 @@ head_at es at = do
   Ok (record { element = e; kind = kind; repetition = repetition })
 
 -- what an element stands for, by the elements below it
-unfoldable pub leaf_shape : ℕ → PhysicalType → Element → Result ShapeTree Fault
+unfoldable pub leaf_shape : ℕ → PhysicalType → Element → Result ShapeTree ElementFault
 leaf_shape at physical e = do
   t ← leaf_type at physical (meaning_of e) e.storage.type_length e.precision e.scale
   Ok (typed t)
 
-abbrev pub group_by : Annotation → ℕ → Text → List NodeTree → Result ShapeTree Fault
+abbrev pub group_by : Annotation → ℕ → Text → List NodeTree → Result ShapeTree ElementFault
 group_by Plain at name ns = Ok (group_shape ns)
 group_by ListGroup at name ns = list_shape at name ns
 group_by MapGroup at name ns = map_shape at ns
 
-abbrev pub shape_by : Kind → ℕ → Element → List NodeTree → Result ShapeTree Fault
+abbrev pub shape_by : Kind → ℕ → Element → List NodeTree → Result ShapeTree ElementFault
 shape_by (Leaf physical) at e ns = leaf_shape at physical e
 shape_by (Group n) at e ns = group_by (annotation_of e) at e.storage.name ns
 
-abbrev pub shape_at : ℕ → HeadTree → List NodeTree → Result ShapeTree Fault
+abbrev pub shape_at : ℕ → HeadTree → List NodeTree → Result ShapeTree ElementFault
 shape_at at h ns = shape_by h.kind at h.element ns
 
-unfoldable pub finished : ℕ → HeadTree → List NodeTree → Result NodeTree Fault
+unfoldable pub finished : ℕ → HeadTree → List NodeTree → Result NodeTree ElementFault
 finished at h ns = do
   shape ← shape_at at h ns
   Ok (record { name = h.element.storage.name; repetition = h.repetition; shape = shape })
 
 -- so many elements, each with all that is below it, from an index on; and the index behind them
-unfoldable pub nodes_by : (ℕ → Result (NodeTree × ℕ) Fault) → ℕ → ℕ → Result (List NodeTree × ℕ) Fault
+unfoldable pub nodes_by : (ℕ → Result (NodeTree × ℕ) ElementFault) → ℕ → ℕ → Result (List NodeTree × ℕ) ElementFault
 nodes_by read at zero = Ok ([], at)
 nodes_by read at (suc n) = do
   first ← read at
@@ -92,7 +92,7 @@ nodes_by read at (suc n) = do
   Ok (first.0 ∷ others.0, others.1)
 
 -- the element with that index and all that is below it, no more than so many levels deep; and the index behind it
-unfoldable pub node_at : ℕ → List Element → ℕ → Result (NodeTree × ℕ) Fault
+unfoldable pub node_at : ℕ → List Element → ℕ → Result (NodeTree × ℕ) ElementFault
 node_at zero es at = breaks Depth at
 node_at (suc levels) es at = do
   h ← head_at es at
@@ -100,16 +100,16 @@ node_at (suc levels) es at = do
   n ← finished at h below.0
   Ok (n, below.1)
 
-abbrev pub root_count : Option ℕ → Result ℕ Fault
+abbrev pub root_count : Option ℕ → Result ℕ ElementFault
 root_count None = breaks Root 0
 root_count (Some n) = Ok n
 
 -- the columns, which use up the elements
-abbrev pub used_up : List Element → List NodeTree × ℕ → Result (List ColumnTree) Fault
+abbrev pub used_up : List Element → List NodeTree × ℕ → Result (List ColumnTree) ElementFault
 used_up es below = if below.1 == length es then Ok (map column_of below.0) else breaks Children below.1
 
 -- the first element is the root, which says how many columns there are
-unfoldable pub columns_of : List Element → Result (List ColumnTree) Fault
+unfoldable pub columns_of : List Element → Result (List ColumnTree) ElementFault
 columns_of [] = breaks Root 0
 columns_of (root ∷ es) = do
   n ← root_count root.num_children

@@ -12,7 +12,7 @@ use Rattle.geoarrow_meta.specs.declared.edges.Edges.{Edges}
 use Rattle.geoarrow_meta.specs.declared.edges.Edges.TheVariants as edges
 use Rattle.geoarrow_meta.specs.declared.crs.crs_type.CrsType.{CrsType}
 use Rattle.geoarrow_meta.specs.declared.crs.crs_type.CrsType.TheVariants.{Projjson, AuthorityCode, Srid}
-use Rattle.geoarrow_meta.specs.CrsText.{is_projjson}
+use Rattle.geoarrow_meta.specs.CrsText.{is_projjson_text}
 use Rattle.geoarrow_meta.specs.MetadataText.{metadata_tokens}
 use Rattle.parquet_footer.specs.declared.element.PhysicalType.{PhysicalType}
 use Rattle.parquet_footer.specs.declared.element.PhysicalType.TheVariants.{ByteArray}
@@ -36,7 +36,7 @@ abbrev pub text_crs : Text → Option CrsType → TypedCrs
 text_crs s t = record { tokens = string s ∷ []; crs_type = t }
 
 abbrev pub json_or : Text → TypedCrs → TypedCrs
-json_or s other = if is_projjson s then (record { tokens = tokens s; crs_type = Some Projjson }) else other
+json_or s other = if is_projjson_text s then (record { tokens = tokens s; crs_type = Some Projjson }) else other
 
 -- what stands before the first colon of a text and behind it
 abbrev pub is_colon : ℕ → Bool

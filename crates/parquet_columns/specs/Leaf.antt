@@ -8,8 +8,8 @@ use Rattle.parquet_footer.specs.declared.element.PhysicalType.{PhysicalType}
 use Rattle.parquet_footer.specs.declared.element.PhysicalType.TheVariants.{Boolean, Int32, Int64, Int96, Float, Double, ByteArray, FixedLenByteArray}
 use Rattle.parquet_footer.specs.declared.logical.TimeUnit.{TimeUnit}
 use Rattle.parquet_footer.specs.declared.logical.TimeUnit.TheVariants.{Millisecond, Microsecond, Nanosecond}
-use Rattle.parquet_columns.specs.declared.fault.Fault.{Fault}
-use Rattle.parquet_columns.specs.declared.fault.Rule.TheVariants.{Length}
+use Rattle.parquet_columns.specs.declared.fault.ElementFault.{ElementFault}
+use Rattle.parquet_columns.specs.declared.fault.SchemaRule.TheVariants.{Length}
 use Rattle.parquet_columns.specs.declared.meaning.Meaning.{Meaning}
 use Rattle.parquet_columns.specs.declared.meaning.Meaning.TheVariants.{Null, Text as Texts, Decimal, Date, Time, Timestamp, Integer, Half}
 use Rattle.parquet_columns.specs.Fault.{breaks}
@@ -103,7 +103,7 @@ decimal_text precision scale =
     codes "decimal256(" ++ (decimal precision ++ (codes ", " ++ (decimal scale ++ codes ")")))
 
 -- values of a fixed length
-abbrev pub fixed_type : ℕ → Option ℕ → Result TypeTree Fault
+abbrev pub fixed_type : ℕ → Option ℕ → Result TypeTree ElementFault
 fixed_type at None = breaks Length at
 fixed_type at (Some length) = if nat_lt length (2 ^ 31) then Ok (other (sized_text (codes "fixed_size_binary") (pos length))) else breaks Length at
 
@@ -112,14 +112,14 @@ is_null Null = true
 is_null _ = false
 
 -- the first of these that there is: a time, a decimal, a data type; or values of a fixed length
-abbrev pub first_type : Option Text → Option ℕ → ℕ → Option Plain → Result TypeTree Fault → Result TypeTree Fault
+abbrev pub first_type : Option Text → Option ℕ → ℕ → Option Plain → Result TypeTree ElementFault → Result TypeTree ElementFault
 first_type (Some clock) digits scale p fixed = Ok (other clock)
 first_type None (Some precision) scale p fixed = Ok (other (decimal_text precision scale))
 first_type None None scale (Some p) fixed = Ok (known (plain p))
 first_type None None scale None fixed = fixed
 
 -- the type of the leaf with that index, by its storage, its meaning, its length, its precision and its scale
-unfoldable pub leaf_type : ℕ → PhysicalType → Meaning → Option ℕ → Option ℕ → Option ℕ → Result TypeTree Fault
+unfoldable pub leaf_type : ℕ → PhysicalType → Meaning → Option ℕ → Option ℕ → Option ℕ → Result TypeTree ElementFault
 leaf_type at physical m length precision scale =
     if is_null m then Ok (known (plain null)) else
     first_type (clock_text physical m) (digits_of physical m precision) (unwrap_or scale 0) (plain_of physical m length) (fixed_type at length)

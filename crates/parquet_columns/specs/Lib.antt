@@ -12,3 +12,4 @@ pub mod Marks
 pub mod Reads
 pub mod Typed
 pub mod Values
+pub mod Rules

@@ -8,8 +8,8 @@ use Rattle.arrow_columns.specs.Nested.{list_type, struct_type}
 use Rattle.arrow_columns.specs.declared.nested.ListForm.TheVariants.{Small}
 use Rattle.parquet_footer.specs.declared.element.Repetition.{Repetition}
 use Rattle.parquet_footer.specs.declared.element.Repetition.TheVariants.{Optional, Repeated}
-use Rattle.parquet_columns.specs.declared.fault.Fault.{Fault}
-use Rattle.parquet_columns.specs.declared.fault.Rule.TheVariants.{List as ListRule, Map as MapRule}
+use Rattle.parquet_columns.specs.declared.fault.ElementFault.{ElementFault}
+use Rattle.parquet_columns.specs.declared.fault.SchemaRule.TheVariants.{List as ListRule, Map as MapRule}
 use Rattle.parquet_columns.specs.declared.nodes.Shape.{Shape}
 use Rattle.parquet_columns.specs.declared.nodes.Shape.TheVariants.{Typed, Wrapper, Group}
 use Rattle.parquet_columns.specs.declared.nodes.Node.{Node}
@@ -81,10 +81,10 @@ item_by list name (typed t) = plain_column name false t
 item_by list name (group cs) = plain_column name false (struct_type cs)
 
 -- a LIST has one element below it, which is repeated
-abbrev pub list_of : ℕ → Text → NodeTree → Result ShapeTree Fault
+abbrev pub list_of : ℕ → Text → NodeTree → Result ShapeTree ElementFault
 list_of at list n = if is_repeated n.repetition then Ok (typed (list_type Small (item_by list n.name n.shape))) else breaks ListRule at
 
-abbrev pub list_shape : ℕ → Text → List NodeTree → Result ShapeTree Fault
+abbrev pub list_shape : ℕ → Text → List NodeTree → Result ShapeTree ElementFault
 list_shape at list [] = breaks ListRule at
 list_shape at list (n ∷ []) = list_of at list n
 list_shape at list (n ∷ m ∷ ns) = breaks ListRule at
@@ -98,10 +98,10 @@ is_group (group cs) = true
 abbrev pub map_type : Text → TypeTree → TypeTree
 map_type name entries = other (nested_text (codes "map") (part_text name (type_text entries) false ∷ []))
 
-abbrev pub map_of : ℕ → NodeTree → Result ShapeTree Fault
+abbrev pub map_of : ℕ → NodeTree → Result ShapeTree ElementFault
 map_of at n = if is_repeated n.repetition && is_group n.shape then Ok (typed (map_type n.name (shape_type n.shape))) else breaks MapRule at
 
-abbrev pub map_shape : ℕ → List NodeTree → Result ShapeTree Fault
+abbrev pub map_shape : ℕ → List NodeTree → Result ShapeTree ElementFault
 map_shape at [] = breaks MapRule at
 map_shape at (n ∷ []) = map_of at n
 map_shape at (n ∷ m ∷ ns) = breaks MapRule at

@@ -7,7 +7,7 @@ use Rattle.base64.specs.Engines.{standard}
 use Rattle.base64.specs.GeneralPurpose.{decode_of}
 use Rattle.base64.specs.declared.decode.DecodeError.{DecodeError}
 use Rattle.arrow_columns.specs.Column.{ColumnTree, column_tree}
-use Rattle.arrow_columns.specs.declared.column.Column.{Column}
+use Rattle.arrow_columns.specs.declared.column.SchemaColumn.{SchemaColumn}
 use Rattle.arrow_ipc.specs.Schema.{message_in, schema_of_message, Meets}
 use Rattle.arrow_ipc.specs.declared.schema.Schema.{Schema}
 use Rattle.parquet_footer.specs.Footer.{Contents, footer_at}
@@ -16,7 +16,7 @@ use Rattle.parquet_footer.specs.declared.fault.Fault as footers
 use Rattle.parquet_footer.specs.declared.fault.FooterError.{FooterError}
 use Rattle.parquet_footer.specs.declared.fault.FooterError.TheVariants.{NotParquet, Invalid}
 use Rattle.parquet_columns.specs.Columns.{columns_of}
-use Rattle.parquet_columns.specs.declared.fault.Fault as elements
+use Rattle.parquet_columns.specs.declared.fault.ElementFault as elements
 use Rattle.arrow_values.specs.Tree.{Text}
 use Rattle.parquet_columns.specs.Keys.{schema_key, value_of}
 use Rattle.parquet_columns.specs.Budget.{budget}
@@ -32,7 +32,7 @@ same_names (c ∷ cs) [] = false
 same_names (c ∷ cs) (d ∷ ds) = bytes_eq c.name d.name && same_names cs ds
 
 -- what is made of the elements: their columns, or the rule that they break
-abbrev pub IsBuilt : Result (List ColumnTree) elements.Fault → Result (Vec Column Global) SchemaError → Type 0
+abbrev pub IsBuilt : Result (List ColumnTree) elements.ElementFault → Result (Vec SchemaColumn Global) SchemaError → Type 0
 IsBuilt there (Ok columns) = there ≡ Ok (map column_tree columns.items)
 IsBuilt there (Err (Elements fault)) = there ≡ Err fault
 IsBuilt there (Err OutOfMemory) = ⊤
@@ -53,35 +53,35 @@ HoldsSchema bytes (Err OutOfMemory) = ⊤
 HoldsSchema bytes (Err _) = ⊥
 
 -- the columns of a schema in base64, beside those of the elements
-abbrev pub IsNamed : List ColumnTree → Schema → Result (Vec Column Global) SchemaError → Type 0
+abbrev pub IsNamed : List ColumnTree → Schema → Result (Vec SchemaColumn Global) SchemaError → Type 0
 IsNamed cs s (Ok columns) = (columns ≡ s.columns) × (same_names (map column_tree columns.items) cs ≡ true)
 IsNamed cs s (Err Names) = same_names (map column_tree s.columns.items) cs ≡ false
 IsNamed cs s (Err _) = ⊥
 
-abbrev pub IsStoredRead : List ColumnTree → Text → Result (Vec Column Global) SchemaError → Type 0
+abbrev pub IsStoredRead : List ColumnTree → Text → Result (Vec SchemaColumn Global) SchemaError → Type 0
 IsStoredRead cs text (Err OutOfMemory) = ⊤
 IsStoredRead cs text (Err (Encoding error)) = decode_of standard text ≡ Err error
 IsStoredRead cs text (Err (Ipc error)) = (bytes : List ℕ) × (decode_of standard text ≡ Ok bytes) × HoldsSchema bytes (Err (Ipc error))
 IsStoredRead cs text r = (bytes : List ℕ) × (decode_of standard text ≡ Ok bytes) × (s : Schema) × HoldsSchema bytes (Ok s) × IsNamed cs s r
 
 -- the columns of a footer: by the elements of its schema and the value of the key
-abbrev pub IsReadBy : Result (List ColumnTree) elements.Fault → Option Text → Result (Vec Column Global) SchemaError → Type 0
+abbrev pub IsReadBy : Result (List ColumnTree) elements.ElementFault → Option Text → Result (Vec SchemaColumn Global) SchemaError → Type 0
 IsReadBy (Ok cs) (Some text) r = IsStoredRead cs text r
 IsReadBy there value r = IsBuilt there r
 
 -- the columns that the schema of a footer denotes, or the value of the key
-abbrev pub AreStored : Contents → Result (Vec Column Global) SchemaError → Type 0
+abbrev pub AreStored : Contents → Result (Vec SchemaColumn Global) SchemaError → Type 0
 AreStored c r = IsReadBy (columns_of c.schema) (value_of schema_key c.key_value_metadata) r
 
 -- how many bytes the extension metadata have that geometry types give the columns
-abbrev pub given_to : Contents → Vec Column Global → ℕ
+abbrev pub given_to : Contents → Vec SchemaColumn Global → ℕ
 given_to c stored = given_bytes c.key_value_metadata (root_children c.schema) (map column_tree stored.items)
 
 -- the columns of a footer of so many bytes: those, of which the ones of geometry types have the extension that their elements denote, within the budget
-abbrev pub IsFooterRead : ℕ → Contents → Result (Vec Column Global) SchemaError → Type 0
-IsFooterRead n c (Ok columns) = (stored : Vec Column Global) × AreStored c (Ok stored) × (given_to c stored ≤ budget n)
+abbrev pub IsFooterRead : ℕ → Contents → Result (Vec SchemaColumn Global) SchemaError → Type 0
+IsFooterRead n c (Ok columns) = (stored : Vec SchemaColumn Global) × AreStored c (Ok stored) × (given_to c stored ≤ budget n)
     × (map column_tree columns.items ≡ marked_columns c.key_value_metadata (root_children c.schema) (map column_tree stored.items))
-IsFooterRead n c (Err Budget) = (stored : Vec Column Global) × AreStored c (Ok stored) × (budget n < given_to c stored)
+IsFooterRead n c (Err Budget) = (stored : Vec SchemaColumn Global) × AreStored c (Ok stored) × (budget n < given_to c stored)
 IsFooterRead n c (Err error) = AreStored c (Err error)
 
 -- the footer at the end of a file: its length and the magic stand behind it, in eight bytes
@@ -95,14 +95,14 @@ footer_in bytes =
     footer_before (take (length bytes - 8) bytes) (length_at (drop (length bytes - 8) bytes))
 
 -- what is read of the bytes of a footer: the columns of its contents; or which rule they break, and where
-abbrev pub IsParsed : List ℕ → Result Contents footers.Fault → Result (Vec Column Global) SchemaError → Type 0
+abbrev pub IsParsed : List ℕ → Result Contents footers.ElementFault → Result (Vec SchemaColumn Global) SchemaError → Type 0
 IsParsed bytes (Ok c) r = IsFooterRead (length bytes) c r
 IsParsed bytes (Err fault) (Err OutOfMemory) = ⊤
 IsParsed bytes (Err fault) (Err (Footer (Invalid rule offset))) = (rule ≡ fault.rule) × (offset + fault.left ≡ length bytes)
 IsParsed bytes (Err fault) r = ⊥
 
 -- what is read of a file, by the footer at its end
-abbrev pub IsFileRead : Result (List ℕ) SchemaError → Result (Vec Column Global) SchemaError → Type 0
+abbrev pub IsFileRead : Result (List ℕ) SchemaError → Result (Vec SchemaColumn Global) SchemaError → Type 0
 IsFileRead (Err error) r = r ≡ Err error
 IsFileRead (Ok footer) r = IsParsed footer (footer_at footer) r
 

@@ -7,11 +7,11 @@ ghost use Rattle.parquet_columns.specs.Nodes.{shape_tree, node_tree};
 ghost use Rattle.parquet_columns.specs.Columns.{kind_at, head_tree, head_at, children_of, leaf_shape, shape_at, nodes_by, node_at, columns_of};
 
 use crate::annotation::{Annotation, annotation_of};
-use crate::fault::{ColumnsError, Fault, Rule};
+use crate::fault::{ColumnsError, ElementFault, SchemaRule};
 use crate::leaf::leaf_type;
 use crate::meaning::meaning_of;
 use crate::nodes::{Node, Shape, columns_of_nodes, group_shape, list_shape, map_shape};
-use arrow_columns::Column;
+use arrow_columns::SchemaColumn;
 use parquet_footer::{Footer, PhysicalType, Repetition, SchemaElement};
 use std::alloc::Global;
 
@@ -36,29 +36,29 @@ struct Head<'s, 'a> {
 }
 
 /// Whether an element is a leaf or a group.
-fn kind_at(at: usize, physical: Option<PhysicalType>, count: Option<u32>) -> Result<Kind, Fault>
+fn kind_at(at: usize, physical: Option<PhysicalType>, count: Option<u32>) -> Result<Kind, ElementFault>
     ensures { result ≡ kind_at at physical count }
 {
     match (physical, count) {
         (Some(physical), None | Some(0)) => Ok(Kind::Leaf(physical)),
         (None, Some(count)) if 0 < count => Ok(Kind::Group(count)),
-        _ => Err(Fault::new(Rule::Element, at)),
+        _ => Err(ElementFault::new(SchemaRule::Element, at)),
     }
 }
 
 /// What the element with that index says.
 #[tactic(auto, using(crate::proofs::Walks::there_is, crate::proofs::Walks::none_is), unfolding(crate::specs::Columns::head_at))]
-fn head_at<'s, 'a>(elements: &'s [SchemaElement<'a>], at: usize) -> Result<Head<'s, 'a>, Fault>
+fn head_at<'s, 'a>(elements: &'s [SchemaElement<'a>], at: usize) -> Result<Head<'s, 'a>, ElementFault>
     ensures is { map_ok head_tree result ≡ head_at (map element elements.now) at }
     ensures within { IfOk result (λ _. at < length elements.now) }
 {
     if at >= elements.len() {
-        return Err(Fault::new(Rule::Children, at));
+        return Err(ElementFault::new(SchemaRule::Children, at));
     }
     let element = &elements[at];
     let kind = kind_at(at, element.storage.physical_type, element.num_children)?;
     let Some(repetition) = element.storage.repetition else {
-        return Err(Fault::new(Rule::Repetition, at));
+        return Err(ElementFault::new(SchemaRule::Repetition, at));
     };
     Ok(Head {
         element,
@@ -131,7 +131,7 @@ fn read_node<'a>(
     ensures { Says (λ x. (node_tree x.0, x.1)) (node_at levels (map element elements.now) at) result }
 {
     if levels == 0 {
-        return Err(ColumnsError::Broken(Fault::new(Rule::Depth, at)));
+        return Err(ColumnsError::Broken(ElementFault::new(SchemaRule::Depth, at)));
     }
     let head = head_at(elements, at)?;
     let count = children_of(head.kind);
@@ -183,7 +183,7 @@ fn read_nodes<'a>(
 ///
 /// Errs with the first rule of the schema that is broken, and the element's place, counted from the root, which is 0; and when
 /// out of memory. At most 64 levels of elements are read.
-pub fn columns_of(alloc: Global, footer: &Footer<'_>) -> Result<Vec<Column>, ColumnsError>
+pub fn columns_of(alloc: Global, footer: &Footer<'_>) -> Result<Vec<SchemaColumn>, ColumnsError>
     ensures { Says (λ v. map column_tree v.items) (columns_of (map element footer.now.schema.items)) result }
 {
     columns_in(alloc, footer.schema.as_slice())
@@ -191,18 +191,18 @@ pub fn columns_of(alloc: Global, footer: &Footer<'_>) -> Result<Vec<Column>, Col
 
 /// The columns of the elements of a schema.
 #[tactic(auto, using(crate::proofs::Walks::left_over))]
-fn columns_in(alloc: Global, elements: &[SchemaElement<'_>]) -> Result<Vec<Column>, ColumnsError>
+fn columns_in(alloc: Global, elements: &[SchemaElement<'_>]) -> Result<Vec<SchemaColumn>, ColumnsError>
     ensures { Says (λ v. map column_tree v.items) (columns_of (map element elements.now)) result }
 {
     if elements.is_empty() {
-        return Err(ColumnsError::Broken(Fault::new(Rule::Root, 0)));
+        return Err(ColumnsError::Broken(ElementFault::new(SchemaRule::Root, 0)));
     }
     let Some(count) = elements[0].num_children else {
-        return Err(ColumnsError::Broken(Fault::new(Rule::Root, 0)));
+        return Err(ColumnsError::Broken(ElementFault::new(SchemaRule::Root, 0)));
     };
     let (below, next) = read_nodes(alloc, elements, 1, count, NESTING_LIMIT)?;
     if next != elements.len() {
-        return Err(ColumnsError::Broken(Fault::new(Rule::Children, next)));
+        return Err(ColumnsError::Broken(ElementFault::new(SchemaRule::Children, next)));
     }
     Ok(columns_of_nodes(alloc, below)?)
 }

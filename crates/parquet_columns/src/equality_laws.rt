@@ -1,10 +1,10 @@
 //! Laws of `==`: it returns true for two values exactly if they are the same.
 ghost use Rattle.std.specs.Prelude.{◌≡◌, ◌↔◌, IsTrue};
 
-use crate::fault::{ColumnsError, Rule};
+use crate::fault::{ColumnsError, SchemaRule};
 
 /// A law: `==` returns true for two rules exactly if they are the same.
-pub fn rule_equality_is_exact(one: Rule, other: Rule) -> bool
+pub fn rule_equality_is_exact(one: SchemaRule, other: SchemaRule) -> bool
     ensures { IsTrue result ↔ (one ≡ other) }
 {
     one == other

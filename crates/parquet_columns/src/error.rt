@@ -1,9 +1,11 @@
 //! Why a file has no columns.
 ghost use Rattle.std.specs.Prelude.{◌≡◌};
 ghost use Rattle.parquet_columns.specs.SchemaFault.{error_of};
+ghost use Rattle.parquet_columns.specs.Rules.{error_code, error_message};
 ghost use Rattle.parquet_columns.specs.declared.error.SchemaError.TheVariants.{OutOfMemory};
 
-use crate::fault::Fault;
+use crate::budget::TOO_LARGE;
+use crate::fault::ElementFault;
 use arrow_ipc::IpcError;
 use base64::DecodeError;
 use parquet_footer::FooterError;
@@ -17,7 +19,7 @@ pub enum SchemaError {
     /// The footer is longer than what stands before its length.
     Cut,
     /// The elements of the schema break a rule, with the element's index.
-    Elements(Fault),
+    Elements(ElementFault),
     /// The value of the key `ARROW:schema` is not base64, with the offset.
     Encoding(DecodeError),
     /// The value of the key `ARROW:schema` holds no schema, with the rule and the byte.
@@ -29,6 +31,40 @@ pub enum SchemaError {
     Budget,
     /// Out of memory.
     OutOfMemory,
+}
+
+impl SchemaError {
+    /// Returns the code of the error, as reports have it (`docs/FORMAT.md`, 2.8): that of the rule, if one is broken.
+    pub fn code(self) -> &'static str
+        ensures { result.now ≡ error_code self }
+    {
+        match self {
+            SchemaError::Footer(error) => error.code(),
+            SchemaError::Cut => "FooterCut",
+            SchemaError::Elements(fault) => fault.rule.code(),
+            SchemaError::Encoding(_) => "StoredBase64",
+            SchemaError::Ipc(error) => error.code(),
+            SchemaError::Names => "StoredNames",
+            SchemaError::Budget => "ReportTooLarge",
+            SchemaError::OutOfMemory => "OutOfMemory",
+        }
+    }
+
+    /// Returns what is wrong.
+    pub fn message(self) -> &'static str
+        ensures { result.now ≡ error_message self }
+    {
+        match self {
+            SchemaError::Footer(error) => error.message(),
+            SchemaError::Cut => "the footer is larger than the file",
+            SchemaError::Elements(fault) => fault.rule.message(),
+            SchemaError::Encoding(_) => "the schema at ARROW:schema is not base64",
+            SchemaError::Ipc(error) => error.message(),
+            SchemaError::Names => "the schema at ARROW:schema has columns of other names",
+            SchemaError::Budget => TOO_LARGE,
+            SchemaError::OutOfMemory => "out of memory",
+        }
+    }
 }
 
 impl From<AllocError> for SchemaError {

@@ -1,53 +1,79 @@
 //! Why a schema has no columns.
 ghost use Rattle.std.specs.Prelude.{◌≡◌};
+ghost use Rattle.parquet_columns.specs.Rules.{rule_code, rule_message};
 ghost use Rattle.parquet_columns.specs.declared.fault.ColumnsError.TheVariants.{Broken, OutOfMemory};
 
 use std::alloc::{AllocError, AllocFailed};
-use thiserror::Error;
 
 /// A rule of the schema (`docs/FORMAT.md`, 4.4), as what is wrong where it is broken.
-#[derive(Clone, Copy, Debug, PartialEq, Eq, Error)]
-pub enum Rule {
+#[derive(Clone, Copy, Debug, PartialEq, Eq)]
+pub enum SchemaRule {
     /// The first element is the root, a group.
-    #[error("no root")]
     Root,
     /// The children of the root, with all that is below them, are the elements behind it.
-    #[error("a wrong number of children")]
     Children,
     /// An element below the root is a leaf, which says how its values are stored, or a group, which has children.
-    #[error("an element that is neither a leaf nor a group")]
     Element,
     /// An element below the root has a repetition.
-    #[error("an element without a repetition")]
     Repetition,
     /// Values of a fixed length have a length, which is below 2^31.
-    #[error("a fixed length that is not there or too large")]
     Length,
     /// A LIST has one element below it, which is repeated.
-    #[error("a list without one repeated element")]
     List,
     /// A MAP has one element below it, which is a repeated group.
-    #[error("a map without one repeated group")]
     Map,
     /// Elements are nested at most `NESTING_LIMIT` levels deep.
-    #[error("nested too deep")]
     Depth,
+}
+
+impl SchemaRule {
+    /// Returns the code of the rule, as reports have it (`docs/FORMAT.md`, 2.8).
+    pub fn code(self) -> &'static str
+        ensures { result.now ≡ rule_code self }
+    {
+        match self {
+            SchemaRule::Root => "SchemaRoot",
+            SchemaRule::Children => "SchemaChildren",
+            SchemaRule::Element => "SchemaElement",
+            SchemaRule::Repetition => "SchemaRepetition",
+            SchemaRule::Length => "SchemaLength",
+            SchemaRule::List => "SchemaList",
+            SchemaRule::Map => "SchemaMap",
+            SchemaRule::Depth => "SchemaDepth",
+        }
+    }
+
+    /// Returns what is wrong where the rule is broken.
+    pub fn message(self) -> &'static str
+        ensures { result.now ≡ rule_message self }
+    {
+        match self {
+            SchemaRule::Root => "no root",
+            SchemaRule::Children => "a wrong number of children",
+            SchemaRule::Element => "an element that is neither a leaf nor a group",
+            SchemaRule::Repetition => "an element without a repetition",
+            SchemaRule::Length => "a fixed length that is not there or too large",
+            SchemaRule::List => "a list without one repeated element",
+            SchemaRule::Map => "a map without one repeated group",
+            SchemaRule::Depth => "nested too deep",
+        }
+    }
 }
 
 /// A rule that is broken, and by which element.
 #[derive(Clone, Copy, Debug, PartialEq, Eq)]
-pub struct Fault {
+pub struct ElementFault {
     /// The rule.
-    pub rule: Rule,
+    pub rule: SchemaRule,
     /// The element, counted from the root, which is 0; past the last one where an element is missing.
     pub at: usize,
 }
 
-impl Fault {
-    pub(crate) fn new(rule: Rule, at: usize) -> Fault
+impl ElementFault {
+    pub(crate) fn new(rule: SchemaRule, at: usize) -> ElementFault
         ensures { result ≡ record { rule = rule; at = at } }
     {
-        Fault { rule, at }
+        ElementFault { rule, at }
     }
 }
 
@@ -55,15 +81,15 @@ impl Fault {
 #[derive(Clone, Copy, Debug, PartialEq, Eq)]
 pub enum ColumnsError {
     /// The elements break a rule.
-    Broken(Fault),
+    Broken(ElementFault),
     /// Out of memory.
     OutOfMemory,
 }
 
-impl From<Fault> for ColumnsError {
+impl From<ElementFault> for ColumnsError {
     ghost from_gives = { λ fault e. e ≡ Broken fault };
 
-    fn from(fault: Fault) -> ColumnsError {
+    fn from(fault: ElementFault) -> ColumnsError {
         ColumnsError::Broken(fault)
     }
 }

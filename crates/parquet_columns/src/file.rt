@@ -7,7 +7,7 @@ ghost use Rattle.parquet_columns.specs.Reads.{footer_in, IsFileRead, IsValueRead
 use crate::error::{SchemaError, error_of};
 use crate::footer::columns_of_footer;
 use crate::keys::value_of;
-use arrow_columns::Column;
+use arrow_columns::SchemaColumn;
 use parquet_footer::{FooterError, footer_length, read_footer};
 use std::alloc::Global;
 
@@ -44,7 +44,7 @@ pub fn footer_in(end: &[u8]) -> Result<&[u8], SchemaError>
 #[derive(Debug, Drop)]
 pub struct FileColumns<'a> {
     /// Its columns.
-    pub columns: Vec<Column>,
+    pub columns: Vec<SchemaColumn>,
     /// The value of a key in its key-value metadata, as [`value_of`] answers it: a part of the
     /// bytes that were read.
     pub value: Option<&'a str>,

@@ -16,7 +16,7 @@ use crate::fault::ColumnsError;
 use crate::keys::ARROW_SCHEMA_KEY;
 use crate::marks::marked_columns;
 use crate::values::KeyValues;
-use arrow_columns::Column;
+use arrow_columns::SchemaColumn;
 use arrow_ipc::{IpcError, Schema, read_schema};
 use base64::DecodeAllocError;
 use base64::engine::general_purpose::STANDARD;
@@ -24,7 +24,7 @@ use parquet_footer::Footer;
 use std::alloc::Global;
 
 /// Whether columns have the same names in the same order.
-fn same_names(columns: &[Column], others: &[Column]) -> bool
+fn same_names(columns: &[SchemaColumn], others: &[SchemaColumn]) -> bool
     ensures { result ≡ same_names (map column_tree columns.now) (map column_tree others.now) }
 {
     let mut rest = others.iter();
@@ -40,7 +40,7 @@ fn same_names(columns: &[Column], others: &[Column]) -> bool
 }
 
 /// The columns of the elements of a footer's schema.
-fn columns_of_elements(alloc: Global, footer: &Footer<'_>) -> Result<Vec<Column>, SchemaError>
+fn columns_of_elements(alloc: Global, footer: &Footer<'_>) -> Result<Vec<SchemaColumn>, SchemaError>
     ensures { IsBuilt (columns_of (map element footer.now.schema.items)) result }
 {
     match columns_of(alloc, footer) {
@@ -76,8 +76,8 @@ fn schema_of(alloc: Global, message: &[u8]) -> Result<Schema, SchemaError>
 fn columns_of_text(
     alloc: Global,
     text: &str,
-    columns: &[Column],
-) -> Result<Vec<Column>, SchemaError>
+    columns: &[SchemaColumn],
+) -> Result<Vec<SchemaColumn>, SchemaError>
     ensures { IsReadBy (Ok (map column_tree columns.now)) (Some text.now) result }
 {
     let message = decode(alloc, text)?;
@@ -93,7 +93,7 @@ fn stored_columns(
     alloc: Global,
     footer: &Footer<'_>,
     values: &KeyValues<'_, '_>,
-) -> Result<Vec<Column>, SchemaError>
+) -> Result<Vec<SchemaColumn>, SchemaError>
     ensures { let schema = map element footer.now.schema.items in
         AreStored (record { schema = schema; key_value_metadata = values.now }) result }
 {
@@ -121,7 +121,7 @@ pub fn columns_of_footer(
     alloc: Global,
     footer: &Footer<'_>,
     bytes: usize,
-) -> Result<Vec<Column>, SchemaError>
+) -> Result<Vec<SchemaColumn>, SchemaError>
     ensures { IsFooterRead bytes (contents footer.now) result }
 {
     let mut values = KeyValues::new(alloc, footer.key_value_metadata.as_slice())?;

@@ -8,7 +8,7 @@ ghost use Rattle.parquet_columns.specs.Typed.{IsNamed};
 ghost use Rattle.parquet_columns.specs.Geometry.{text_crs, colon_parts, coded_crs, crs_in, edges_of, text_with, logical_text, is_plain_leaf, extension_text};
 
 use crate::values::KeyValues;
-use geoarrow_meta::{CrsType, Edges, WrittenCrs, is_projjson, metadata_text};
+use geoarrow_meta::{CrsType, Edges, WrittenCrs, is_projjson_text, metadata_text};
 use parquet_footer::{Algorithm, LogicalType, PhysicalType, Repetition, SchemaElement};
 use std::alloc::{AllocError, Global};
 
@@ -61,7 +61,7 @@ fn named_crs<'a>(alloc: Global, text: Option<&'a str>) -> Result<NamedCrs<'a>, A
     let Some(text) = text else {
         return Ok(text_crs(DEFAULT_CRS, Some(CrsType::AuthorityCode)));
     };
-    if is_projjson(alloc, text)? {
+    if is_projjson_text(alloc, text)? {
         let crs = WrittenCrs::Json(text);
         return Ok(NamedCrs::Written(crs, Some(CrsType::Projjson)));
     }

@@ -6,9 +6,9 @@ ghost use Rattle.arrow_columns.specs.Column.{type_tree};
 ghost use Rattle.parquet_columns.specs.Fault.{Says};
 ghost use Rattle.parquet_columns.specs.Leaf.{int32_of, int64_of, bytes_of, fixed_of, plain_of, time32_text, time64_text, timestamp_text, clock_text, may_be_decimal, digits_of, decimal_text, fixed_type, is_null, leaf_type};
 
-use crate::fault::{ColumnsError, Fault, Rule};
+use crate::fault::{ColumnsError, ElementFault, SchemaRule};
 use crate::meaning::Meaning;
-use arrow_columns::{ColumnType, sized_notation};
+use arrow_columns::{AnyType, sized_notation};
 use arrow_values::DataType;
 use parquet_footer::{PhysicalType, TimeUnit};
 use std::alloc::{AllocError, Global};
@@ -138,15 +138,15 @@ fn decimal_text(alloc: Global, precision: u32, scale: u32) -> Result<String, All
 }
 
 /// The type of values of a fixed length.
-fn fixed_type(alloc: Global, at: usize, length: Option<u32>) -> Result<ColumnType, ColumnsError>
+fn fixed_type(alloc: Global, at: usize, length: Option<u32>) -> Result<AnyType, ColumnsError>
     ensures { Says type_tree (fixed_type at length) result }
 {
     match length {
         Some(length) if length < 0x8000_0000 => {
             let text = sized_notation(alloc, "fixed_size_binary", length as i32)?;
-            Ok(ColumnType::Other(text))
+            Ok(AnyType::Other(text))
         }
-        _ => Err(ColumnsError::Broken(Fault::new(Rule::Length, at))),
+        _ => Err(ColumnsError::Broken(ElementFault::new(SchemaRule::Length, at))),
     }
 }
 
@@ -169,21 +169,21 @@ pub(crate) fn leaf_type(
     meaning: Meaning,
     length: Option<u32>,
     digits: (Option<u32>, Option<u32>),
-) -> Result<ColumnType, ColumnsError>
+) -> Result<AnyType, ColumnsError>
     ensures { Says type_tree (leaf_type at physical meaning length digits.0 digits.1) result }
 {
     if is_null(meaning) {
-        return Ok(ColumnType::Data(DataType::Null));
+        return Ok(AnyType::Data(DataType::Null));
     }
     if let Some(text) = clock_text(physical, meaning) {
-        return Ok(ColumnType::Other(String::from_str(alloc, text)?));
+        return Ok(AnyType::Other(String::from_str(alloc, text)?));
     }
     if let Some(precision) = digits_of(physical, meaning, digits.0) {
         let text = decimal_text(alloc, precision, digits.1.unwrap_or(0))?;
-        return Ok(ColumnType::Other(text));
+        return Ok(AnyType::Other(text));
     }
     match plain_of(physical, meaning, length) {
-        Some(data_type) => Ok(ColumnType::Data(data_type)),
+        Some(data_type) => Ok(AnyType::Data(data_type)),
         None => fixed_type(alloc, at, length),
     }
 }

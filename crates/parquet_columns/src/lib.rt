@@ -18,11 +18,11 @@ mod meaning;
 mod nodes;
 mod values;
 
-pub use budget::report_budget;
+pub use budget::{TOO_LARGE, report_budget};
 pub use columns::{NESTING_LIMIT, columns_of};
 pub use equality_laws::{columns_error_equality_is_exact, rule_equality_is_exact};
 pub use error::SchemaError;
-pub use fault::{ColumnsError, Fault, Rule};
+pub use fault::{ColumnsError, ElementFault, SchemaRule};
 pub use file::{FileColumns, footer_in, read_file};
 pub use footer::columns_of_footer;
 pub use keys::{ARROW_SCHEMA_KEY, value_of};

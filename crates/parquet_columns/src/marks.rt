@@ -10,7 +10,7 @@ use crate::budget::size_of;
 use crate::error::SchemaError;
 use crate::geometry::extension_text;
 use crate::values::KeyValues;
-use arrow_columns::{Column, with_extension};
+use arrow_columns::{SchemaColumn, with_extension};
 use parquet_footer::SchemaElement;
 use std::alloc::{AllocError, Global};
 
@@ -68,7 +68,7 @@ fn given<'a>(
     alloc: Global,
     values: &mut KeyValues<'_, 'a>,
     child: Option<&SchemaElement<'a>>,
-    column: &Column,
+    column: &SchemaColumn,
 ) -> Result<Option<String>, AllocError>
     ensures text { IfOk result (λ text. option_map string_bytes text
         ≡ given values.old (option_map (λ e. element e.now) child.entry) (column_tree column.now)) }
@@ -84,7 +84,7 @@ fn given<'a>(
 }
 
 /// A column with extension metadata that it is given.
-fn marked_by(alloc: Global, column: Column, text: Option<String>) -> Result<Column, AllocError>
+fn marked_by(alloc: Global, column: SchemaColumn, text: Option<String>) -> Result<SchemaColumn, AllocError>
     ensures { IfOk result (λ c. column_tree c ≡ marked_by (option_map string_bytes text) (column_tree column)) }
 {
     match text {
@@ -106,9 +106,9 @@ fn marked<'a>(
     alloc: Global,
     values: &mut KeyValues<'_, 'a>,
     child: Option<&SchemaElement<'a>>,
-    column: Column,
+    column: SchemaColumn,
     amount: u128,
-) -> Result<(Column, u128), SchemaError>
+) -> Result<(SchemaColumn, u128), SchemaError>
     ensures made { IsMarked values.old (option_map (λ e. element e.now) child.entry) (column_tree column) amount result }
     ensures same { values.new ≡ values.old }
 {
@@ -127,9 +127,9 @@ fn marked_within<'a>(
     alloc: Global,
     values: &mut KeyValues<'_, 'a>,
     children: &[SchemaElement<'a>],
-    columns: Vec<Column>,
+    columns: Vec<SchemaColumn>,
     amount: u128,
-) -> Result<Vec<Column>, SchemaError>
+) -> Result<Vec<SchemaColumn>, SchemaError>
     ensures { AreMarked values.old (map element children.now) (map column_tree columns.items) amount result }
 {
     let mut made = Vec::new(alloc);
@@ -150,9 +150,9 @@ pub(crate) fn marked_columns<'a>(
     alloc: Global,
     values: &mut KeyValues<'_, 'a>,
     elements: &[SchemaElement<'a>],
-    columns: Vec<Column>,
+    columns: Vec<SchemaColumn>,
     amount: u128,
-) -> Result<Vec<Column>, SchemaError>
+) -> Result<Vec<SchemaColumn>, SchemaError>
     ensures { AreMarked values.old (root_children (map element elements.now)) (map column_tree columns.items) amount result }
 {
     let children = root_children(alloc, elements)?;

@@ -4,9 +4,9 @@ ghost use Rattle.arrow_columns.specs.Column.{type_tree, column_tree};
 ghost use Rattle.parquet_columns.specs.Fault.{Says};
 ghost use Rattle.parquet_columns.specs.Nodes.{wrapper, shape_tree, node_tree, shape_type, plain_column, is_optional, is_repeated, column_by, column_of, one_shape, group_shape, is_item_name, item_by, list_of, list_shape, is_group, map_type, map_of, map_shape};
 
-use crate::fault::{ColumnsError, Fault, Rule};
+use crate::fault::{ColumnsError, ElementFault, SchemaRule};
 use arrow_columns::{
-    Column, ColumnType, ListForm, list_type, nested_notation, part_notation, struct_type,
+    SchemaColumn, AnyType, ListForm, list_type, nested_notation, part_notation, struct_type,
 };
 use parquet_footer::Repetition;
 use std::alloc::{AllocError, Global};
@@ -16,11 +16,11 @@ use std::collections::BTreeMap;
 #[derive(Drop)]
 pub(crate) enum Shape {
     /// A type: that of a leaf, of a LIST or of a MAP.
-    Typed(ColumnType),
+    Typed(AnyType),
     /// A group of one element that is not repeated.
-    Wrapper(Column),
+    Wrapper(SchemaColumn),
     /// Any other group.
-    Group(Vec<Column>),
+    Group(Vec<SchemaColumn>),
 }
 
 /// An element with all that is below it.
@@ -32,7 +32,7 @@ pub(crate) struct Node<'a> {
 }
 
 /// The type of an element's values.
-fn shape_type(alloc: Global, shape: Shape) -> Result<ColumnType, AllocError>
+fn shape_type(alloc: Global, shape: Shape) -> Result<AnyType, AllocError>
     ensures { IfOk result (λ made. type_tree made ≡ shape_type (shape_tree shape)) }
 {
     match shape {
@@ -50,15 +50,15 @@ fn plain_column(
     alloc: Global,
     name: &str,
     nullable: bool,
-    data_type: ColumnType,
-) -> Result<Column, AllocError>
+    data_type: AnyType,
+) -> Result<SchemaColumn, AllocError>
     ensures { IfOk result (λ made. column_tree made ≡ plain_column name.now nullable (type_tree data_type)) }
 {
     let Ok(name) = String::from_str(alloc, name) else {
         drop(data_type);
         return Err(AllocError);
     };
-    Ok(Column {
+    Ok(SchemaColumn {
         name,
         nullable,
         data_type,
@@ -91,8 +91,8 @@ fn column_by(
     alloc: Global,
     name: &str,
     repetition: Repetition,
-    data_type: ColumnType,
-) -> Result<Column, AllocError>
+    data_type: AnyType,
+) -> Result<SchemaColumn, AllocError>
     ensures { IfOk result (λ made. column_tree made ≡ column_by name.now repetition (type_tree data_type)) }
 {
     let column = plain_column(alloc, name, is_optional(repetition), data_type)?;
@@ -104,7 +104,7 @@ fn column_by(
 }
 
 /// The column of an element.
-fn column_of(alloc: Global, node: Node<'_>) -> Result<Column, AllocError>
+fn column_of(alloc: Global, node: Node<'_>) -> Result<SchemaColumn, AllocError>
     ensures { IfOk result (λ made. column_tree made ≡ column_of (node_tree node.entry)) }
 {
     let Node {
@@ -121,7 +121,7 @@ fn column_of(alloc: Global, node: Node<'_>) -> Result<Column, AllocError>
 pub(crate) fn columns_of_nodes(
     alloc: Global,
     nodes: Vec<Node<'_>>,
-) -> Result<Vec<Column>, AllocError>
+) -> Result<Vec<SchemaColumn>, AllocError>
     ensures { IfOk result (λ made. map column_tree made.items ≡ map column_of (map node_tree nodes.entry.items)) }
 {
     let mut made = Vec::with_capacity(alloc, nodes.len())?;
@@ -183,7 +183,7 @@ fn is_item_name(list: &str, name: &str) -> bool
 }
 
 /// The item of a LIST of a name, by its repeated element of that name, a group of one element that is not repeated.
-fn wrapped_item(alloc: Global, list: &str, name: &str, column: Column) -> Result<Column, AllocError>
+fn wrapped_item(alloc: Global, list: &str, name: &str, column: SchemaColumn) -> Result<SchemaColumn, AllocError>
     ensures { IfOk result (λ made. column_tree made ≡ item_by list.now name.now (wrapper (column_tree column))) }
 {
     if !is_item_name(list, name) {
@@ -194,7 +194,7 @@ fn wrapped_item(alloc: Global, list: &str, name: &str, column: Column) -> Result
 }
 
 /// The item of a LIST of a name, by its repeated element.
-fn item_by(alloc: Global, list: &str, node: Node<'_>) -> Result<Column, AllocError>
+fn item_by(alloc: Global, list: &str, node: Node<'_>) -> Result<SchemaColumn, AllocError>
     ensures { IfOk result (λ made. column_tree made ≡ item_by list.now (node_tree node.entry).name (node_tree node.entry).shape) }
 {
     let Node { name, shape, .. } = node;
@@ -220,7 +220,7 @@ pub(crate) fn list_shape(
 {
     match only_node(nodes) {
         Ok(node) => list_of(alloc, at, list, node),
-        Err(_) => Err(ColumnsError::Broken(Fault::new(Rule::List, at))),
+        Err(_) => Err(ColumnsError::Broken(ElementFault::new(SchemaRule::List, at))),
     }
 }
 
@@ -230,7 +230,7 @@ fn list_of(alloc: Global, at: usize, list: &str, node: Node<'_>) -> Result<Shape
 {
     if !is_repeated(node.repetition) {
         drop(node);
-        return Err(ColumnsError::Broken(Fault::new(Rule::List, at)));
+        return Err(ColumnsError::Broken(ElementFault::new(SchemaRule::List, at)));
     }
     let item = item_by(alloc, list, node)?;
     Ok(Shape::Typed(list_type(alloc, ListForm::Small, item)?))
@@ -247,7 +247,7 @@ fn is_group(shape: &Shape) -> bool
 }
 
 /// A map whose entries are those of an element.
-fn map_type(alloc: Global, node: Node<'_>) -> Result<ColumnType, AllocError>
+fn map_type(alloc: Global, node: Node<'_>) -> Result<AnyType, AllocError>
     ensures { IfOk result (λ made. type_tree made ≡ map_type (node_tree node.entry).name (shape_type (node_tree node.entry).shape)) }
 {
     let Node { name, shape, .. } = node;
@@ -256,7 +256,7 @@ fn map_type(alloc: Global, node: Node<'_>) -> Result<ColumnType, AllocError>
     drop(entries);
     let text = text?;
     let part = part_notation(alloc, name, text.as_str(), false)?;
-    nested_notation(alloc, "map", &[part]).map(ColumnType::Other)
+    nested_notation(alloc, "map", &[part]).map(AnyType::Other)
 }
 
 /// What a MAP stands for, by the elements below it; it is the one with that index.
@@ -270,7 +270,7 @@ pub(crate) fn map_shape(
 {
     match only_node(nodes) {
         Ok(node) => map_of(alloc, at, node),
-        Err(_) => Err(ColumnsError::Broken(Fault::new(Rule::Map, at))),
+        Err(_) => Err(ColumnsError::Broken(ElementFault::new(SchemaRule::Map, at))),
     }
 }
 
@@ -280,7 +280,7 @@ fn map_of(alloc: Global, at: usize, node: Node<'_>) -> Result<Shape, ColumnsErro
 {
     if !is_repeated(node.repetition) || !is_group(&node.shape) {
         drop(node);
-        return Err(ColumnsError::Broken(Fault::new(Rule::Map, at)));
+        return Err(ColumnsError::Broken(ElementFault::new(SchemaRule::Map, at)));
     }
     Ok(Shape::Typed(map_type(alloc, node)?))
 }

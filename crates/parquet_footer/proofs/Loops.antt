@@ -2,7 +2,7 @@
 use Rattle.std.proofs.Common.{◌≡◌, ℕ, zero, suc, ◌+◌, ◌-◌, ◌<◌, ◌≤◌, List, length, Result, Ok, Err, true, false, refl, sym, ◌∙◌, arith, ◌==◌, if◌then◌else◌}
 use Rattle.std.proofs.lemmas.Bool.{ne_eqb}
 use Rattle.parquet_footer.specs.declared.fault.Fault.{Fault}
-use Rattle.parquet_footer.specs.declared.fault.Rule.TheVariants.{End, Depth}
+use Rattle.parquet_footer.specs.declared.fault.FooterRule.TheVariants.{End, Depth}
 use Rattle.parquet_footer.specs.Fault.{◌>>=◌, broken, Returns}
 use Rattle.parquet_footer.specs.Wire.{field_at}
 use Rattle.parquet_footer.specs.Skip.{fields_at, items_past, plain_past, over, struct_past, pair_past, nested_past, is_plain, value_past}

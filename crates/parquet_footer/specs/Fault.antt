@@ -1,22 +1,22 @@
 -- What reading gives: a value, or the rule that is broken first, and how many bytes are left there.
 use Rattle.std.specs.Prelude.{◌≡◌, ℕ, ◌+◌, Bool, List, length, Option, Some, None, Result, Ok, Err, if◌then◌else◌}
-use Rattle.parquet_footer.specs.declared.fault.Rule.{Rule}
+use Rattle.parquet_footer.specs.declared.fault.FooterRule.{FooterRule}
 use Rattle.parquet_footer.specs.declared.fault.Fault.{Fault}
 use Rattle.parquet_footer.specs.declared.fault.Stop.{Stop}
 use Rattle.parquet_footer.specs.declared.fault.Stop.TheVariants as stops
 use Rattle.parquet_footer.specs.declared.fault.FooterError.{FooterError}
 use Rattle.parquet_footer.specs.declared.fault.FooterError.TheVariants as errors
-use Rattle.parquet_footer.specs.declared.fault.Rule.TheVariants.{Missing}
+use Rattle.parquet_footer.specs.declared.fault.FooterRule.TheVariants.{Missing}
 
 -- a rule is broken at the front of the bytes
-abbrev pub broken : Rule → List ℕ → Fault
+abbrev pub broken : FooterRule → List ℕ → Fault
 broken rule bytes = record { rule = rule; left = length bytes }
 
-abbrev pub refused : {A : Type 0} → Rule → List ℕ → Result A Fault
+abbrev pub refused : {A : Type 0} → FooterRule → List ℕ → Result A Fault
 refused rule bytes = Err (broken rule bytes)
 
 -- the rule is kept at the front of the bytes, or broken
-abbrev pub kept : Bool → Rule → List ℕ → Result (Unit {0}) Fault
+abbrev pub kept : Bool → FooterRule → List ℕ → Result (Unit {0}) Fault
 kept is_kept rule bytes = if is_kept then Ok tt else refused rule bytes
 
 -- one step after another, up to the first fault

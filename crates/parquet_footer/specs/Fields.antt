@@ -1,7 +1,7 @@
 -- The fields of a struct that are read, by their ids.
 use Rattle.std.specs.Prelude.{ℕ, Bool, ◌||◌, is_some, slice_get, List, [], length, Option, Some, None, Result, Ok, ◌==◌, if◌then◌else◌}
 use Rattle.parquet_footer.specs.declared.fault.Fault.{Fault}
-use Rattle.parquet_footer.specs.declared.fault.Rule.TheVariants.{WireType, Repeated, Name}
+use Rattle.parquet_footer.specs.declared.fault.FooterRule.TheVariants.{WireType, Repeated, Name}
 use Rattle.parquet_footer.specs.declared.fields.Place.{Place}
 use Rattle.parquet_footer.specs.Fault.{refused, kept, needed, ◌>>=◌}
 use Rattle.parquet_footer.specs.Wire.{count_at, text_at, list_at}

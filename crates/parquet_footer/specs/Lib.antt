@@ -6,3 +6,4 @@ pub mod Logical
 pub mod Element
 pub mod Footer
 pub mod Tail
+pub mod Rules

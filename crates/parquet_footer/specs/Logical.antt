@@ -1,7 +1,7 @@
 -- Logical types: a union, of which the geometry types, times, points in time and integers are read, and the others known by their ids.
 use Rattle.std.specs.Prelude.{ℕ, Bool, not, ◌||◌, List, [], ◌∷◌, Option, Some, None, option_map, Result, Ok, ◌==◌, if◌then◌else◌}
 use Rattle.parquet_footer.specs.declared.fault.Fault.{Fault}
-use Rattle.parquet_footer.specs.declared.fault.Rule.TheVariants.{Union, Name}
+use Rattle.parquet_footer.specs.declared.fault.FooterRule.TheVariants.{Union, Name}
 use Rattle.parquet_footer.specs.declared.logical.Algorithm.{Algorithm}
 use Rattle.parquet_footer.specs.declared.logical.Algorithm.TheVariants.{Spherical, Vincenty, Thomas, Andoyer, Karney}
 use Rattle.parquet_footer.specs.declared.logical.TimeUnit.{TimeUnit}

@@ -1,7 +1,7 @@
 -- Passing over a value of any type, nested no more than so many levels deep.
 use Rattle.std.specs.Prelude.{ℕ, zero, suc, Bool, ◌||◌, List, length, Result, Ok, nat_lt, ◌==◌, if◌then◌else◌}
 use Rattle.parquet_footer.specs.declared.fault.Fault.{Fault}
-use Rattle.parquet_footer.specs.declared.fault.Rule.TheVariants.{End, WireType, Depth}
+use Rattle.parquet_footer.specs.declared.fault.FooterRule.TheVariants.{End, WireType, Depth}
 use Rattle.parquet_footer.specs.Fault.{refused, ◌>>=◌}
 use Rattle.parquet_footer.specs.Wire.{number_past, bytes_past, binary_at, list_at, map_at, field_at}
 

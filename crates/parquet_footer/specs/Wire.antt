@@ -2,7 +2,7 @@
 use Rattle.std.specs.Prelude.{ℕ, ◌+◌, ◌-◌, ◌*◌, ◌/◌, ◌%◌, ◌^◌, List, [], ◌∷◌, length, take, drop, Result, Ok, not, nat_lt, nat_le, ◌==◌, if◌then◌else◌}
 use Rattle.std.specs.Str.{is_utf8}
 use Rattle.parquet_footer.specs.declared.fault.Fault.{Fault}
-use Rattle.parquet_footer.specs.declared.fault.Rule.TheVariants.{End, Number, Negative, Length, WireType, FieldId, Utf8}
+use Rattle.parquet_footer.specs.declared.fault.FooterRule.TheVariants.{End, Number, Negative, Length, WireType, FieldId, Utf8}
 use Rattle.parquet_footer.specs.Fault.{refused, kept, ◌>>=◌}
 
 abbrev pub byte_at : List ℕ → Result (ℕ × List ℕ) Fault

@@ -3,7 +3,7 @@ ghost use Rattle.std.specs.Prelude.{◌≡◌};
 ghost use Rattle.parquet_footer.specs.Fault.{Returns};
 ghost use Rattle.parquet_footer.specs.Element.{stored, storage_at, numbers_at, element, element_at};
 
-use crate::fault::{Fault, Rule, broken};
+use crate::fault::{Fault, FooterRule, broken};
 use crate::fields::{name_in, number_in, pair_at, text_in};
 use crate::logical::{LogicalType, logical_in};
 
@@ -105,7 +105,7 @@ fn storage_at(bytes: &[u8]) -> Result<Storage<'_>, Fault>
             repetition,
             name,
         }),
-        Ok(None) => Err(broken(Rule::Missing, bytes)),
+        Ok(None) => Err(broken(FooterRule::Missing, bytes)),
         Err(fault) => Err(fault),
     }
 }

@@ -2,11 +2,11 @@
 ghost use Rattle.std.specs.Prelude.{◌≡◌, ◌↔◌, IsTrue};
 
 use crate::element::{PhysicalType, Repetition};
-use crate::fault::{FooterError, Rule};
+use crate::fault::{FooterError, FooterRule};
 use crate::logical::{Algorithm, TimeUnit};
 
 /// A law: `==` returns true for two rules exactly if they are the same.
-pub fn rule_equality_is_exact(one: Rule, other: Rule) -> bool
+pub fn rule_equality_is_exact(one: FooterRule, other: FooterRule) -> bool
     ensures { IsTrue result ↔ (one ≡ other) }
 {
     one == other

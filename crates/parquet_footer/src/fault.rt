@@ -1,13 +1,14 @@
 //! Why a footer is not read.
 ghost use Rattle.std.specs.Prelude.{◌≡◌, IsTrue, OnOk, length};
 ghost use Rattle.parquet_footer.specs.Fault.{broken, kept};
+ghost use Rattle.parquet_footer.specs.Rules.{rule_code, rule_message, error_code, error_message};
 ghost use Rattle.parquet_footer.specs.declared.fault.Stop.TheVariants as stops;
 
 use std::alloc::AllocFailed;
 
 /// A rule that the bytes break.
 #[derive(Debug, Clone, Copy, PartialEq, Eq)]
-pub enum Rule {
+pub enum FooterRule {
     /// A value ends within the bytes.
     End,
     /// A number is below 2^32 and takes at most five bytes, or ten where it is passed over.
@@ -34,17 +35,59 @@ pub enum Rule {
     Name,
 }
 
+impl FooterRule {
+    /// Returns the code of the rule, as reports have it (`docs/FORMAT.md`, 2.8).
+    pub fn code(self) -> &'static str
+        ensures { result.now ≡ rule_code self }
+    {
+        match self {
+            FooterRule::End => "FooterEnd",
+            FooterRule::Number => "FooterNumber",
+            FooterRule::Negative => "FooterNegative",
+            FooterRule::Length => "FooterLength",
+            FooterRule::WireType => "FooterWireType",
+            FooterRule::Depth => "FooterDepth",
+            FooterRule::FieldId => "FooterFieldId",
+            FooterRule::Repeated => "FooterRepeated",
+            FooterRule::Missing => "FooterMissing",
+            FooterRule::Union => "FooterUnion",
+            FooterRule::Utf8 => "FooterUtf8",
+            FooterRule::Name => "FooterName",
+        }
+    }
+
+    /// Returns what is wrong where the rule is broken.
+    pub fn message(self) -> &'static str
+        ensures { result.now ≡ rule_message self }
+    {
+        match self {
+            FooterRule::End => "a value ends past the footer",
+            FooterRule::Number => "a number is too large or too long",
+            FooterRule::Negative => "a number is negative",
+            FooterRule::Length => "a length is greater than the bytes that are left",
+            FooterRule::WireType => "a field has another type",
+            FooterRule::Depth => "nested too deep",
+            FooterRule::FieldId => "the id of a field is too large",
+            FooterRule::Repeated => "a field stands twice",
+            FooterRule::Missing => "a field is missing",
+            FooterRule::Union => "a union has no field, or several",
+            FooterRule::Utf8 => "a text is not UTF-8",
+            FooterRule::Name => "a number denotes no name of the format",
+        }
+    }
+}
+
 /// A rule that is broken, and how many bytes are left there.
 #[derive(Clone, Copy)]
 pub struct Fault {
     /// How many bytes are left where it is broken.
     pub left: usize,
     /// The rule.
-    pub rule: Rule,
+    pub rule: FooterRule,
 }
 
 /// The fault of a rule that is broken at the front of the bytes.
-pub fn broken(rule: Rule, bytes: &[u8]) -> Fault
+pub fn broken(rule: FooterRule, bytes: &[u8]) -> Fault
     ensures { result ≡ broken rule bytes.now }
 {
     let left = bytes.len();
@@ -84,7 +127,33 @@ pub enum FooterError {
     /// The footer is encrypted.
     Encrypted,
     /// The rule is broken at that offset in the footer: behind so many of its bytes.
-    Invalid(Rule, usize),
+    Invalid(FooterRule, usize),
     /// Out of memory.
     Memory,
+}
+
+impl FooterError {
+    /// Returns the code of the error, as reports have it (`docs/FORMAT.md`, 2.8): that of the rule, if one is broken.
+    pub fn code(self) -> &'static str
+        ensures { result.now ≡ error_code self }
+    {
+        match self {
+            FooterError::NotParquet => "FooterMagic",
+            FooterError::Encrypted => "FooterEncrypted",
+            FooterError::Invalid(rule, _) => rule.code(),
+            FooterError::Memory => "OutOfMemory",
+        }
+    }
+
+    /// Returns what is wrong.
+    pub fn message(self) -> &'static str
+        ensures { result.now ≡ error_message self }
+    {
+        match self {
+            FooterError::NotParquet => "does not end as a Parquet file does",
+            FooterError::Encrypted => "the footer is encrypted",
+            FooterError::Invalid(rule, _) => rule.message(),
+            FooterError::Memory => "out of memory",
+        }
+    }
 }

@@ -3,7 +3,7 @@ ghost use Rattle.std.specs.Prelude.{◌≡◌, option_map};
 ghost use Rattle.parquet_footer.specs.Fault.{Returns};
 ghost use Rattle.parquet_footer.specs.Fields.{spot, spots, noted, pair_at, number_in, name_in, text_in, flag_in, structs_in};
 
-use crate::fault::{Fault, Rule, broken};
+use crate::fault::{Fault, FooterRule, broken};
 use crate::skip::{LEVELS, value_past};
 use crate::wire::{count_at, field_at, list_at, text_at};
 
@@ -26,7 +26,7 @@ fn noted<'a>(wanted: u16, id: u16, value: Place<'a>, found: Found<'a>) -> Result
     match found {
         _ if id != wanted => Ok(found),
         None => Ok(Some(value)),
-        Some(_) => Err(broken(Rule::Repeated, value.bytes)),
+        Some(_) => Err(broken(FooterRule::Repeated, value.bytes)),
     }
 }
 
@@ -49,7 +49,7 @@ pub fn pair_at(bytes: &[u8], one: u16, other: u16) -> Result<(Found<'_>, Found<'
         second = noted(other, id, place, second)?;
         last = id;
     }
-    Err(broken(Rule::End, rest))
+    Err(broken(FooterRule::End, rest))
 }
 
 /// The number in a field, where it is there.
@@ -59,7 +59,7 @@ pub fn number_in(place: Found<'_>) -> Result<Option<u32>, Fault>
     match place {
         None => Ok(None),
         Some(Place { kind: 5, bytes }) => Ok(Some(count_at(bytes)?.0)),
-        Some(place) => Err(broken(Rule::WireType, place.bytes)),
+        Some(place) => Err(broken(FooterRule::WireType, place.bytes)),
     }
 }
 
@@ -71,7 +71,7 @@ pub fn name_in<T: Copy>(names: &[T], place: Found<'_>, bytes: &[u8]) -> Result<O
     match number_in(place) {
         Ok(Some(number)) => match names.get(number as usize) {
             Some(name) => Ok(Some(*name)),
-            None => Err(broken(Rule::Name, bytes)),
+            None => Err(broken(FooterRule::Name, bytes)),
         },
         Ok(None) => Ok(None),
         Err(fault) => Err(fault),
@@ -86,7 +86,7 @@ pub fn text_in(place: Found<'_>) -> Result<Option<&str>, Fault>
     match place {
         None => Ok(None),
         Some(Place { kind: 8, bytes }) => text_at(bytes).map(Some),
-        Some(place) => Err(broken(Rule::WireType, place.bytes)),
+        Some(place) => Err(broken(FooterRule::WireType, place.bytes)),
     }
 }
 
@@ -95,10 +95,10 @@ pub fn flag_in(bytes: &[u8], place: Found<'_>) -> Result<bool, Fault>
     ensures { result ≡ flag_in bytes.now (spots place.entry) }
 {
     match place {
-        None => Err(broken(Rule::Missing, bytes)),
+        None => Err(broken(FooterRule::Missing, bytes)),
         Some(Place { kind: 1, .. }) => Ok(true),
         Some(Place { kind: 2, .. }) => Ok(false),
-        Some(place) => Err(broken(Rule::WireType, place.bytes)),
+        Some(place) => Err(broken(FooterRule::WireType, place.bytes)),
     }
 }
 
@@ -111,9 +111,9 @@ pub fn structs_in(place: Found<'_>) -> Result<(u32, &[u8]), Fault>
         None => Ok((0, &[])),
         Some(Place { kind: 9, bytes }) => match list_at(bytes) {
             Ok((kind, count, rest)) if kind == 12 || count == 0 => Ok((count, rest)),
-            Ok(_) => Err(broken(Rule::WireType, bytes)),
+            Ok(_) => Err(broken(FooterRule::WireType, bytes)),
             Err(fault) => Err(fault),
         },
-        Some(place) => Err(broken(Rule::WireType, place.bytes)),
+        Some(place) => Err(broken(FooterRule::WireType, place.bytes)),
     }
 }

@@ -6,7 +6,7 @@ ghost use Rattle.parquet_footer.specs.Tail.{length_at};
 ghost use Rattle.parquet_footer.specs.Footer.{all_at, pairing, key_value_at, contents, footer_at};
 
 use crate::element::{SchemaElement, element_at};
-use crate::fault::{Fault, FooterError, Rule, Stop, broken};
+use crate::fault::{Fault, FooterError, FooterRule, Stop, broken};
 use crate::fields::{pair_at, structs_in, text_in};
 use std::alloc::Global;
 
@@ -35,7 +35,7 @@ fn key_value_at(bytes: &[u8]) -> Result<(KeyValue<'_>, &[u8]), Fault>
 {
     let (key, value, rest) = pair_at(bytes, 1, 2)?;
     let Some(key) = text_in(key)? else {
-        return Err(broken(Rule::Missing, bytes));
+        return Err(broken(FooterRule::Missing, bytes));
     };
     let value = text_in(value)?;
     Ok((KeyValue { key, value }, rest))
@@ -76,7 +76,7 @@ fn footer_at(alloc: Global, bytes: &[u8]) -> Result<Footer<'_>, Stop>
 {
     let (elements, pairs, _) = pair_at(bytes, 2, 5)?;
     let Some(elements) = elements else {
-        return Err(Stop::Fault(broken(Rule::Missing, bytes)));
+        return Err(Stop::Fault(broken(FooterRule::Missing, bytes)));
     };
     let (elements, one) = structs_in(Some(elements))?;
     let (pairs, other) = structs_in(pairs)?;

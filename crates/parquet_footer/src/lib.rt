@@ -16,7 +16,7 @@ pub use equality_laws::{
     algorithm_equality_is_exact, footer_error_equality_is_exact, physical_type_equality_is_exact,
     repetition_equality_is_exact, rule_equality_is_exact, time_unit_equality_is_exact,
 };
-pub use fault::{FooterError, Rule};
+pub use fault::{FooterError, FooterRule};
 pub use footer::{Footer, KeyValue, footer_length, read_footer};
 pub use logical::{Algorithm, LogicalType, TimeUnit};
 pub use skip::LEVELS;

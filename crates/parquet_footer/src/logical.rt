@@ -5,7 +5,7 @@ ghost use Rattle.parquet_footer.specs.Fault.{Returns};
 ghost use Rattle.parquet_footer.specs.Fields.{spot, spots};
 ghost use Rattle.parquet_footer.specs.Logical.{logical, union_at, unit_in, width_in, clock_at, integer_at, geometry_at, geography_at, logical_at, logical_in};
 
-use crate::fault::{Fault, Rule, broken};
+use crate::fault::{Fault, FooterRule, broken};
 use crate::fields::{Found, Place, flag_in, name_in, pair_at, text_in};
 use crate::skip::{LEVELS, value_past};
 use crate::wire::field_at;
@@ -68,15 +68,15 @@ fn unit_in(bytes: &[u8], place: Found<'_>) -> Result<TimeUnit, Fault>
     ensures { result ≡ unit_in bytes.now (spots place.entry) }
 {
     match place {
-        None => Err(broken(Rule::Missing, bytes)),
+        None => Err(broken(FooterRule::Missing, bytes)),
         Some(Place { kind: 12, bytes }) => match union_at(bytes) {
             Ok((1, _)) => Ok(TimeUnit::Millisecond),
             Ok((2, _)) => Ok(TimeUnit::Microsecond),
             Ok((3, _)) => Ok(TimeUnit::Nanosecond),
-            Ok(_) => Err(broken(Rule::Name, bytes)),
+            Ok(_) => Err(broken(FooterRule::Name, bytes)),
             Err(fault) => Err(fault),
         },
-        Some(place) => Err(broken(Rule::WireType, place.bytes)),
+        Some(place) => Err(broken(FooterRule::WireType, place.bytes)),
     }
 }
 
@@ -86,12 +86,12 @@ fn width_in(bytes: &[u8], place: Found<'_>) -> Result<u8, Fault>
     ensures { result ≡ width_in bytes.now (spots place.entry) }
 {
     match place {
-        None => Err(broken(Rule::Missing, bytes)),
-        Some(place) if place.kind != 3 => Err(broken(Rule::WireType, place.bytes)),
+        None => Err(broken(FooterRule::Missing, bytes)),
+        Some(place) if place.kind != 3 => Err(broken(FooterRule::WireType, place.bytes)),
         Some(place) => match place.bytes {
-            [] => Err(broken(Rule::End, place.bytes)),
+            [] => Err(broken(FooterRule::End, place.bytes)),
             [width @ (8 | 16 | 32 | 64), ..] => Ok(*width),
-            _ => Err(broken(Rule::Name, bytes)),
+            _ => Err(broken(FooterRule::Name, bytes)),
         },
     }
 }
@@ -103,12 +103,12 @@ fn union_at(bytes: &[u8]) -> Result<(u16, Place<'_>), Fault>
 {
     let (id, kind, value) = field_at(0, bytes)?;
     if kind == 0 {
-        return Err(broken(Rule::Union, bytes));
+        return Err(broken(FooterRule::Union, bytes));
     }
     match value_past(kind, value, LEVELS) {
-        Ok([]) => Err(broken(Rule::End, &[])),
+        Ok([]) => Err(broken(FooterRule::End, &[])),
         Ok([0, ..]) => Ok((id, Place { kind, bytes: value })),
-        Ok(rest) => Err(broken(Rule::Union, rest)),
+        Ok(rest) => Err(broken(FooterRule::Union, rest)),
         Err(fault) => Err(fault),
     }
 }
@@ -163,7 +163,7 @@ fn logical_at(bytes: &[u8]) -> Result<LogicalType<'_>, Fault>
 {
     let (id, Place { kind, bytes }) = union_at(bytes)?;
     if kind != 12 {
-        return Err(broken(Rule::WireType, bytes));
+        return Err(broken(FooterRule::WireType, bytes));
     }
     match id {
         7 | 8 => clock_at(id, bytes),
@@ -182,6 +182,6 @@ pub fn logical_in(place: Found<'_>) -> Result<Option<LogicalType<'_>>, Fault>
     match place {
         None => Ok(None),
         Some(Place { kind: 12, bytes }) => logical_at(bytes).map(Some),
-        Some(place) => Err(broken(Rule::WireType, place.bytes)),
+        Some(place) => Err(broken(FooterRule::WireType, place.bytes)),
     }
 }

@@ -3,7 +3,7 @@ ghost use Rattle.std.specs.Prelude.{◌≡◌};
 ghost use Rattle.parquet_footer.specs.Fault.{Returns};
 ghost use Rattle.parquet_footer.specs.Skip.{plain_past, items_past, struct_past, pair_past, nested_past, value_past};
 
-use crate::fault::{Fault, Rule, broken};
+use crate::fault::{Fault, FooterRule, broken};
 use crate::wire::{binary_at, bytes_past, field_at, list_at, map_at, number_past};
 
 /// How deep values may be nested below the struct that is a footer.
@@ -22,7 +22,7 @@ fn plain_past(kind: u8, bytes: &[u8]) -> Result<&[u8], Fault>
         7 => bytes_past(bytes, 8),
         8 => Ok(binary_at(bytes)?.1),
         13 => bytes_past(bytes, 16),
-        _ => Err(broken(Rule::WireType, bytes)),
+        _ => Err(broken(FooterRule::WireType, bytes)),
     }
 }
 
@@ -38,7 +38,7 @@ pub fn value_past(kind: u8, bytes: &[u8], levels: usize) -> Result<&[u8], Fault>
         return plain_past(kind, bytes);
     }
     if levels == 0 {
-        return Err(broken(Rule::Depth, bytes));
+        return Err(broken(FooterRule::Depth, bytes));
     }
     nested_past(kind, bytes, levels - 1)
 }
@@ -78,7 +78,7 @@ fn struct_past(bytes: &[u8], levels: usize) -> Result<&[u8], Fault>
         rest = value_past(kind, value, levels)?;
         last = id;
     }
-    Err(broken(Rule::End, rest))
+    Err(broken(FooterRule::End, rest))
 }
 
 /// Passes over so many items of one type.

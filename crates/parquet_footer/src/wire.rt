@@ -3,7 +3,7 @@ ghost use Rattle.std.specs.Prelude.{◌≡◌, ◌<◌, length};
 ghost use Rattle.parquet_footer.specs.Fault.{Returns};
 ghost use Rattle.parquet_footer.specs.Wire.{number_at, number_past, count_at, bytes_past, binary_at, text_at, item_type, list_at, map_at, field_at};
 
-use crate::fault::{Fault, Rule, broken};
+use crate::fault::{Fault, FooterRule, broken};
 
 /// A number in at most so many bytes.
 #[tactic(auto, unfolding(crate::specs::Wire::number_at))]
@@ -11,17 +11,17 @@ pub fn number_at(bytes: &[u8], most: u32) -> Result<(u32, &[u8]), Fault>
     ensures { Returns (λ x. (x.0, x.1.now)) result (number_at most bytes.now) }
 {
     let Some((byte, rest)) = bytes.split_first() else {
-        return Err(broken(Rule::End, bytes));
+        return Err(broken(FooterRule::End, bytes));
     };
     if *byte < 128 {
         return Ok((*byte as u32, rest));
     }
     if most <= 1 {
-        return Err(broken(Rule::Number, bytes));
+        return Err(broken(FooterRule::Number, bytes));
     }
     match number_at(rest, most - 1) {
         Ok((high, rest)) if high < 0x200_0000 => Ok(((*byte as u32 - 128) + 128 * high, rest)),
-        Ok(_) => Err(broken(Rule::Number, bytes)),
+        Ok(_) => Err(broken(FooterRule::Number, bytes)),
         Err(fault) => Err(fault),
     }
 }
@@ -36,15 +36,15 @@ pub fn number_past(bytes: &[u8], most: u32) -> Result<&[u8], Fault>
     let mut rest = bytes;
     'groups: for i in 1..most {
         match rest.split_first() {
-            None => return Err(broken(Rule::End, rest)),
+            None => return Err(broken(FooterRule::End, rest)),
             Some((byte, behind)) if *byte < 128 => return Ok(behind),
             Some((_, behind)) => rest = behind,
         }
     }
     match rest.split_first() {
-        None => Err(broken(Rule::End, rest)),
+        None => Err(broken(FooterRule::End, rest)),
         Some((byte, behind)) if *byte < 128 => Ok(behind),
-        Some(_) => Err(broken(Rule::Number, rest)),
+        Some(_) => Err(broken(FooterRule::Number, rest)),
     }
 }
 
@@ -56,7 +56,7 @@ pub fn count_at(bytes: &[u8]) -> Result<(u32, &[u8]), Fault>
 {
     match number_at(bytes, 5) {
         Ok((number, rest)) if number % 2 == 0 => Ok((number / 2, rest)),
-        Ok(_) => Err(broken(Rule::Negative, bytes)),
+        Ok(_) => Err(broken(FooterRule::Negative, bytes)),
         Err(fault) => Err(fault),
     }
 }
@@ -67,7 +67,7 @@ pub fn bytes_past(bytes: &[u8], count: usize) -> Result<&[u8], Fault>
     ensures { Returns (λ x. x.now) result (bytes_past count bytes.now) }
 {
     if count > bytes.len() {
-        return Err(broken(Rule::End, bytes));
+        return Err(broken(FooterRule::End, bytes));
     }
     Ok(&bytes[count..])
 }
@@ -79,7 +79,7 @@ pub fn binary_at(bytes: &[u8]) -> Result<(&[u8], &[u8]), Fault>
 {
     match number_at(bytes, 5) {
         Ok((count, rest)) if count as usize <= rest.len() => Ok(rest.split_at(count as usize)),
-        Ok(_) => Err(broken(Rule::Length, bytes)),
+        Ok(_) => Err(broken(FooterRule::Length, bytes)),
         Err(fault) => Err(fault),
     }
 }
@@ -90,7 +90,7 @@ pub fn text_at(bytes: &[u8]) -> Result<&str, Fault>
     ensures { Returns (λ x. x.now) result (text_at bytes.now) }
 {
     let (text, _) = binary_at(bytes)?;
-    str::from_utf8(text).or(Err(broken(Rule::Utf8, bytes)))
+    str::from_utf8(text).or(Err(broken(FooterRule::Utf8, bytes)))
 }
 
 /// The type of an item, by the type in the head of its list or map.
@@ -106,7 +106,7 @@ pub fn list_at(bytes: &[u8]) -> Result<(u8, u32, &[u8]), Fault>
     ensures { Returns (λ x. (x.0, x.1, x.2.now)) result (list_at bytes.now) }
 {
     let Some((head, rest)) = bytes.split_first() else {
-        return Err(broken(Rule::End, bytes));
+        return Err(broken(FooterRule::End, bytes));
     };
     let (count, rest) = if *head < 240 {
         ((*head / 16) as u32, rest)
@@ -114,7 +114,7 @@ pub fn list_at(bytes: &[u8]) -> Result<(u8, u32, &[u8]), Fault>
         number_at(rest, 5)?
     };
     if count as usize > rest.len() {
-        return Err(broken(Rule::Length, bytes));
+        return Err(broken(FooterRule::Length, bytes));
     }
     Ok((item_type(*head % 16), count, rest))
 }
@@ -129,10 +129,10 @@ pub fn map_at(bytes: &[u8]) -> Result<(u8, u8, u32, &[u8]), Fault>
         return Ok((3, 3, 0, rest));
     }
     let Some((types, rest)) = rest.split_first() else {
-        return Err(broken(Rule::End, rest));
+        return Err(broken(FooterRule::End, rest));
     };
     if count as usize > rest.len() {
-        return Err(broken(Rule::Length, bytes));
+        return Err(broken(FooterRule::Length, bytes));
     }
     Ok((item_type(*types / 16), item_type(*types % 16), count, rest))
 }
@@ -145,13 +145,13 @@ pub fn field_at(last: u16, bytes: &[u8]) -> Result<(u16, u8, &[u8]), Fault>
     ensures { Returns (λ x. (x.0, x.1, x.2.now)) result (field_at last bytes.now) }
 {
     let Some((head, rest)) = bytes.split_first() else {
-        return Err(broken(Rule::End, bytes));
+        return Err(broken(FooterRule::End, bytes));
     };
     if *head == 0 {
         return Ok((last, 0, rest));
     }
     if *head % 16 == 0 {
-        return Err(broken(Rule::WireType, bytes));
+        return Err(broken(FooterRule::WireType, bytes));
     }
     let more = *head / 16;
     let (id, behind) = if more == 0 {
@@ -160,7 +160,7 @@ pub fn field_at(last: u16, bytes: &[u8]) -> Result<(u16, u8, &[u8]), Fault>
         (last as u32 + more as u32, rest)
     };
     if id >= 32768 {
-        return Err(broken(Rule::FieldId, rest));
+        return Err(broken(FooterRule::FieldId, rest));
     }
     Ok((id as u16, *head % 16, behind))
 }

@@ -8,7 +8,7 @@ use Rattle.arrow_values.specs.Tree.{Text, FieldTree}
 use Rattle.arrow_values.specs.Texts.{extension_name, extension_metadata}
 use Rattle.arrow_columns.specs.Column.{TypeTree, column_of, known}
 use Rattle.geoarrow_layout.specs.declared.names.ExtensionName.{ExtensionName}
-use Rattle.geoarrow_layout.specs.declared.encodings.Kind.{Kind}
+use Rattle.geoarrow_layout.specs.declared.native_kinds.Kind.{Kind}
 use Rattle.geoarrow_layout.specs.Kinds.{name_text, name_of, extension_of}
 use Rattle.geoarrow_layout.specs.Inferred.{InferredAs}
 use Rattle.geoarrow_meta.specs.declared.metadata.Metadata.{Metadata}

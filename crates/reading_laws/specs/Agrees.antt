@@ -3,7 +3,7 @@ use Rattle.std.specs.Prelude.{◌≡◌, [], Bool, true, false, None, Some}
 use Rattle.arrow_values.specs.Tree.{FieldTree}
 use Rattle.arrow_values.specs.Texts.{extension_name, extension_metadata}
 use Rattle.arrow_columns.specs.Column.{column_of}
-use Rattle.geoarrow_layout.specs.declared.encodings.Kind.{Kind}
+use Rattle.geoarrow_layout.specs.declared.native_kinds.Kind.{Kind}
 use Rattle.geoarrow_meta.specs.declared.metadata.Metadata.{Metadata}
 use Rattle.geoarrow_meta.specs.Read.{some_has_float}
 use Rattle.geoarrow_native.specs.Column.{ReadsAs}

@@ -1,7 +1,6 @@
 pub mod Checks
 pub mod Columns
 pub mod Crs
-pub mod Problems
 pub mod Shown
 pub mod Wants
 pub mod Table

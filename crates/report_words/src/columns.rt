@@ -14,7 +14,7 @@ use crate::cell::cut;
 use crate::crs::crs_name;
 use crate::table::Row;
 use crate::text::shown;
-use arrow_columns::Column;
+use arrow_columns::SchemaColumn;
 use column_check::{Finding, Geometry, Warning};
 use column_reports::{ColumnReport, reason_words, type_word, warning_words};
 use std::alloc::{AllocError, Global};
@@ -37,7 +37,7 @@ pub fn row_of(alloc: Global, report: &ColumnReport) -> Result<Row, AllocError>
 }
 
 /// The name of a column, as a cell.
-fn name_cell(alloc: Global, column: &Column) -> Result<String, AllocError>
+fn name_cell(alloc: Global, column: &SchemaColumn) -> Result<String, AllocError>
     ensures { IfOk result (λ cell. string_bytes cell ≡ cut (shown (string_bytes column.now.name))) }
 {
     let name = shown(alloc, column.name.as_str())?;
@@ -45,7 +45,7 @@ fn name_cell(alloc: Global, column: &Column) -> Result<String, AllocError>
 }
 
 /// What a column holds, as a cell.
-fn held_cell(alloc: Global, column: &Column, finding: &Finding) -> Result<String, AllocError>
+fn held_cell(alloc: Global, column: &SchemaColumn, finding: &Finding) -> Result<String, AllocError>
     ensures { IfOk result (λ cell. string_bytes cell ≡ cut (held (column_tree column.now) finding.now)) }
 {
     let held = held(alloc, column, finding)?;
@@ -53,7 +53,7 @@ fn held_cell(alloc: Global, column: &Column, finding: &Finding) -> Result<String
 }
 
 /// What a column holds.
-fn held(alloc: Global, column: &Column, finding: &Finding) -> Result<String, AllocError>
+fn held(alloc: Global, column: &SchemaColumn, finding: &Finding) -> Result<String, AllocError>
     ensures { IfOk result (λ text. string_bytes text ≡ held (column_tree column.now) finding.now) }
 {
     match finding {
@@ -72,7 +72,7 @@ fn held(alloc: Global, column: &Column, finding: &Finding) -> Result<String, All
 }
 
 /// A word, and the extension name of a column.
-fn extension_shown(alloc: Global, word: &str, column: &Column) -> Result<String, AllocError>
+fn extension_shown(alloc: Global, word: &str, column: &SchemaColumn) -> Result<String, AllocError>
     ensures { IfOk result (λ text. string_bytes text ≡ word.now ++ shown (extension_word (column_tree column.now))) }
 {
     let name = shown(alloc, column.extension_type_name().unwrap_or(""))?;

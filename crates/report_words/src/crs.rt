@@ -27,13 +27,13 @@ use value_tokens::JsonText;
 pub fn crs_name(alloc: Global, crs: Option<&JsonText>) -> Result<String, AllocError>
     ensures { IfOk result (λ name. string_bytes name ≡ crs_name (option_and_then of_json (option_map (λ c. c.now) crs.entry))) }
 {
-    let value = value_of(alloc, crs)?;
+    let value = crs_value(alloc, crs)?;
     let shown = crs_shown(alloc, value.as_ref())?;
     cut(alloc, shown.as_str())
 }
 
 /// The value of a CRS; none where a number of it is out of range.
-fn value_of(alloc: Global, crs: Option<&JsonText>) -> Result<Option<Value>, AllocError>
+fn crs_value(alloc: Global, crs: Option<&JsonText>) -> Result<Option<Value>, AllocError>
     ensures { IfOk result (λ value. option_map view value ≡ option_and_then of_json (option_map (λ c. c.now) crs.entry)) }
 {
     match crs {

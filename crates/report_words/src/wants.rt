@@ -8,7 +8,7 @@ ghost use Rattle.arrow_columns.specs.Column.{column_tree};
 
 use crate::columns::crs_of;
 use crate::text::shown;
-use arrow_columns::Column;
+use arrow_columns::SchemaColumn;
 use column_check::Geometry;
 use column_reports::{ColumnReport, type_word};
 use geoarrow_layout::{Kind, coord_type_word, dimension_word, kind_word};
@@ -97,7 +97,7 @@ fn parts_of(alloc: Global, want: &str) -> Result<Vec<&str>, AllocError>
 /// What is said of the first part that is not met.
 fn unmet_part(
     alloc: Global,
-    column: &Column,
+    column: &SchemaColumn,
     geometry: &Geometry,
     parts: &[&str],
 ) -> Result<Option<String>, AllocError>
@@ -138,7 +138,7 @@ fn encoding_word(kind: Kind) -> &'static str
 /// What is said of a part that is not met.
 fn unmet(
     alloc: Global,
-    column: &Column,
+    column: &SchemaColumn,
     geometry: &Geometry,
     crs: &str,
     part: &str,

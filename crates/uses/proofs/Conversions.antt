@@ -1,7 +1,7 @@
 -- A type of the kind and the metadata of points is that type of points.
 use Rattle.std.proofs.Common.{◌≡◌, ap, ◌∙◌}
-use Rattle.geoarrow_layout.specs.declared.encodings.Kind.TheVariants as kinds
-use Rattle.geoarrow_layout.specs.declared.encodings.NativeKind.TheVariants as natives
+use Rattle.geoarrow_layout.specs.declared.native_kinds.Kind.TheVariants as kinds
+use Rattle.geoarrow_layout.specs.declared.native_kinds.NativeKind.TheVariants as natives
 use Rattle.geoarrow_native.specs.declared.column.ColumnType.{ColumnType}
 use Rattle.geoarrow_native.specs.declared.native.Native.{Native}
 use Rattle.geoarrow_native.specs.declared.shape.Point.{Point}

@@ -5,8 +5,8 @@ use Rattle.arrow_values.specs.Tree.{Tree, union, FieldTree, Members}
 use Rattle.arrow_values.specs.View.{member_trees, member_list, listed_members}
 use Rattle.arrow_values.specs.Union.{retained, shared_id}
 use Rattle.arrow_values.specs.declared.tree.UnionMode.{UnionMode}
-use Rattle.geoarrow_layout.specs.declared.kinds.CoordType.{CoordType}
-use Rattle.geoarrow_layout.specs.declared.encodings.Kind.TheVariants.{Geometry as OfGeometry}
+use Rattle.geoarrow_layout.specs.declared.dimensions.CoordType.{CoordType}
+use Rattle.geoarrow_layout.specs.declared.native_kinds.Kind.TheVariants.{Geometry as OfGeometry}
 use Rattle.geoarrow_layout.specs.Shapes.{Geometry}
 use Rattle.geoarrow_layout.specs.Changes.{GeometryUnion, EachOf}
 use Rattle.geoarrow_meta.specs.declared.metadata.Metadata.{Metadata}

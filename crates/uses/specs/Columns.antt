@@ -5,7 +5,7 @@ use Rattle.arrow_values.specs.View.{member_trees, member_list}
 use Rattle.arrow_values.specs.Union.{retained, shared_id}
 use Rattle.serde_json.specs.Data.{Data}
 use Rattle.serde_json.specs.Written.{compact_text}
-use Rattle.geoarrow_layout.specs.declared.kinds.CoordType.{CoordType}
+use Rattle.geoarrow_layout.specs.declared.dimensions.CoordType.{CoordType}
 use Rattle.geoarrow_layout.specs.Changes.{GeometryUnion, EachOf}
 use Rattle.geoarrow_meta.specs.declared.metadata.Metadata.{Metadata}
 use Rattle.geoarrow_meta.specs.Transform.{own_projjson}

@@ -1,8 +1,8 @@
 //! A column without what a query does not ask for.
 ghost use Rattle.std.specs.Prelude.{◌≡◌, ◌≢◌, ◌↔◌, [], IfOk, IfSome, IsSome};
 ghost use Rattle.arrow_values.specs.Union.{retained};
-ghost use Rattle.geoarrow_layout.specs.declared.kinds.CoordType.{CoordType};
-ghost use Rattle.geoarrow_layout.specs.declared.encodings.Kind.TheVariants.{Geometry as OfGeometry};
+ghost use Rattle.geoarrow_layout.specs.declared.dimensions.CoordType.{CoordType};
+ghost use Rattle.geoarrow_layout.specs.declared.native_kinds.Kind.TheVariants.{Geometry as OfGeometry};
 ghost use Rattle.geoarrow_meta.specs.declared.metadata.Metadata.{Metadata};
 ghost use Rattle.geoarrow_native.specs.Column.{ReadsAs};
 ghost use Rattle.uses.specs.Columns.{members_of, narrowed};

@@ -5,7 +5,7 @@ ghost use Rattle.serde_json.specs.View.{view, view as data_of};
 ghost use Rattle.geoarrow_meta.specs.Code.{data_code, same};
 ghost use Rattle.geoarrow_meta.specs.CrsValue.{IsCrsValue, same-equiv, same-per, value_fed, value_fed-same};
 
-use crate::walks::same_value;
+use crate::json_values::same_value;
 use serde_json::Value;
 use std::alloc::{AllocError, Global};
 use std::hash::{Hash, Hasher};

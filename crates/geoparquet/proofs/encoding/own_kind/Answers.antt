@@ -1,7 +1,7 @@
 use Rattle.std.proofs.Common.{◌≡◌, Some, ap, refl}
 use Rattle.arrow_values.specs.Texts.{text_of}
 use Rattle.geoarrow_layout.specs.declared.names.ExtensionName.TheVariants.{Native}
-use Rattle.geoarrow_layout.specs.declared.encodings.NativeKind.{NativeKind}
+use Rattle.geoarrow_layout.specs.declared.native_kinds.NativeKind.{NativeKind}
 use Rattle.geoparquet.proofs.Naming.{own_is, own_other}
 use Rattle.geoparquet.proofs.encoding.own_kind.Goals as goal
 

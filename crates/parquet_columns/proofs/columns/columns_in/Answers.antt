@@ -1,16 +1,16 @@
 use Rattle.std.proofs.Common.{◌≡◌, ℕ, ◌<◌, ◌==◌, Bool, false, Err, List, length, map, Vec, Global, Ok, sym, ap, ◌∙◌, arith}
 use Rattle.std.proofs.lemmas.Bool.Decides.{nat_tests}
-use Rattle.arrow_columns.specs.declared.column.Column.{Column}
+use Rattle.arrow_columns.specs.declared.column.SchemaColumn.{SchemaColumn}
 use Rattle.arrow_columns.specs.Column.{ColumnTree, column_tree}
 use Rattle.parquet_footer.specs.Element.{element}
-use Rattle.parquet_columns.specs.declared.fault.Fault.{Fault}
+use Rattle.parquet_columns.specs.declared.fault.ElementFault.{ElementFault}
 use Rattle.parquet_columns.specs.declared.nodes.Node.{Node}
 use Rattle.parquet_columns.specs.Nodes.{NodeTree, node_tree}
 use Rattle.parquet_columns.specs.Columns.{columns_of}
 use Rattle.parquet_columns.proofs.Walks.{said, no_root, root_fails, below_fails, used}
 use Rattle.parquet_columns.proofs.columns.columns_in.Goals as goal
 
-abbrev trees : Vec Column Global → List ColumnTree
+abbrev trees : Vec SchemaColumn Global → List ColumnTree
 trees v = map column_tree v.items
 
 abbrev several : Vec Node Global × ℕ → List NodeTree × ℕ
@@ -29,7 +29,7 @@ pub returns-in_default : goal.returns-in_default
 returns-in_default c =
     let es = c.args.elements.now in
     let some : 0 < length es = not_empty _ _ c.is_empty.ensures c.if-is_empty.false in
-    root_fails _ es some c.in_default.is ∙ ap (λ (e : Fault). Err e) (sym c.new-in_default.ensures)
+    root_fails _ es some c.in_default.is ∙ ap (λ (e : ElementFault). Err e) (sym c.new-in_default.ensures)
 
 pub returns-in_err-below : goal.returns-in_err-below
 returns-in_err-below c =

@@ -1,7 +1,7 @@
 use Rattle.std.proofs.Common.{◌≡◌, Option, Some, subst}
 use Rattle.arrow_values.specs.Tree.{Tree}
 use Rattle.arrow_values.specs.View.{tree}
-use Rattle.geoarrow_layout.specs.declared.encodings.Kind.{Kind}
+use Rattle.geoarrow_layout.specs.declared.native_kinds.Kind.{Kind}
 use Rattle.geoarrow_layout.specs.Inferred.{InferredAs, YieldsInferred}
 use Rattle.reading_laws.proofs.Agreement.{agrees_with_inference, whole_inferred, infers_no_empty_text}
 use Rattle.reading_laws.proofs.laws.agrees_with_inference.Goals as goal

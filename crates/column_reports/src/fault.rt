@@ -1,0 +1,197 @@
+//! Why a file is refused, as a line of JSON and in words.
+ghost use Rattle.std.specs.Prelude.{◌≡◌, ◌≢◌, All, IfOk, OnOk, Some, option_map, string_bytes};
+ghost use Rattle.json.specs.Print.{print};
+ghost use Rattle.json.specs.Tree.{json_tokens};
+ghost use Rattle.arrow_values.specs.Texts.{text_of};
+ghost use Rattle.column_reports.specs.Objects.{AddsMembers};
+ghost use Rattle.column_reports.specs.Faults.{byte_in, line_in, element_in, column_in, counted};
+ghost use Rattle.column_reports.specs.Faults.{place_text, placed, fault_text, number_if};
+ghost use Rattle.column_reports.specs.Faults.{numbers_of, words_of, fault_report};
+
+use crate::put::{put_text, put_text_if};
+use column_files::{Fault, Place};
+use json::Writer;
+use std::alloc::{AllocError, Global};
+use value_tokens::text_of;
+
+/// Returns why a file is refused as a line of JSON, without a line feed and without blanks between
+/// its parts (docs/FORMAT.md, 2.8), with the name of the file, where one is given. Errs only when
+/// out of memory.
+///
+/// ```rust
+/// let fault = fault_of(Form::Lines, FileFault::NoField(1, LineFault::NotObject));
+/// let line = fault_line(alloc, Some("a.json"), &fault)?;
+/// assert_eq!(rt; line.as_str(), r#"{"error":"LineNotObject","file":"a.json","line":2,"message":"is JSON, but no object","place":"line 2"}"#);
+/// ```
+pub fn fault_line(
+    alloc: Global,
+    file: Option<&str>,
+    fault: &Fault,
+) -> Result<String, AllocError>
+    ensures text { IfOk result (λ line. string_bytes line ≡ print (json_tokens (fault_report (text_of file.entry) fault.now))) }
+    ensures one_line { IfOk result (λ line. All (λ b. b ≢ 10) (string_bytes line)) }
+{
+    let place = place_text(alloc, fault.place)?;
+    let mut out = Writer::new(Vec::new(alloc));
+    out.begin_object()?;
+    put_numbers(&mut out, fault.place)?;
+    put_words(&mut out, file, fault, &place)?;
+    out.end_object()?;
+    Ok(text_of(out))
+}
+
+/// Returns why a file is refused, in words: the place, if there is one, and what is wrong there. Errs
+/// only when out of memory.
+///
+/// ```rust
+/// let fault = fault_of(Form::Lines, FileFault::NoField(1, LineFault::NotObject));
+/// assert_eq!(rt; fault_text(alloc, &fault)?.as_str(), "line 2: is JSON, but no object");
+/// ```
+pub fn fault_text(alloc: Global, fault: &Fault) -> Result<String, AllocError>
+    ensures { IfOk result (λ text. string_bytes text ≡ fault_text fault.now) }
+{
+    match place_text(alloc, fault.place)? {
+        None => String::from_str(alloc, fault.message),
+        Some(place) => placed(alloc, place, fault.message),
+    }
+}
+
+/// What is wrong at a place.
+fn placed(alloc: Global, place: String, message: &str) -> Result<String, AllocError>
+    ensures { IfOk result (λ text. string_bytes text ≡ placed (Some (string_bytes place)) message.now) }
+{
+    format!(in alloc; "{place}: {message}")
+}
+
+/// A place in words, unless it is the file as a whole.
+fn place_text(alloc: Global, place: Place) -> Result<Option<String>, AllocError>
+    ensures { IfOk result (λ text. option_map string_bytes text ≡ place_text place) }
+{
+    match place {
+        Place::File => Ok(None),
+        Place::Line(line) => named(alloc, "line ", line, ""),
+        Place::LineByte(line, byte) => {
+            let behind = counted(alloc, ", byte ", byte, "")?;
+            named(alloc, "line ", line, behind.as_str())
+        }
+        Place::Byte(byte) => named(alloc, "byte ", byte, ""),
+        Place::MessageByte(byte) => named(alloc, "byte ", byte, " of the message"),
+        Place::FooterByte(byte) => named(alloc, "byte ", byte, " of the footer"),
+        Place::Element(element) => named(alloc, "element ", element, " of the schema"),
+        Place::StoredByte(byte) => {
+            let before = "the schema at ARROW:schema: byte ";
+            named(alloc, before, byte, " of the message")
+        }
+        Place::Column(column) => named(alloc, "column ", column, ""),
+    }
+}
+
+/// The words of a place with a number.
+fn named(
+    alloc: Global,
+    before: &str,
+    number: u64,
+    behind: &str,
+) -> Result<Option<String>, AllocError>
+    ensures { IfOk result (λ text. option_map string_bytes text ≡ Some (counted before.now number behind.now)) }
+{
+    Ok(Some(counted(alloc, before, number, behind)?))
+}
+
+/// A number between two texts.
+fn counted(alloc: Global, before: &str, number: u64, behind: &str) -> Result<String, AllocError>
+    ensures { IfOk result (λ text. string_bytes text ≡ counted before.now number behind.now) }
+{
+    format!(in alloc; "{before}{number}{behind}")
+}
+
+/// Writes the numbers of a place but that of its line.
+fn put_numbers(out: &mut Writer, place: Place) -> Result<(), AllocError>
+    ensures { OnOk result (AddsMembers (numbers_of place) out.old out.new) }
+{
+    put_number_if(out, "byte", byte_in(place))?;
+    put_number_if(out, "column", column_in(place))?;
+    put_number_if(out, "element", element_in(place))
+}
+
+/// Writes the words, and the number of the line.
+fn put_words(
+    out: &mut Writer,
+    file: Option<&str>,
+    fault: &Fault,
+    place: &Option<String>,
+) -> Result<(), AllocError>
+    requires { option_map string_bytes place.now ≡ place_text fault.now.place }
+    ensures { OnOk result (AddsMembers (words_of (text_of file.entry) fault.now) out.old out.new) }
+{
+    put_text(out, "error", fault.code)?;
+    put_text_if(out, "file", file)?;
+    put_number_if(out, "line", line_in(fault.place))?;
+    put_text(out, "message", fault.message)?;
+    put_text_if(out, "place", text_in(place))
+}
+
+/// The text, if there is one.
+fn text_in(text: &Option<String>) -> Option<&str>
+    ensures { text_of result ≡ option_map string_bytes text.now }
+{
+    match text {
+        Some(text) => Some(text.as_str()),
+        None => None,
+    }
+}
+
+/// Writes a member whose value is a number, if there is one.
+fn put_number_if(out: &mut Writer, key: &str, number: Option<u64>) -> Result<(), AllocError>
+    ensures { OnOk result (AddsMembers (number_if key.now number) out.old out.new) }
+{
+    if let Some(number) = number {
+        out.key(key)?;
+        return out.u64(number);
+    }
+    Ok(())
+}
+
+/// The byte of a place.
+fn byte_in(place: Place) -> Option<u64>
+    ensures { result ≡ byte_in place }
+{
+    match place {
+        Place::LineByte(_, byte)
+        | Place::Byte(byte)
+        | Place::MessageByte(byte)
+        | Place::FooterByte(byte)
+        | Place::StoredByte(byte) => Some(byte),
+        Place::File | Place::Line(_) | Place::Element(_) | Place::Column(_) => None,
+    }
+}
+
+/// The line of a place.
+fn line_in(place: Place) -> Option<u64>
+    ensures { result ≡ line_in place }
+{
+    match place {
+        Place::Line(line) | Place::LineByte(line, _) => Some(line),
+        _ => None,
+    }
+}
+
+/// The element of a place.
+fn element_in(place: Place) -> Option<u64>
+    ensures { result ≡ element_in place }
+{
+    match place {
+        Place::Element(element) => Some(element),
+        _ => None,
+    }
+}
+
+/// The column of a place.
+fn column_in(place: Place) -> Option<u64>
+    ensures { result ≡ column_in place }
+{
+    match place {
+        Place::Column(column) => Some(column),
+        _ => None,
+    }
+}
