@@ -7,7 +7,7 @@ mod names;
 mod nested;
 mod notation;
 
-pub use column::{SchemaColumn, AnyType};
+pub use column::{AnyType, SchemaColumn};
 pub use extension::with_extension;
 pub use names::ColumnNames;
 pub use nested::{ListForm, all_known, fields_of, list_type, only_column, parts_of, struct_type};

@@ -4,7 +4,7 @@ ghost use Rattle.arrow_columns.specs.Column.{type_tree, column_tree};
 ghost use Rattle.arrow_columns.specs.Notation.{column_text};
 ghost use Rattle.arrow_columns.specs.Nested.{only, list_text, list_type, all_known, known_fields, struct_type};
 
-use crate::column::{SchemaColumn, AnyType};
+use crate::column::{AnyType, SchemaColumn};
 use crate::notation::{nested_notation, part_notation, sized_notation};
 use arrow_values::{DataType, Field, Fields};
 use std::alloc::{AllocError, Global};

@@ -11,6 +11,6 @@ mod types;
 mod wire;
 mod write;
 
-pub use fault::{IpcFault, IpcError, IpcRule};
+pub use fault::{IpcError, IpcFault, IpcRule};
 pub use schema::{Endianness, NESTING_LIMIT, Schema, read_file_footer, read_schema};
 pub use write::{WriteError, write_schema};

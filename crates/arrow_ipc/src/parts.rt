@@ -227,7 +227,11 @@ pub(crate) fn parts_at(bytes: &[u8], at: usize) -> Found<Parts<'_>>
     let name = text_in(bytes, &table, 0)?;
     let nullable = flag_in(bytes, &table, 1)?;
     let tag = integer_in(bytes, &table, 2, 1, 0)?;
-    let rule = if tag == 0 { IpcRule::Missing } else { IpcRule::Tag };
+    let rule = if tag == 0 {
+        IpcRule::Missing
+    } else {
+        IpcRule::Tag
+    };
     ensure(0 < tag && tag <= 26, rule, table.at)?;
     let value = open(bytes, table_in(bytes, &table, 3)?)?;
     let _first = slot_at(bytes, &value, 0)?;

@@ -157,7 +157,13 @@ fn finish(
 /// Reads the column to which the offset at a position leads, and all that is below it.
 #[tactic(auto, using(crate::proofs::Told::too_deep, crate::proofs::Told::steps))]
 #[cycle(read)]
-fn column(alloc: Global, bytes: &[u8], at: usize, depth: usize, budget: &mut usize) -> Read<SchemaColumn>
+fn column(
+    alloc: Global,
+    bytes: &[u8],
+    at: usize,
+    depth: usize,
+    budget: &mut usize,
+) -> Read<SchemaColumn>
     ensures { Tells column_tree (column_at depth bytes.now at) budget.old budget.new result }
 {
     ensure(depth > 0, IpcRule::Depth, at)?;

@@ -6,7 +6,7 @@ ghost use Rattle.arrow_ipc.specs.Types.{timed_text, named_text, member_parts, un
 
 use crate::parts::{Index, Kind, Named};
 use arrow_columns::{
-    SchemaColumn, AnyType, all_known, fields_of, list_type, member_notation, nested_notation,
+    AnyType, SchemaColumn, all_known, fields_of, list_type, member_notation, nested_notation,
     only_column, parts_of, plain_name, sized_notation, struct_type, union_word,
 };
 use arrow_values::{DataType, UnionFields, UnionMode};
@@ -81,7 +81,12 @@ fn union_type(alloc: Global, mode: UnionMode, ids: Vec<i8>, children: Vec<Schema
 }
 
 /// A type with so many children that is none of the 26.
-fn others(alloc: Global, word: &str, count: usize, children: &[SchemaColumn]) -> Made<Option<AnyType>>
+fn others(
+    alloc: Global,
+    word: &str,
+    count: usize,
+    children: &[SchemaColumn],
+) -> Made<Option<AnyType>>
     ensures { IfOk result (λ o. option_map type_tree o ≡ others word.now count (map column_tree children.now)) }
 {
     if children.len() != count {

@@ -45,7 +45,9 @@ fn vtable_at(bytes: &[u8], table: usize) -> Found<usize>
     ensures { result ≡ vtable_at bytes.now table }
 {
     match integer_at(bytes, table, 4)? {
-        back if back < 0x8000_0000 => table.checked_sub(back).ok_or(broken(IpcRule::Vtable, table)),
+        back if back < 0x8000_0000 => table
+            .checked_sub(back)
+            .ok_or(broken(IpcRule::Vtable, table)),
         back => ahead(IpcRule::Vtable, bytes, table, 0x1_0000_0000 - back),
     }
 }

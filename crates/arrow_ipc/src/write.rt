@@ -12,7 +12,7 @@ ghost use Rattle.arrow_ipc.specs.Writes.{Streams, RefusesColumns, GivesColumns};
 
 use crate::nesting::data_block;
 use crate::schema::{Endianness, NESTING_LIMIT, Schema};
-use arrow_columns::{SchemaColumn, AnyType};
+use arrow_columns::{AnyType, SchemaColumn};
 use std::alloc::{AllocError, AllocFailed, Global};
 use std::collections::BTreeMap;
 

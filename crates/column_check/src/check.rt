@@ -10,7 +10,7 @@ ghost use Rattle.column_check.specs.Finding.{HasName, HasOtherName, IsReserved, 
 use crate::data_type::{TypeFault, kind_under};
 use crate::finding::{Finding, Geometry, Reasons};
 use crate::metadata::{ColumnMetadata, MetadataFault, read_metadata};
-use arrow_columns::{SchemaColumn, AnyType};
+use arrow_columns::{AnyType, SchemaColumn};
 use geoarrow_layout::{ExtensionName, Kind, infer_kind};
 use json::Scratch;
 use std::alloc::{AllocError, Global};

@@ -12,7 +12,7 @@ ghost use Rattle.column_check.specs.declared.data_type.TypeFault.{TypeFault};
 ghost use Rattle.column_check.specs.declared.metadata.MetadataFault.{MetadataFault};
 
 use crate::finding::Finding;
-use arrow_columns::{SchemaColumn, AnyType};
+use arrow_columns::{AnyType, SchemaColumn};
 use geoarrow_layout::{infer_kind, names_are_distinct, no_fault_if_accepted, one_fault, one_kind};
 
 /// A law: of a column one thing is said, with or without inference: two findings of it say the same. There is no need to run this.

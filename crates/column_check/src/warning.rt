@@ -9,7 +9,7 @@ ghost use Rattle.column_check.specs.Warnings.{said, of_column, is_empty_text, cr
 use crate::finding::{Finding, Geometry};
 use crate::metadata::ColumnMetadata;
 use crate::walk::{Sought, push_sought};
-use arrow_columns::{SchemaColumn, AnyType};
+use arrow_columns::{AnyType, SchemaColumn};
 use geoarrow_meta::holds_whole_numbers;
 use std::alloc::{AllocError, Global};
 use value_tokens::JsonText;

@@ -7,7 +7,7 @@ ghost use Rattle.column_files.specs.Files.{further, footer_begin};
 
 use crate::line::LineFault;
 use arrow_columns::SchemaColumn;
-use arrow_ipc::{IpcFault, IpcError, Schema};
+use arrow_ipc::{IpcError, IpcFault, Schema};
 use parquet_columns::SchemaError;
 use std::alloc::{AllocError, AllocFailed};
 
@@ -119,7 +119,9 @@ fn footer_begin(bytes: &[u8]) -> usize
 }
 
 /// The columns of a schema that is read.
-pub(crate) fn columns_of_schema(read: Result<Schema, IpcError>) -> Result<Vec<SchemaColumn>, FileFault>
+pub(crate) fn columns_of_schema(
+    read: Result<Schema, IpcError>,
+) -> Result<Vec<SchemaColumn>, FileFault>
     ensures { (found : Result (List ℕ) IpcFault) (reads : List ℕ → Result (SchemaTree × ℕ) IpcFault) → Meets found reads read → IsSchemaRead found reads result }
 {
     match read {

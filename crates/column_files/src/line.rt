@@ -11,7 +11,7 @@ ghost use Rattle.column_files.specs.Lines.{other_of_value, with_null, with_other
 ghost use Rattle.column_files.specs.ColumnLines.{line_of_column, FitsLine};
 ghost use Rattle.column_files.specs.LineFaults.{IsLineRead, IsValueRead, IsPartFault, IsNullRead};
 
-use arrow_columns::{SchemaColumn, AnyType};
+use arrow_columns::{AnyType, SchemaColumn};
 use arrow_values::Field;
 use field_lines::laws::written_null_is_read;
 use field_lines::{field_line, other_line, parse_line, parse_line_with_scratch};
@@ -99,7 +99,10 @@ pub fn column_line(alloc: Global, column: SchemaColumn) -> Result<String, AllocE
 /// The column that a line denotes which denotes no field.
 #[cold]
 #[tactic(auto, using(crate::proofs::LineReads::no_utf8))]
-fn parse_other_line(alloc: Global, line: &[u8]) -> Result<Result<SchemaColumn, LineFault>, AllocError>
+fn parse_other_line(
+    alloc: Global,
+    line: &[u8],
+) -> Result<Result<SchemaColumn, LineFault>, AllocError>
     requires { field_of_line line.now ≡ None }
     ensures { IfOk result (IsLineRead line.now) }
 {
@@ -111,7 +114,10 @@ fn parse_other_line(alloc: Global, line: &[u8]) -> Result<Result<SchemaColumn, L
 
 /// The column that a text denotes which denotes no field.
 #[tactic(auto, using(crate::proofs::LineReads::no_field, crate::proofs::LineReads::read_of_line, crate::proofs::LineReads::no_json))]
-fn parse_other_text(alloc: Global, text: &str) -> Result<Result<SchemaColumn, LineFault>, AllocError>
+fn parse_other_text(
+    alloc: Global,
+    text: &str,
+) -> Result<Result<SchemaColumn, LineFault>, AllocError>
     requires { field_of_line text.now ≡ None }
     ensures { IfOk result (IsLineRead text.now) }
 {
@@ -132,7 +138,10 @@ fn parse_other_text(alloc: Global, text: &str) -> Result<Result<SchemaColumn, Li
 
 /// The column that a value denotes which denotes no field. An object then has the type null.
 #[tactic(auto, using(crate::proofs::NullType::not_object, crate::proofs::NullType::no_column_of))]
-fn column_of(alloc: Global, value: &mut Value) -> Result<Result<SchemaColumn, LineFault>, AllocError>
+fn column_of(
+    alloc: Global,
+    value: &mut Value,
+) -> Result<Result<SchemaColumn, LineFault>, AllocError>
     requires none { field_of_value (view value.old) ≡ None }
     requires shallow { depth (view value.old) ≤ max_depth }
     ensures { IfOk result (IsValueRead (view value.old)) }

@@ -78,7 +78,10 @@ pub fn open_end<'a>(
 }
 
 /// A file in that format with these columns, or why it has none.
-fn without_geo<'a>(form: Form, read: Result<Vec<SchemaColumn>, FileFault>) -> Result<File<'a>, FileFault>
+fn without_geo<'a>(
+    form: Form,
+    read: Result<Vec<SchemaColumn>, FileFault>,
+) -> Result<File<'a>, FileFault>
     ensures { MatchResult result (λ file. (file.form ≡ form) × (read ≡ Ok file.columns) × (file.geo ≡ None)) (λ fault. read ≡ Err fault) }
 {
     match read {

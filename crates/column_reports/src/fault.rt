@@ -23,11 +23,7 @@ use value_tokens::text_of;
 /// let line = fault_line(alloc, Some("a.json"), &fault)?;
 /// assert_eq!(rt; line.as_str(), r#"{"error":"LineNotObject","file":"a.json","line":2,"message":"is JSON, but no object","place":"line 2"}"#);
 /// ```
-pub fn fault_line(
-    alloc: Global,
-    file: Option<&str>,
-    fault: &Fault,
-) -> Result<String, AllocError>
+pub fn fault_line(alloc: Global, file: Option<&str>, fault: &Fault) -> Result<String, AllocError>
     ensures text { IfOk result (λ line. string_bytes line ≡ print (json_tokens (fault_report (text_of file.entry) fault.now))) }
     ensures one_line { IfOk result (λ line. All (λ b. b ≢ 10) (string_bytes line)) }
 {

@@ -2,7 +2,9 @@
 //! hexadecimal digits.
 use arrow_columns::SchemaColumn;
 use arrow_ipc::IpcError;
-use parquet_columns::{ColumnsError, ElementFault, FileColumns, SchemaError, columns_of, read_file};
+use parquet_columns::{
+    ColumnsError, ElementFault, FileColumns, SchemaError, columns_of, read_file,
+};
 use parquet_footer::{
     Footer, FooterError, KeyValue, LogicalType, SchemaElement, footer_length, read_footer,
 };

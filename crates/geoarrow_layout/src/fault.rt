@@ -2,8 +2,8 @@
 ghost use Rattle.std.specs.Prelude.{◌≡◌, ◌⊎◌};
 ghost use Rattle.geoarrow_layout.specs.Cited.{IfOk, IsMemory, None, Some, OnOk, MatchOption, tree, member_trees, name_text, IsAccepted, Path, CoordinateFault, LevelsFault, FaultAt, child_at, LeadsTo, FirstOrNone, MemberIn, MemberFaultIn, NativeFaultIn, UnionFaultIn};
 
-use crate::native_kinds::{NativeKind, list_names, parts_of_id};
 use crate::names::ExtensionName;
+use crate::native_kinds::{NativeKind, list_names, parts_of_id};
 use crate::read::{member, native, parse_kind};
 use crate::summary::{ListWidth, list_item, member_summary};
 use arrow_values::{ArrowError, DataType, Field, GeoArrowError};

@@ -2,10 +2,10 @@
 ghost use Rattle.std.specs.Prelude.{◌≡◌, ◌↔◌, ◌≢◌, ◌<◌, ◌⊎◌, ◌++◌};
 ghost use Rattle.geoarrow_layout.specs.Cited.{Contains, true, ℕ, ℤ, List, length, get_or, IsTrue, Text, Tree, FieldTree, Members, member_trees, tree, HasTypeIds, has, retained, dimensions_size, size_of, dimensions_of, IsDimension, name_text, name_of, ExtensionName, Leaf, AllMembers, Accepts, IsStructured, Summarizes, Inferred, leaf_layout, layout, mixed_members, geometry_members, IsWritten, IsWrittenSome, Alike, IsAccepted, SameCandidates, Path, FaultAt, LayoutFault, AlikeUnions};
 
-use crate::native_kinds::{Kind, NativeKind, Width};
-use crate::fault::LayoutFault;
 use crate::dimensions::{CoordType, Dimension};
+use crate::fault::LayoutFault;
 use crate::names::{Candidates, ExtensionName};
+use crate::native_kinds::{Kind, NativeKind, Width};
 use crate::read::parse_kind;
 use crate::summary::{Bottom, ListWidth, Summary};
 use arrow_values::DataType;

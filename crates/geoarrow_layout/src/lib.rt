@@ -1,22 +1,22 @@
 //! GeoArrow's layouts: which Arrow data types represent which geometries, read and written.
 #![tactic(auto)]
 
-mod native_kinds;
+mod alike_types;
+mod dimensions;
 mod fault;
 mod infer;
-mod dimensions;
 mod laws;
-mod alike_types;
 mod names;
+mod native_kinds;
 mod read;
 mod summary;
 mod words;
 mod write;
 
-pub use native_kinds::{Kind, NativeKind, Width};
+pub use alike_types::{alike, append_members, keep_members};
+pub use dimensions::{CoordType, Dimension};
 pub use fault::{LayoutFault, child_field, find_fault};
 pub use infer::infer_kind;
-pub use dimensions::{CoordType, Dimension};
 pub use laws::{
     accepted_or_at_fault, alike_are_one_kind, alike_both_ways, alike_in_turn, alike_to_itself,
     bottom_equality_is_exact, candidates_equality_is_exact, coord_type_equality_is_exact,
@@ -27,8 +27,8 @@ pub use laws::{
     no_fault_if_accepted, one_fault, one_kind, order_does_not_matter, parts_are_alike, read_alike,
     summary_equality_is_exact, width_equality_is_exact,
 };
-pub use alike_types::{alike, append_members, keep_members};
 pub use names::{Candidates, ExtensionName, two_names_at_most};
+pub use native_kinds::{Kind, NativeKind, Width};
 pub use read::{
     candidates, infer_point, parse_box, parse_geometry, parse_geometry_collection, parse_kind,
     parse_linestring, parse_mixed, parse_multilinestring, parse_multipoint, parse_multipolygon,

@@ -6,10 +6,10 @@ ghost use Rattle.std.specs.Prelude.{◌≡◌, ◌↔◌, ◌≢◌};
 ghost use Rattle.geoarrow_layout.specs.Cited.{IfErr, IfOk, IfSome, IsTrue, Some, [], true, ℕ, List, Option, length, MatchResult, tree, field_trees, Yields, YieldsOne, Leaf, Native, Mixed, Collection, Geometry, BoxShape, IsBytes, IsText, Accepts, YieldsKind, IsStructured, IsSeparatedAs, IsBoxAs, names_of, name_text, extension_of, name_of, HasFault, BoxFault, MixedFault, NativeFault, GeometryFault, FaultAt, SeparatedFault, CoordinateFault, BoxNamesFault, Tree, Text, AreOf, IsCoordFault, Summarizes, IsBits, SomeAt, IsBottom, Tells, IsNoLeaf, ShowsIn, NativeIn, NativeFaultIn, MemberIn, MemberFaultIn, TellsBoth, IsLevelFault, MixedSays, Holds, IsAccepted, YieldsSome, Inferred, IsInferredAs, IsInferredSize, is_float64, are_float64, ListWidth};
 ghost use Rattle.geoarrow_layout.specs.declared.names.ExtensionName.TheVariants as names;
 
-use crate::native_kinds::{Kind, NativeKind, Width, list_names, parts_of_id};
-use crate::fault::LayoutFault;
 use crate::dimensions::{CoordType, Coordinate, Dimension, list_size, only_dimension};
+use crate::fault::LayoutFault;
 use crate::names::{Candidates, ExtensionName};
+use crate::native_kinds::{Kind, NativeKind, Width, list_names, parts_of_id};
 use crate::summary::{Bottom, Summary, has_known, is_float64, struct_bottom, summarize};
 use arrow_values::{DataType, Field};
 

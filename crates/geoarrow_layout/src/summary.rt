@@ -2,9 +2,9 @@
 ghost use Rattle.std.specs.Prelude.{◌≡◌, ◌<◌, ◌≤◌, ◌↔◌};
 ghost use Rattle.geoarrow_layout.specs.Cited.{false, [], IsTrue, MatchOption, pos, tree, field_trees, member_trees, Tree, plain, float64, order_of, ListsOver, Member, GeometryMember, place_in, known_names, IsStruct, IsBottom, AreLevels, place_of, IsInnerUnion, IsRootUnion, Summarizes, IsNoLeaf, Ended, IsWidth, ShowsIn, AddsBits, ReadAt, first_fault, TellsBoth, IsBits, SomeAt, has_name, get_or, List, Text, is_float64, MemberFault, GeometryMemberFault};
 
-use crate::native_kinds::{NativeKind, parts_of_id};
-use crate::fault::LayoutFault;
 use crate::dimensions::{CoordType, Dimension, named_dimension};
+use crate::fault::LayoutFault;
+use crate::native_kinds::{NativeKind, parts_of_id};
 use crate::read::{Answer, member};
 use arrow_values::{DataType, Field};
 

@@ -2,8 +2,8 @@
 ghost use Rattle.std.specs.Prelude.{◌≡◌};
 ghost use Rattle.geoarrow_layout.specs.KindWords.{kind_word, coord_type_word, dimension_word};
 
-use crate::native_kinds::{Kind, NativeKind, Width};
 use crate::dimensions::{CoordType, Dimension};
+use crate::native_kinds::{Kind, NativeKind, Width};
 
 /// Returns the word of a kind, as answers have it (docs/FORMAT.md, 2.2): `point` to
 /// `geometrycollection`, `box`, `geometry`, and `wkb`, `large_wkb`, `wkb_view` and the like of

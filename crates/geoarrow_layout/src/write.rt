@@ -2,11 +2,11 @@
 ghost use Rattle.std.specs.Prelude.{◌≡◌, ◌++◌, ◌↔◌};
 ghost use Rattle.geoarrow_layout.specs.Cited.{[], false, map, IfOk, IsOk, OnOk, IsTrue, Some, codes, fixed_text, list, struct, tree, field_trees, coordinate, leaf_layout, lists_over, over_leaf_layout, member_layout, members_over, mixed_layout, layout, IsBare, members_in, IsStructured};
 
-use crate::native_kinds::{KINDS, Kind, NativeKind, Width, list_names, member_name, type_id};
 use crate::dimensions::{
     CoordType, Coordinate, DIMENSIONS, Dimension, box_names, coordinate_names, interleaved_name,
     list_size,
 };
+use crate::native_kinds::{KINDS, Kind, NativeKind, Width, list_names, member_name, type_id};
 use crate::summary::is_float64;
 use arrow_values::{DataType, Field, Fields, FixedName, UnionFields, UnionMode};
 use std::alloc::{AllocError, Global};

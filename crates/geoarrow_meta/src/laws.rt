@@ -9,8 +9,8 @@ ghost use Rattle.geoarrow_meta.specs.Read.{Denotes, DenotesMetadata};
 
 use crate::crs::{Crs, CrsType};
 use crate::edges::Edges;
-use crate::metadata::Metadata;
 use crate::json_values::holds_whole_numbers;
+use crate::metadata::Metadata;
 use serde_json::Value;
 
 /// A law: the normal form of a normal form is that normal form. There is nothing to run.

@@ -7,16 +7,16 @@ pub mod crs;
 mod crs_text;
 mod edges;
 mod error;
+mod json_values;
 pub mod laws;
 mod metadata;
 mod text;
 mod transform;
-mod json_values;
 
 pub use crs::{Crs, CrsType};
 pub use crs_text::{WrittenCrs, is_projjson_text};
 pub use edges::Edges;
+pub use json_values::holds_whole_numbers;
 pub use metadata::{KeyValues, Metadata, read_values};
 pub use text::{compact_projjson, metadata_text};
 pub use transform::{CrsTransform, DefaultCrsTransform};
-pub use json_values::holds_whole_numbers;

@@ -11,8 +11,8 @@ use crate::encoding::{are_types, is_encoding};
 use crate::finding::{GeoCheck, GeoFinding};
 use crate::schema::{are_columns, is_covering, is_primary, own_metadata};
 use crate::values::{
-    columns_in, copied, is_bbox, is_crs, is_edges, is_epoch, is_orientation, member_at,
-    member_of_column, present_at, text_in, geo_value,
+    columns_in, copied, geo_value, is_bbox, is_crs, is_edges, is_epoch, is_orientation, member_at,
+    member_of_column, present_at, text_in,
 };
 use arrow_columns::SchemaColumn;
 use serde_json::Value;

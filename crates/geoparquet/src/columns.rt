@@ -9,7 +9,7 @@ ghost use Rattle.arrow_values.specs.View.{tree, field_trees};
 ghost use Rattle.geoparquet.specs.Coverings.{is_floating, has_floats, IsColumnWith};
 ghost use Rattle.geoparquet.specs.Coverings.{AreFloatsOf, AreFloats};
 
-use arrow_columns::{SchemaColumn, ColumnNames, AnyType};
+use arrow_columns::{AnyType, ColumnNames, SchemaColumn};
 use arrow_values::{DataType, Field, Fields};
 use std::alloc::{AllocError, Global};
 use std::collections::{BTreeMap, BTreeSet};
@@ -42,7 +42,10 @@ impl<'c> Model for SchemaColumns<'c> {
 
 impl<'c> SchemaColumns<'c> {
     /// These columns. Errs only when out of memory.
-    pub(crate) fn new(alloc: Global, columns: &'c [SchemaColumn]) -> Result<SchemaColumns<'c>, AllocError>
+    pub(crate) fn new(
+        alloc: Global,
+        columns: &'c [SchemaColumn],
+    ) -> Result<SchemaColumns<'c>, AllocError>
         ensures { IfOk result (λ made. made ≡ columns.now) }
     {
         let names = ColumnNames::new(alloc, columns)?;

@@ -9,7 +9,7 @@ ghost use Rattle.geoparquet.specs.GeometryTypes.{type_name, IsNameOf, IsOwn, IsT
 ghost use Rattle.geoparquet.specs.Encodings.{encoding_text, IsStored, IsStoredAs, IsEncodedAs, IsEncoding};
 
 use crate::values::items_in;
-use arrow_columns::{SchemaColumn, AnyType};
+use arrow_columns::{AnyType, SchemaColumn};
 use geoarrow_layout::{CoordType, Dimension, ExtensionName, Kind, NativeKind, parse_kind};
 use serde_json::Value;
 

@@ -26,5 +26,5 @@ pub use extended::geo_columns;
 pub use finding::{GeoCheck, GeoFinding};
 pub use line::check_line;
 pub use lines::check_lines;
-pub use values::{member_of_column, text_in, geo_value};
+pub use values::{geo_value, member_of_column, text_in};
 pub use warning::{no_geo_code, no_geo_line, no_geo_message};

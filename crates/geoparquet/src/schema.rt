@@ -9,7 +9,7 @@ ghost use Rattle.geoparquet.specs.Values.{text_of_value};
 ghost use Rattle.geoparquet.specs.Checks.{AreColumns, IsPrimary, own_metadata};
 
 use crate::columns::SchemaColumns;
-use crate::values::{items_in, member_at, member_of_column, text_in, geo_value};
+use crate::values::{geo_value, items_in, member_at, member_of_column, text_in};
 use arrow_columns::SchemaColumn;
 use serde_json::{Map, Value};
 use std::alloc::{AllocError, Global};
@@ -40,7 +40,10 @@ pub(crate) fn is_primary(value: &Value) -> bool
 }
 
 /// The metadata of a column's own field, as a JSON value; null where there is none. Errs only when out of memory.
-pub(crate) fn own_metadata(alloc: Global, column: Option<&SchemaColumn>) -> Result<Value, AllocError>
+pub(crate) fn own_metadata(
+    alloc: Global,
+    column: Option<&SchemaColumn>,
+) -> Result<Value, AllocError>
     ensures { IfOk result (λ value. view value ≡ own_metadata (option_map (λ c. column_tree c.now) column.entry)) }
 {
     let Some(column) = column else {

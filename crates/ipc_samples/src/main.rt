@@ -7,7 +7,7 @@
 //! stands there as this library writes it.
 #![tactic(auto)]
 
-use arrow_columns::{SchemaColumn, AnyType};
+use arrow_columns::{AnyType, SchemaColumn};
 use arrow_ipc::{IpcError, Schema, read_file_footer, read_schema, write_schema};
 use arrow_values::{DataType, Field};
 use field_lines::field_line;

@@ -36,7 +36,11 @@ struct Head<'s, 'a> {
 }
 
 /// Whether an element is a leaf or a group.
-fn kind_at(at: usize, physical: Option<PhysicalType>, count: Option<u32>) -> Result<Kind, ElementFault>
+fn kind_at(
+    at: usize,
+    physical: Option<PhysicalType>,
+    count: Option<u32>,
+) -> Result<Kind, ElementFault>
     ensures { result ≡ kind_at at physical count }
 {
     match (physical, count) {
@@ -48,7 +52,10 @@ fn kind_at(at: usize, physical: Option<PhysicalType>, count: Option<u32>) -> Res
 
 /// What the element with that index says.
 #[tactic(auto, using(crate::proofs::Walks::there_is, crate::proofs::Walks::none_is), unfolding(crate::specs::Columns::head_at))]
-fn head_at<'s, 'a>(elements: &'s [SchemaElement<'a>], at: usize) -> Result<Head<'s, 'a>, ElementFault>
+fn head_at<'s, 'a>(
+    elements: &'s [SchemaElement<'a>],
+    at: usize,
+) -> Result<Head<'s, 'a>, ElementFault>
     ensures is { map_ok head_tree result ≡ head_at (map element elements.now) at }
     ensures within { IfOk result (λ _. at < length elements.now) }
 {
@@ -191,7 +198,10 @@ pub fn columns_of(alloc: Global, footer: &Footer<'_>) -> Result<Vec<SchemaColumn
 
 /// The columns of the elements of a schema.
 #[tactic(auto, using(crate::proofs::Walks::left_over))]
-fn columns_in(alloc: Global, elements: &[SchemaElement<'_>]) -> Result<Vec<SchemaColumn>, ColumnsError>
+fn columns_in(
+    alloc: Global,
+    elements: &[SchemaElement<'_>],
+) -> Result<Vec<SchemaColumn>, ColumnsError>
     ensures { Says (λ v. map column_tree v.items) (columns_of (map element elements.now)) result }
 {
     if elements.is_empty() {

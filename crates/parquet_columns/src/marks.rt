@@ -84,7 +84,11 @@ fn given<'a>(
 }
 
 /// A column with extension metadata that it is given.
-fn marked_by(alloc: Global, column: SchemaColumn, text: Option<String>) -> Result<SchemaColumn, AllocError>
+fn marked_by(
+    alloc: Global,
+    column: SchemaColumn,
+    text: Option<String>,
+) -> Result<SchemaColumn, AllocError>
     ensures { IfOk result (λ c. column_tree c ≡ marked_by (option_map string_bytes text) (column_tree column)) }
 {
     match text {

@@ -6,7 +6,7 @@ ghost use Rattle.parquet_columns.specs.Nodes.{wrapper, shape_tree, node_tree, sh
 
 use crate::fault::{ColumnsError, ElementFault, SchemaRule};
 use arrow_columns::{
-    SchemaColumn, AnyType, ListForm, list_type, nested_notation, part_notation, struct_type,
+    AnyType, ListForm, SchemaColumn, list_type, nested_notation, part_notation, struct_type,
 };
 use parquet_footer::Repetition;
 use std::alloc::{AllocError, Global};
@@ -183,7 +183,12 @@ fn is_item_name(list: &str, name: &str) -> bool
 }
 
 /// The item of a LIST of a name, by its repeated element of that name, a group of one element that is not repeated.
-fn wrapped_item(alloc: Global, list: &str, name: &str, column: SchemaColumn) -> Result<SchemaColumn, AllocError>
+fn wrapped_item(
+    alloc: Global,
+    list: &str,
+    name: &str,
+    column: SchemaColumn,
+) -> Result<SchemaColumn, AllocError>
     ensures { IfOk result (λ made. column_tree made ≡ item_by list.now name.now (wrapper (column_tree column))) }
 {
     if !is_item_name(list, name) {
