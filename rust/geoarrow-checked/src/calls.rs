@@ -46,8 +46,8 @@ pub(crate) fn version() -> u32 {
     unsafe { geoarrow_version() }
 }
 
-// SAFETY, of the four calls below: the pointers and lengths are those of slices and of a `usize` that are borrowed for the call. None is null, and no
-// slice is longer than `isize::MAX`. `out` and `len` are borrowed mutably, so they overlap nothing, and nobody else uses them.
+// SAFETY, of the four calls below: the pointers and lengths are those of slices, of a text and of a `usize` that are borrowed for the call. None is null,
+// also of an empty one, and none of them is longer than `isize::MAX`. `out` and `len` are borrowed mutably, so they overlap nothing, and nobody else uses them.
 
 pub(crate) fn answer(command: u8, line: &[u8]) -> Result<Vec<u8>, Error> {
     filled(line.len(), |out, len| unsafe {

@@ -86,17 +86,11 @@ pub fn check(bytes: &[u8], options: Options) -> Result<String, Error> {
 /// ```
 /// use geoarrow_checked::{check_named, Error, Options};
 ///
-/// let bytes = b"{\"name\":\"g\"}\n";
-/// match check_named("roads.jsonl", bytes, Options::default()) {
-///     Ok(report) => print!("{report}"),
-///     Err(Error::Refused(fault)) => {
-///         assert_eq!(fault.to_string(), "line 1: is JSON, but no field: \"nullable\" is neither true nor false");
-///         assert_eq!((fault.code(), fault.line()), ("LineNullable", Some(1)));
-///         assert_eq!(fault.file(), Some("roads.jsonl"));
-///     }
-///     Err(error) => return Err(error),
-/// }
-/// # Ok::<(), Error>(())
+/// let found = check_named("roads.jsonl", b"{\"name\":\"a\"}\n", Options::default());
+/// let Err(Error::Refused(fault)) = found else { panic!("the line is a field") };
+/// assert_eq!(fault.to_string(), "line 1: is JSON, but no field: \"nullable\" is neither true nor false");
+/// assert_eq!((fault.code(), fault.line()), ("LineNullable", Some(1)));
+/// assert_eq!(fault.file(), Some("roads.jsonl"));
 /// ```
 ///
 /// # Errors
