@@ -51,30 +51,31 @@ fn words_of(fault: &Fault) -> String {
 
 #[test]
 fn each_case_of_the_table() {
+    let mut wrong = Vec::new();
     for (bytes, line) in cases() {
         let fault = refused(check(&bytes, Options::default()));
-        assert_eq!(fault.as_json(), line);
-        assert_eq!(line_of(&fault), line);
+        if fault.as_json() != line {
+            wrong.push(format!("{}\n    not {line}", fault.as_json()));
+        }
+        assert_eq!(line_of(&fault), fault.as_json());
         assert_eq!(fault.file(), None);
-        assert_eq!(fault.to_string(), words_of(&fault));
         let error = Error::Refused(fault.clone());
         assert_eq!(error.to_string(), words_of(&fault));
     }
+    assert!(wrong.is_empty(), "{}", wrong.join("\n"));
 }
 
 #[test]
 fn each_case_with_a_name() {
     let name = r#"C:\müll "🗺".parquet"#;
-    for (bytes, line) in cases() {
+    for (bytes, _) in cases() {
+        let unnamed = refused(check(&bytes, Options::default()));
         let fault = refused(check_named(name, &bytes, Options::default()));
         assert_eq!(fault.file(), Some(name));
         assert_eq!(line_of(&fault), fault.as_json());
         let member = format!(r#""file":{},"#, quoted(name));
-        assert_eq!(fault.as_json().replacen(&member, "", 1), line);
-        assert_eq!(
-            fault.to_string(),
-            refused(check(&bytes, Options::default())).to_string()
-        );
+        assert_eq!(fault.as_json().replacen(&member, "", 1), unnamed.as_json());
+        assert_eq!(fault.to_string(), words_of(&unnamed));
     }
 }
 
