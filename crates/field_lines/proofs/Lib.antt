@@ -5,6 +5,7 @@ mod Lean
 mod TokenTexts
 mod TokenMembers
 mod TokenItems
+mod KnownTypes
 mod Utf8
 mod Held
 mod Compact

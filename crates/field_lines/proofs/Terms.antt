@@ -26,7 +26,8 @@ pub use Rattle.value_tokens.specs.Next.{after, next_after, next_items, next_memb
 pub use Rattle.value_tokens.proofs.Printed.{printed, reads_back}
 pub use Rattle.value_tokens.proofs.Turns.{after_some, item_read, item_refused, items_over, key_refused, member_read, members_over, named, no_value, object_too_deep, taken, value-object, value_takes}
 pub use Rattle.field_lines.specs.FieldOfValue.{are_keys, field_before, field_from, field_of_value, fields_in, fields_of_value, fixed_size_list_of, id_of_value, integer_of, is_size, kept, large_list_of, list_of, member_before, members_in, members_of_value, metadata_of_value, mode_of_value, size_of_value, texts_in, tree_ids, type_in, type_of_value, under, union_of}
+pub use Rattle.field_lines.specs.ColumnOfValue.{column_from, column_of_line, column_of_value, column_type, column_type_of_value, other_of_value, value_of_line}
 pub use Rattle.field_lines.specs.Held.{comes_first, held_parts, is_held, is_held_number, items_are_held, members_are_held}
 pub use Rattle.field_lines.specs.Line.{field_of_line, fields_value, line_of_field, members_value, one_key, other_value, parts_value, texts_value, two_keys, type_value, value_of_field, with_metadata}
 pub use Rattle.field_lines.specs.LineForm.{FieldsHaveLineForm, HasLineForm, MembersHaveLineForm}
-pub use Rattle.field_lines.specs.Steps.{AreMemberParts, IsNeither, keyed_at, pair_read, PrintsMetadata, slots_in, slots_of, texts_kept}
+pub use Rattle.field_lines.specs.Steps.{AreMemberParts, column_of_parts, field_of_parts, IsNeither, keyed_at, pair_read, parts_in, parts_tree, PartsTree, PrintsMetadata, slots_in, slots_of, texts_kept, Types, types_of_members, types_of_value}

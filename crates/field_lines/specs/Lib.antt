@@ -1,5 +1,6 @@
 pub mod Names
 pub mod FieldOfValue
+pub mod ColumnOfValue
 pub mod Lean
 pub mod LineForm
 pub mod Held

@@ -1,15 +1,17 @@
 //! Laws of the line format: functions with nothing to run, whose contract is the law.
-ghost use Rattle.std.specs.Prelude.{◌≡◌, ◌≢◌, ◌≤◌, Bool, Some, All, true, false};
+ghost use Rattle.std.specs.Prelude.{◌≡◌, ◌≢◌, ◌≤◌, ◌↔◌, Bool, Some, All, true, false};
 ghost use Rattle.std.specs.Str.{is_utf8};
 ghost use Rattle.serde_json.specs.Data.{Data, Members, put, depth};
 ghost use Rattle.serde_json.specs.Read.{read, max_depth};
 ghost use Rattle.serde_json.specs.Written.{compact_text, has_float};
 ghost use Rattle.arrow_values.specs.Tree.{Text, Metadata, FieldTree, field_tree, plain, null};
+ghost use Rattle.arrow_columns.specs.Column.{other, column_of};
+ghost use Rattle.field_lines.specs.ColumnOfValue.{column_of_value};
 ghost use Rattle.field_lines.specs.Held.{is_held, members_are_held};
 ghost use Rattle.field_lines.specs.FieldOfValue.{field_of_value};
 ghost use Rattle.field_lines.specs.Lean.{IsLean};
 ghost use Rattle.field_lines.specs.LineForm.{HasLineForm};
-ghost use Rattle.field_lines.specs.Line.{texts_value, value_of_field, line_of_field, field_of_line};
+ghost use Rattle.field_lines.specs.Line.{texts_value, value_of_field, other_value, line_of_field, field_of_line};
 
 use arrow_values::Field;
 
@@ -25,6 +27,18 @@ pub fn written_value_is_lean(field: &Field)
 #[tactic(auto, using(crate::proofs::Round::null_read))]
 pub fn written_null_is_read()
     ensures { (name : Text) (nullable : Bool) (m : Metadata) → field_of_value (value_of_field (field_tree name (plain null) nullable m)) ≡ Some (field_tree name (plain null) nullable m) }
+{}
+
+/// A law: a field is a column whose type is one of the 26. There is nothing to run.
+pub fn field_is_column()
+    ensures { (d : Data) (f : FieldTree) → (field_of_value d ≡ Some f) ↔ (column_of_value d ≡ Some (column_of f)) }
+{}
+
+/// A law: the value that is written for a column of another type denotes that column. There is nothing to run.
+#[tactic(auto, using(crate::proofs::KnownTypes::other_read))]
+pub fn written_other_is_read()
+    ensures { (name notation : Text) (nullable : Bool) (m : Metadata) → column_of_value (other_value name notation nullable m)
+        ≡ Some (record { name = name; data_type = other notation; nullable = nullable; metadata = m }) }
 {}
 
 /// A law: a value that has no ignored key and no empty metadata, at any depth, and denotes a field is the value that

@@ -9,13 +9,16 @@
 //! the field. No JSON value is made: a line is read by its tokens, and written as tokens.
 #![tactic(auto)]
 
+mod columns;
 pub mod laws;
 mod line;
 mod metadata;
 mod names;
+mod notation;
+mod parts;
 mod printer;
 mod scalars;
 mod tokens;
 mod unions;
 
-pub use line::{field_line, other_line, parse_line, parse_line_with_scratch};
+pub use line::{field_line, other_line, parse_column, parse_line, parse_line_with_scratch};

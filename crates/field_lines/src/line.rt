@@ -1,15 +1,19 @@
 //! A line of text, and the field that it denotes.
-ghost use Rattle.std.specs.Prelude.{◌≡◌, ◌≤◌, Some, None, Err, option_and_then, IfOk, IfSome, string_bytes};
+ghost use Rattle.std.specs.Prelude.{◌≡◌, ◌≤◌, Some, None, Err, option_and_then, option_map, IfOk, IfSome, string_bytes};
 ghost use Rattle.serde_json.specs.Data.{depth};
 ghost use Rattle.serde_json.specs.Read.{read, max_depth};
 ghost use Rattle.serde_json.specs.Written.{compact_text};
 ghost use Rattle.arrow_values.specs.View.{texts_of};
+ghost use Rattle.arrow_columns.specs.Column.{column_tree};
+ghost use Rattle.field_lines.specs.ColumnOfValue.{column_of_line};
 ghost use Rattle.field_lines.specs.Line.{field_of_line, line_of_field, value_of_field, other_value};
 ghost use Rattle.field_lines.specs.LineForm.{HasLineForm};
 ghost use Rattle.field_lines.specs.FieldOfValue.{field_of_value};
 
+use crate::columns::take_column;
 use crate::printer::{print_field, print_other};
 use crate::tokens::take_field;
+use arrow_columns::SchemaColumn;
 use arrow_values::Field;
 use json::{Reader, Scratch, Writer};
 use std::alloc::{AllocError, Global};
@@ -45,6 +49,32 @@ pub fn parse_line_with_scratch(
     let mut reader = Reader::new(text, scratch)?;
     match take_field(alloc, &mut reader, MAX_DEPTH) {
         Ok(field) if reader.next().is_none() => Ok(field),
+        Ok(_) | Err(Refusal::Text) => Ok(None),
+        Err(Refusal::Memory) => Err(AllocError),
+    }
+}
+
+/// The column that a line denotes, or `None` if it denotes none: that of a field, or of another type (docs/FORMAT.md, 2.7). The line is
+/// the bytes before a line feed. The scratch buffer is the caller's, as in [`parse_line_with_scratch`]. Errs only when out of memory.
+///
+/// ```rust
+/// let line = br#"{"name":"at","nullable":true,"type":{"other":"timestamp[ms]"}}"#;
+/// let read = parse_column(alloc, line, &mut Scratch::new(alloc))?;
+/// assert!(rt; matches!(read, Some(column) if matches!(column.data_type, AnyType::Other(_))));
+/// ```
+pub fn parse_column(
+    alloc: Global,
+    line: &[u8],
+    scratch: &mut Scratch,
+) -> Result<Option<SchemaColumn>, AllocError>
+    ensures { IfOk result (λ o. option_map column_tree o ≡ column_of_line line.now) }
+{
+    let Ok(text) = simdutf8::compat::from_utf8(line) else {
+        return Ok(None);
+    };
+    let mut reader = Reader::new(text, scratch)?;
+    match take_column(alloc, &mut reader, MAX_DEPTH) {
+        Ok(column) if reader.next().is_none() => Ok(column),
         Ok(_) | Err(Refusal::Text) => Ok(None),
         Err(Refusal::Memory) => Err(AllocError),
     }

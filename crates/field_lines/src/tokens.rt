@@ -2,19 +2,21 @@
 //!
 //! Each reader takes one value whole. It answers none where the value is JSON and denotes nothing, so that a later
 //! member of the same key may still count.
-ghost use Rattle.std.specs.Prelude.{◌≡◌, ◌⊎◌, bytes_eq, codes, not, None, Err, IfOk, IfSome, IsTrue};
+ghost use Rattle.std.specs.Prelude.{◌≡◌, ◌⊎◌, codes, None, Err, IfOk, IfSome, IsTrue};
 ghost use Rattle.std.specs.Option.{option_map, option_and_then};
 ghost use Rattle.std.specs.List.{zip};
 ghost use Rattle.serde_json.specs.Data.{Members, no_members, object, array};
-ghost use Rattle.arrow_values.specs.Tree.{Text, field_tree};
-ghost use Rattle.arrow_values.specs.View.{tree, texts_of, field_trees, member_trees};
+ghost use Rattle.arrow_values.specs.Tree.{Text};
+ghost use Rattle.arrow_values.specs.View.{tree, field_trees, member_trees};
 ghost use Rattle.arrow_values.specs.Union.{is_type_id};
-ghost use Rattle.field_lines.specs.FieldOfValue.{field_from, field_of_value, type_of_value, fields_of_value, fields_in, members_of_value, members_in};
-ghost use Rattle.field_lines.specs.Steps.{AreMemberParts, IsNeither, keyed_at, pair_read};
+ghost use Rattle.field_lines.specs.FieldOfValue.{field_of_value, type_of_value, fields_of_value, fields_in, members_of_value, members_in};
+ghost use Rattle.field_lines.specs.Steps.{AreMemberParts, IsNeither, types_of_value, types_of_members, parts_in, parts_tree, keyed_at, pair_read};
 ghost use Rattle.value_tokens.specs.Next.{next_value, next_items, next_members, next_after, after, ReadsValue, ReadsItems, ReadsMembers, ReadsAfter};
 
-use crate::metadata::{Texts, take_texts};
-use crate::names::{layout_name, plain_named};
+use crate::metadata::take_texts;
+use crate::names::plain_named;
+use crate::notation::{differ, skip_after, take_notation};
+use crate::parts::{Parts, field_of};
 use crate::scalars::{take_id, take_mode, take_size};
 use crate::unions::make_union;
 use arrow_values::{DataType, Field, Fields};
@@ -22,8 +24,7 @@ use json::{Reader, Token};
 use std::alloc::Global;
 use std::collections::BTreeMap;
 use value_tokens::{
-    Refusal, open_array, open_object, read_bool, read_str, skip_items, skip_members, skip_rest,
-    skip_value,
+    Refusal, open_array, open_object, read_bool, read_str, skip_items, skip_rest, skip_value,
 };
 
 /// What a reader took: what the value denotes, or none; or why no value was taken.
@@ -37,7 +38,7 @@ pub(crate) fn take_field(alloc: Global, reader: &mut Reader<'_>, depth: usize) -
     ensures text { result ≡ Err Refusal.Text → next_value depth reader.old ≡ None }
 {
     match open_object(reader, depth)? {
-        Some(below) => take_parts(alloc, reader, below),
+        Some(below) => take_members_of_field(alloc, reader, below),
         None => Ok(None),
     }
 }
@@ -58,92 +59,111 @@ fn take_boxed(alloc: Global, reader: &mut Reader<'_>, depth: usize) -> Taken<Box
 /// The field of the members that are left of an object.
 #[cycle(take)]
 #[inline(never)]
-#[tactic(auto, using(crate::proofs::TokenMembers::member_turn))]
-fn take_parts<'a>(alloc: Global, reader: &mut Reader<'a>, depth: usize) -> Taken<Field>
+fn take_members_of_field(alloc: Global, reader: &mut Reader<'_>, depth: usize) -> Taken<Field>
     ensures ok { IfOk result (λ o. ReadsMembers (λ ms. field_of_value (object ms)) depth no_members reader.old o reader.new) }
+    ensures text { result ≡ Err Refusal.Text → next_members depth no_members reader.old ≡ None }
+{
+    let parts = take_parts(alloc, reader, depth)?;
+    Ok(field_of(alloc, parts)?)
+}
+
+/// The parts that the members which are left of an object say.
+#[cycle(take)]
+#[inline(always)]
+#[tactic(auto, using(crate::proofs::TokenMembers::member_turn))]
+pub(crate) fn take_parts<'a>(
+    alloc: Global,
+    reader: &mut Reader<'a>,
+    depth: usize,
+) -> Result<Parts<'a>, Refusal>
+    ensures ok { IfOk result (λ p. ReadsMembers parts_in depth no_members reader.old (parts_tree p) reader.new) }
     ensures text { result ≡ Err Refusal.Text → next_members depth no_members reader.old ≡ None }
 {
     let mut name = None;
     let mut nullable = None;
-    let mut data_type = None;
+    let mut types = (None, None);
     let mut metadata = Some(BTreeMap::new(alloc));
     'parts: while let Some(key) = reader.next_key()? {
         match key {
             "name" => name = read_str(reader, depth)?,
             "nullable" => nullable = read_bool(reader, depth)?,
             "type" => {
-                drop(data_type);
-                data_type = take_type(alloc, reader, depth)?;
+                drop(types);
+                types = take_type(alloc, reader, depth)?;
             }
             "metadata" => metadata = take_texts(alloc, reader, depth)?,
             _ => skip_value(reader, depth)?,
         }
     }
-    field_of(alloc, name, nullable, data_type, metadata)
+    Ok(Parts {
+        name,
+        nullable,
+        data_type: types.0,
+        notation: types.1,
+        metadata,
+    })
 }
 
-/// The field of these parts, where each is there. A name that layouts have allocates nothing.
-#[inline(always)]
-fn field_of(
-    alloc: Global,
-    name: Option<&str>,
-    nullable: Option<bool>,
-    data_type: Option<DataType>,
-    metadata: Option<Texts>,
-) -> Taken<Field>
-    ensures ok { IfOk result (λ o. o ≡ field_from (option_map (λ n. n.now) name.entry) nullable (option_map tree data_type) (option_map (λ m. texts_of m.entries) metadata)) }
-    ensures never_text { result ≡ Err Refusal.Text → ⊥ }
-{
-    let (Some(name), Some(nullable), Some(data_type), Some(metadata)) = (
-        name, nullable, data_type, metadata,
-    ) else {
-        return Ok(None);
-    };
-    let mut field = match layout_name(name) {
-        Some(name) => Field::fixed(alloc, name, data_type, nullable),
-        None => {
-            let name = String::from_str(alloc, name)?;
-            Field::from_parts(name, data_type, nullable, BTreeMap::new(alloc))
-        }
-    };
-    field.set_metadata(metadata);
-    Ok(Some(field))
-}
-
-/// The type that comes next.
+/// The type that comes next, or the notation of another type.
 #[cycle(take)]
 #[tactic(auto, using(crate::proofs::TokenMembers::type_begins))]
 #[inline]
-fn take_type(alloc: Global, reader: &mut Reader<'_>, depth: usize) -> Taken<DataType>
-    ensures ok { IfOk result (λ o. ReadsValue type_of_value depth reader.old (option_map tree o) reader.new) }
+fn take_type<'a>(
+    alloc: Global,
+    reader: &mut Reader<'a>,
+    depth: usize,
+) -> Result<(Option<DataType>, Option<&'a str>), Refusal>
+    ensures ok { IfOk result (λ p. ReadsValue types_of_value depth reader.old (option_map tree p.0, option_map (λ n. n.now) p.1) reader.new) }
     ensures text { result ≡ Err Refusal.Text → next_value depth reader.old ≡ None }
 {
     let token = reader.next().ok_or(Refusal::Text)?;
     match token {
-        Token::String(word) => Ok(plain_named(word)),
+        Token::String(word) => Ok((plain_named(word), None)),
         Token::BeginObject if depth == 0 => Err(Refusal::Text),
-        Token::BeginObject => take_keys(alloc, reader, depth - 1),
+        Token::BeginObject => take_types(alloc, reader, depth - 1),
         other => {
             skip_rest(other, reader, depth)?;
-            Ok(None)
+            Ok((None, None))
         }
     }
 }
 
-/// The type of the members of an object, all of which are left. The first key says which.
+/// The type of the members of an object, all of which are left, or the notation of another type. The first key says which.
 #[cycle(take)]
+#[inline(always)]
 #[tactic(auto, using(crate::proofs::TokenMembers::member_turn))]
-fn take_keys(alloc: Global, reader: &mut Reader<'_>, depth: usize) -> Taken<DataType>
-    ensures ok { IfOk result (λ o. ReadsMembers (λ ms. type_of_value (object ms)) depth no_members reader.old (option_map tree o) reader.new) }
+fn take_types<'a>(
+    alloc: Global,
+    reader: &mut Reader<'a>,
+    depth: usize,
+) -> Result<(Option<DataType>, Option<&'a str>), Refusal>
+    ensures ok { IfOk result (λ p. ReadsMembers types_of_members depth no_members reader.old (option_map tree p.0, option_map (λ n. n.now) p.1) reader.new) }
     ensures text { result ≡ Err Refusal.Text → next_members depth no_members reader.old ≡ None }
 {
     let Some(key) = reader.next_key()? else {
-        return Ok(None);
+        return Ok((None, None));
     };
     match key {
-        "fixed_size_list" | "size" => take_fixed_size_list(alloc, reader, depth, key),
-        "mode" | "union" => take_union(alloc, reader, depth, key),
-        _ => take_only(alloc, reader, depth, key),
+        "other" => Ok((None, take_notation(reader, depth)?)),
+        _ => Ok((take_keys(alloc, reader, depth, key)?, None)),
+    }
+}
+
+/// The type of an object, whose first key is taken, and says which.
+#[cycle(take)]
+fn take_keys<'a>(
+    alloc: Global,
+    reader: &mut Reader<'a>,
+    depth: usize,
+    first: &'a str,
+) -> Taken<DataType>
+    ensures ok { IfOk result (λ o. ReadsAfter (λ ms. type_of_value (object ms)) depth no_members first.now reader.old (option_map tree o) reader.new) }
+    ensures text { result ≡ Err Refusal.Text → next_after depth no_members first.now reader.old ≡ None }
+{
+    match first {
+        "fixed_size_list" | "size" => take_fixed_size_list(alloc, reader, depth, first),
+        "mode" | "union" => take_union(alloc, reader, depth, first),
+        _ => take_only(alloc, reader, depth, first),
     }
 }
 
@@ -174,18 +194,8 @@ fn take_no_type(reader: &mut Reader<'_>, depth: usize) -> Taken<DataType>
     ensures ok { IfOk result (λ o. (o ≡ None) × ((found : Members) (key : Text) → after (next_after depth found key reader.old) ≡ Some reader.new)) }
     ensures text { result ≡ Err Refusal.Text → (found : Members) (key : Text) → next_after depth found key reader.old ≡ None }
 {
-    skip_value(reader, depth)?;
-    skip_members(reader, depth)?;
+    skip_after(reader, depth)?;
     Ok(None)
-}
-
-/// Whether these keys differ. It is not inlined, since few objects have a second key.
-#[cold]
-#[inline(never)]
-fn differ(a: &str, b: &str) -> bool
-    ensures { result ≡ not (bytes_eq a.now b.now) }
-{
-    a != b
 }
 
 /// The type that the value at the one key of an object says.

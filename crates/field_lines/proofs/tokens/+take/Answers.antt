@@ -1,7 +1,7 @@
-use Rattle.std.proofs.Common.{rules, arith, ◌≡◌, ◌-◌, [], ◌∷◌, ◌++◌, Some, Err, IsTrue, option_map, option_and_then, subst₂, refl, sym, ap, ap₂, ◌∙◌}
-use Rattle.field_lines.proofs.Terms.{IfOk-weaker, array, taken, struct, zip, parse_map, string, no_items, item, no_members, is_type_id, texts_of, field_before, field_of_value, type_of_value, fields_of_value, members_of_value, AreMemberParts, pair_read, value-object, members_over, items_over, named, no_value, object_too_deep, after_some}
+use Rattle.std.proofs.Common.{rules, arith, ◌≡◌, ◌-◌, [], ◌∷◌, ◌++◌, Some, None, Err, IsTrue, option_map, option_and_then, subst₂, refl, sym, ap, ap₂, ◌∙◌}
+use Rattle.field_lines.proofs.Terms.{IfOk-weaker, array, object, struct, zip, parse_map, string, no_items, item, no_members, is_type_id, texts_of, field_before, field_of_value, types_of_value, field_of_parts, fields_of_value, members_of_value, AreMemberParts, pair_read, value-object, members_over, items_over, no_value, object_too_deep, after_some}
 use Rattle.std.proofs.lemmas.Int.{to_z-of_z}
-use Rattle.field_lines.proofs.TokenMembers.{text_refused, after_key, denoted, member_takes, takes_key, part_other, parts_no_key, parts_no_member, only_no_key, only_no_member, only_none, two_no_key, two_no_value, two_none, parts_go_on, parts_end, no_type, only_go_on, only_spoiled, first_read, second_read, two_spoiled, of_fixed_size_list, of_union, no_type_of}
+use Rattle.field_lines.proofs.TokenMembers.{text_refused, member_takes, takes_key, part_other, parts_no_key, parts_no_member, only_no_key, only_no_member, only_none, two_no_key, two_no_value, two_none, parts_go_on, parts_end, of_parts, field_of_parts_in, no_types, only_starts, only_ends, types_other, types_known, only_go_on, only_spoiled, keyed_alone, first_read, second_read, two_spoiled, of_fixed_size_list, of_union, no_type_of}
 use Rattle.field_lines.proofs.TokenItems.{array_read, item_takes, item_none, taken_cut, pair_before, item_turn, item_taken, taken_start, taken_go_on, taken_end, taken_spoiled, members_in-pair, zip_push, parts_push}
 use Rattle.value_tokens.proofs.Beginnings.{passed, next_string, no_object, no_text, object_read}
 use Rattle.field_lines.proofs.tokens.+take.Goals as goal
@@ -103,9 +103,6 @@ pub take_members-returns-in-None-clause-ok : goal.take_members-returns-in-None-c
 take_members-returns-in-None-clause-ok t c =
     array_read members_of_value _ _ _ _ _ _ (rw c.in-Some.is at c.in_ok-below.ensures.ok).0 (taken_spoiled c.pairs.invariant.0 pair_before pair_read (λ x xs. refl) members_in-pair (rw c.in-None.is at c.in_ok-id.ensures.ok) c.in_ok-skip_items-in-None.ensures.ok (grind arith))
 
-pub take_keys-returns-in_default-clause-ok : goal.take_keys-returns-in_default-clause-ok
-take_keys-returns-in_default-clause-ok t c = (no_members, members_over c.args.depth no_members c.args.reader.now c.next_key.new.self (grind arith), refl)
-
 pub take_boxed-returns-in_ok-new-in-Some-clause-ok : goal.take_boxed-returns-in_ok-new-in-Some-clause-ok
 take_boxed-returns-in_ok-new-in-Some-clause-ok t c = rw (c.in_ok-new-in-Some.ensures.ok, ← c.in-Some.is) c.in_ok-field.ensures.ok
 
@@ -120,16 +117,8 @@ pub take_keyed-returns-in-None-clause-ok : goal.take_keyed-returns-in-None-claus
 take_keyed-returns-in-None-clause-ok t c = let read = rw c.in-None.is at c.in_ok-fields-in-struct.ensures.ok in
     rw c.in-struct.is (read.0, read.1, ap (option_map struct) read.2)
 
-pub take_only-only-init : goal.take_only-only-init
-take_only-only-init t c = let read = c.in_ok-data_type.ensures.ok in
-    record { value = read.0; decides = taken c.args.depth no_members c.args.only.now c.args.reader.now c.take_keyed.new.reader read.0 read.1; answers = read.2 }
-
 pub take_only-only-preserved : goal.take_only-only-preserved
 take_only-only-preserved t c = only_go_on c.only.invariant (rw c.in-Some.is at c.in_ok-key.ensures.value) c.differ.ensures c.if-differ.false c.in_ok-data_type-2.ensures.ok
-
-pub take_only-returns-then-differ-clause-ok : goal.take_only-returns-then-differ-clause-ok
-take_only-returns-then-differ-clause-ok t c =
-    IfOk-weaker c.take_no_type.result _ _ (λ o h. rw h.0 (only_spoiled c.only.invariant (search rules) (rw c.in-Some.is at c.in_ok-key.ensures.value) c.differ.ensures c.if-differ.true h.1)) c.take_no_type.ensures.ok
 
 pub take_only-only-smaller : goal.take_only-only-smaller
 take_only-only-smaller t c = member_takes c.args.depth c.only.reader c.next_key.new.self c.take_keyed-in-Some.new.reader _ _ (rw c.in-Some.is at c.in_ok-key.ensures.value) c.in_ok-data_type-2.ensures.ok.1
@@ -146,7 +135,7 @@ take_only-returns-in_err-data_type-2-clause-text t c = text_refused c.from_resid
 
 pub take_parts-parts-init : goal.take_parts-parts-init
 take_parts-parts-init t c = let none = ap (λ es. Some (texts_of es)) c.new.ensures.empty in
-    record { found = no_members; decides = refl; at_name = refl; at_nullable = refl; at_type = refl; at_metadata = none }
+    record { found = no_members; decides = refl; at_name = refl; at_nullable = refl; at_types = refl; at_metadata = none }
 
 pub take_parts-parts-preserved : goal.take_parts-parts-preserved
 take_parts-parts-preserved t c = let d = after_some _ _ c.in_ok-skip_value-in_default-key.ensures.ok in
@@ -162,7 +151,7 @@ take_parts-parts-preserved-then-str_eq-2 t c = let read = c.in_ok-nullable-in-nu
     parts_go_on c.parts.invariant (rw (c.in-Some.is, c.in-nullable.is) at c.in_ok-key.ensures.value) read.1 refl read.2 refl refl
 
 pub take_parts-parts-preserved-then-str_eq-3 : goal.take_parts-parts-preserved-then-str_eq-3
-take_parts-parts-preserved-then-str_eq-3 t c = let read = c.in_ok-data_type-in-type.ensures.ok in
+take_parts-parts-preserved-then-str_eq-3 t c = let read = c.in_ok-types-in-type.ensures.ok in
     parts_go_on c.parts.invariant (rw (c.in-Some.is, c.in-type.is) at c.in_ok-key.ensures.value) read.1 refl refl read.2 refl
 
 pub take_parts-parts-preserved-then-str_eq-4 : goal.take_parts-parts-preserved-then-str_eq-4
@@ -170,7 +159,7 @@ take_parts-parts-preserved-then-str_eq-4 t c = let read = c.in_ok-metadata-in-me
     parts_go_on c.parts.invariant (rw (c.in-Some.is, c.in-metadata.is) at c.in_ok-key.ensures.value) read.1 refl refl refl read.2
 
 pub take_parts-parts-smaller-then-str_eq-3 : goal.take_parts-parts-smaller-then-str_eq-3
-take_parts-parts-smaller-then-str_eq-3 t c = member_takes c.args.depth c.parts.reader c.next_key.new.self c.take_type.new.reader _ _ (rw c.in-Some.is at c.in_ok-key.ensures.value) c.in_ok-data_type-in-type.ensures.ok.1
+take_parts-parts-smaller-then-str_eq-3 t c = member_takes c.args.depth c.parts.reader c.next_key.new.self c.take_type.new.reader _ _ (rw c.in-Some.is at c.in_ok-key.ensures.value) c.in_ok-types-in-type.ensures.ok.1
 
 pub take_parts-returns-in_err-key-clause-text : goal.take_parts-returns-in_err-key-clause-text
 take_parts-returns-in_err-key-clause-text t c _ = parts_no_key c.parts.invariant c.in_err-key.ensures.value
@@ -183,9 +172,9 @@ pub take_parts-returns-in_err-nullable-in-nullable-clause-text : goal.take_parts
 take_parts-returns-in_err-nullable-in-nullable-clause-text t c = text_refused c.from_residual-in_err-nullable-in-nullable.ensures.1
     (λ e. parts_no_member c.parts.invariant (rw c.in-Some.is at c.in_ok-key.ensures.value) (c.in_err-nullable-in-nullable.ensures.text (ap Err e)))
 
-pub take_parts-returns-in_err-data_type-in-type-clause-text : goal.take_parts-returns-in_err-data_type-in-type-clause-text
-take_parts-returns-in_err-data_type-in-type-clause-text t c = text_refused c.from_residual-in_err-data_type-in-type.ensures.1
-    (λ e. parts_no_member c.parts.invariant (rw c.in-Some.is at c.in_ok-key.ensures.value) (c.in_err-data_type-in-type.ensures.text (ap Err e)))
+pub take_parts-returns-in_err-types-in-type-clause-text : goal.take_parts-returns-in_err-types-in-type-clause-text
+take_parts-returns-in_err-types-in-type-clause-text t c = text_refused c.from_residual-in_err-types-in-type.ensures.1
+    (λ e. parts_no_member c.parts.invariant (rw c.in-Some.is at c.in_ok-key.ensures.value) (c.in_err-types-in-type.ensures.text (ap Err e)))
 
 pub take_parts-returns-in_err-metadata-in-metadata-clause-text : goal.take_parts-returns-in_err-metadata-in-metadata-clause-text
 take_parts-returns-in_err-metadata-in-metadata-clause-text t c = text_refused c.from_residual-in_err-metadata-in-metadata.ensures.1
@@ -194,9 +183,6 @@ take_parts-returns-in_err-metadata-in-metadata-clause-text t c = text_refused c.
 pub take_parts-returns-in_err-skip_value-in_default-key-clause-text : goal.take_parts-returns-in_err-skip_value-in_default-key-clause-text
 take_parts-returns-in_err-skip_value-in_default-key-clause-text t c = text_refused c.from_residual-in_err-skip_value-in_default-key.ensures.1
     (λ e. parts_no_member c.parts.invariant (rw c.in-Some.is at c.in_ok-key.ensures.value) (c.in_err-skip_value-in_default-key.ensures.text (ap Err e)))
-
-pub take_parts-returns-clause-ok : goal.take_parts-returns-clause-ok
-take_parts-returns-clause-ok t c = IfOk-weaker c.field_of.result _ _ (λ o is. parts_end c.parts.invariant is (grind arith)) c.field_of.ensures.ok
 
 pub take_pair-returns-then-not-take_end_array-clause-ok : goal.take_pair-returns-then-not-take_end_array-clause-ok
 take_pair-returns-then-not-take_end_array-clause-ok t c = let one = item_taken c.in-Some.below c.open_array.new.reader c.in_ok-id.ensures.ok (rw c.if-take_end_array.false at c.take_end_array.ensures) in
@@ -234,17 +220,6 @@ take_pair-returns-clause-ok t c = let id = c.in_ok-id.ensures.ok in
     array_read pair_read _ _ _ _ _ _ (rw c.in-Some.is at c.in_ok-below.ensures.ok).0
     (item id.0 (item field.0 no_items), grind (arith, item_turn), c.pair_of.ensures.pair ∙ ap₂ (λ i f. option_and_then (λ id. option_map (λ g. (id, g)) f) i) id.2 field.2)
 
-pub take_type-returns-in-String-clause-ok : goal.take_type-returns-in-String-clause-ok
-take_type-returns-in-String-clause-ok t c = (string c.in-String.word.now, grind (arith, next_string), c.plain_named.ensures)
-
-pub take_type-returns-in-BeginObject-2-clause-ok : goal.take_type-returns-in-BeginObject-2-clause-ok
-take_type-returns-in-BeginObject-2-clause-ok t c = IfOk-weaker _ _ _ (λ o. object_read type_of_value _ (c.args.depth - 1) _ c.next.new.self c.take_keys.new.reader _ (grind (arith, value-object))) c.take_keys.ensures.ok
-
-pub take_type-returns-in_ok-skip_rest-in_default-clause-ok : goal.take_type-returns-in_ok-skip_rest-in_default-clause-ok
-take_type-returns-in_ok-skip_rest-in_default-clause-ok t c = let token = c.in_ok-token.token in
-    let (d, is, begins) = passed c.args.depth token c.args.reader.now c.next.new.self c.skip_rest.new.reader (grind arith) c.in_ok-skip_rest-in_default.ensures.ok in
-    (d, is, no_type d (no_object token d begins c.in_default.not-BeginObject) (no_text token d begins c.in_default.not-String))
-
 pub take_pair-returns-in_err-id-clause-text : goal.take_pair-returns-in_err-id-clause-text
 take_pair-returns-in_err-id-clause-text t c = text_refused c.from_residual-in_err-id.ensures.1
     (λ e. (rw c.in-Some.is at c.in_ok-below.ensures.ok).0 ∙ ap (parse_map array) (item_none _ _ (c.in_err-id.ensures.text (ap Err e)) (rw c.if-take_end_array.false at c.take_end_array.ensures)))
@@ -270,29 +245,48 @@ pub take_members-returns-in_err-skip_items-in-None-clause-text : goal.take_membe
 take_members-returns-in_err-skip_items-in-None-clause-text t c = text_refused c.from_residual-in_err-skip_items-in-None.ensures.1
     (λ e. (rw c.in-Some.is at c.in_ok-below.ensures.ok).0 ∙ ap (parse_map array) (taken_cut c.pairs.invariant.0 c.in_ok-id.ensures.ok (c.in_err-skip_items-in-None.ensures.text (ap Err e)) (grind arith)))
 
-pub take_keys-returns-in_default-key-clause-ok : goal.take_keys-returns-in_default-key-clause-ok
-take_keys-returns-in_default-key-clause-ok t c = IfOk-weaker c.take_only.result _ _ (λ o read. after_key denoted _ _ (rw c.in-Some.is at c.in_ok-key.ensures.value) read) c.take_only.ensures.ok
-
-pub take_keys-returns-in_default-key-clause-text : goal.take_keys-returns-in_default-key-clause-text
-take_keys-returns-in_default-key-clause-text t c refused = named _ _ _ _ _ (rw c.in-Some.is at c.in_ok-key.ensures.value) ∙ c.take_only.ensures.text refused
-
-pub take_keys-returns-in-mode-clause-ok : goal.take_keys-returns-in-mode-clause-ok
-take_keys-returns-in-mode-clause-ok t c = IfOk-weaker c.take_union.result _ _ (λ o read. after_key denoted _ _ (rw c.in-Some.is at c.in_ok-key.ensures.value) read) c.take_union.ensures.ok
-
-pub take_keys-returns-in-mode-clause-text : goal.take_keys-returns-in-mode-clause-text
-take_keys-returns-in-mode-clause-text t c refused = named _ _ _ _ _ (rw c.in-Some.is at c.in_ok-key.ensures.value) ∙ c.take_union.ensures.text refused
-
-pub take_keys-returns-in-fixed_size_list-clause-ok : goal.take_keys-returns-in-fixed_size_list-clause-ok
-take_keys-returns-in-fixed_size_list-clause-ok t c = IfOk-weaker c.take_fixed_size_list.result _ _ (λ o read. after_key denoted _ _ (rw c.in-Some.is at c.in_ok-key.ensures.value) read) c.take_fixed_size_list.ensures.ok
-
-pub take_keys-returns-in-fixed_size_list-clause-text : goal.take_keys-returns-in-fixed_size_list-clause-text
-take_keys-returns-in-fixed_size_list-clause-text t c refused = named _ _ _ _ _ (rw c.in-Some.is at c.in_ok-key.ensures.value) ∙ c.take_fixed_size_list.ensures.text refused
-
 pub take_type-returns-in_err-token-clause-text : goal.take_type-returns-in_err-token-clause-text
 take_type-returns-in_err-token-clause-text t c = grind (arith, no_value)
 
 pub take_type-returns-in-BeginObject-clause-text : goal.take_type-returns-in-BeginObject-clause-text
 take_type-returns-in-BeginObject-clause-text t c = grind (arith, object_too_deep)
 
+pub take_parts-returns-clause-ok : goal.take_parts-returns-clause-ok
+take_parts-returns-clause-ok t c = parts_end c.parts.invariant (grind arith)
+
+pub take_type-returns-in-String-clause-ok : goal.take_type-returns-in-String-clause-ok
+take_type-returns-in-String-clause-ok t c = (string c.in-String.word.now, grind (arith, next_string), ap (λ t. (t, None)) c.plain_named.ensures)
+
+pub take_type-returns-in-BeginObject-2-clause-ok : goal.take_type-returns-in-BeginObject-2-clause-ok
+take_type-returns-in-BeginObject-2-clause-ok t c = IfOk-weaker _ _ _ (λ o. object_read types_of_value _ (c.args.depth - 1) _ c.next.new.self c.take_types.new.reader _ (grind (arith, value-object))) c.take_types.ensures.ok
+
+pub take_type-returns-in_ok-skip_rest-in_default-clause-ok : goal.take_type-returns-in_ok-skip_rest-in_default-clause-ok
+take_type-returns-in_ok-skip_rest-in_default-clause-ok t c = let token = c.in_ok-token.token in
+    let (d, is, begins) = passed c.args.depth token c.args.reader.now c.next.new.self c.skip_rest.new.reader (grind arith) c.in_ok-skip_rest-in_default.ensures.ok in
+    (d, is, no_types d (no_object token d begins c.in_default.not-BeginObject) (no_text token d begins c.in_default.not-String))
+
 pub take_type-returns-in-BeginObject-2-clause-text : goal.take_type-returns-in-BeginObject-2-clause-text
 take_type-returns-in-BeginObject-2-clause-text t c = grind (arith, value-object)
+
+pub take_only-only-init : goal.take_only-only-init
+take_only-only-init t c = only_starts c.in_ok-data_type.ensures.ok
+
+pub take_only-returns-then-differ-clause-ok : goal.take_only-returns-then-differ-clause-ok
+take_only-returns-then-differ-clause-ok t c = IfOk-weaker c.take_no_type.result _ _
+    (λ o h. rw h.0 (only_spoiled c.only.invariant (keyed_alone (search rules)) (rw c.in-Some.is at c.in_ok-key.ensures.value) c.differ.ensures c.if-differ.true h.1)) c.take_no_type.ensures.ok
+
+pub take_members_of_field-returns-clause-ok : goal.take_members_of_field-returns-clause-ok
+take_members_of_field-returns-clause-ok t c = of_parts field_of_parts (λ ms. field_of_value (object ms)) c.args.depth _ field_of_parts_in c.in_ok-parts.ensures.ok c.in_ok-field_of.ensures
+
+pub take_only-returns-clause-ok : goal.take_only-returns-clause-ok
+take_only-returns-clause-ok t c = (_, only_ends c.only.invariant (grind arith), c.only.invariant.answers)
+
+pub take_types-returns-in_default-clause-ok : goal.take_types-returns-in_default-clause-ok
+take_types-returns-in_default-clause-ok t c = (no_members, members_over c.args.depth no_members c.args.reader.now c.next_key.new.self (grind arith), refl)
+
+pub take_types-returns-in_ok-take_notation-in-other-clause-ok : goal.take_types-returns-in_ok-take_notation-in-other-clause-ok
+take_types-returns-in_ok-take_notation-in-other-clause-ok t c = types_other c.args.depth _ (rw (c.in-Some.is, c.in-other.is) at c.in_ok-key.ensures.value) c.in_ok-take_notation-in-other.ensures.ok
+
+pub take_types-returns-in_ok-take_keys-in_default-key-clause-ok : goal.take_types-returns-in_ok-take_keys-in_default-key-clause-ok
+take_types-returns-in_ok-take_keys-in_default-key-clause-ok t c =
+    types_known c.args.depth _ (rw c.in-Some.is at c.in_ok-key.ensures.value) c.in_default-key.not-other c.in_ok-take_keys-in_default-key.ensures.ok

@@ -1,5 +1,5 @@
 use Rattle.std.proofs.Common.{IfSome, ◌+◌, ◌*◌, length, codes, option_map}
-use Rattle.field_lines.proofs.Terms.{zip, AreMemberParts, tree, texts_of, field_trees, member_trees, fields_in, members_in, field_of_value, size_of_value, mode_of_value, members_of_value}
+use Rattle.field_lines.proofs.Terms.{zip, AreMemberParts, keyed_at, tree, texts_of, field_trees, member_trees, fields_in, members_in, field_of_value, size_of_value, mode_of_value, members_of_value}
 use Rattle.field_lines.proofs.TokenMembers.{ArePartsUnderWay, IsOnlyUnderWay, AreTwoUnderWay}
 use Rattle.field_lines.proofs.TokenItems.{AreItemsTaken}
 use Rattle.field_lines.proofs.tokens.+take.Given as goal
@@ -10,32 +10,38 @@ decreases-take_field l = 8 * l.depth
 abbrev pub decreases-take_boxed : goal.decreases-take_boxed
 decreases-take_boxed l = 8 * l.depth + 1
 
+abbrev pub decreases-take_members_of_field : goal.decreases-take_members_of_field
+decreases-take_members_of_field l = 8 * l.depth + 7
+
 abbrev pub decreases-take_parts : goal.decreases-take_parts
-decreases-take_parts l = 8 * l.depth + 7
+decreases-take_parts l = 8 * l.depth + 6
 
 abbrev pub invariant-take_parts-parts : goal.invariant-take_parts-parts
-invariant-take_parts-parts l = ArePartsUnderWay l.depth l.initial.reader l.reader (option_map (λ n. n.now) l.name) l.nullable (option_map tree l.data_type) (option_map (λ m. texts_of m.entries) l.metadata)
+invariant-take_parts-parts l = ArePartsUnderWay l.depth l.initial.reader l.reader (option_map (λ n. n.now) l.name) l.nullable (option_map tree l.types.0, option_map (λ n. n.now) l.types.1) (option_map (λ m. texts_of m.entries) l.metadata)
 
 abbrev pub decreases-take_parts-parts : goal.decreases-take_parts-parts
 decreases-take_parts-parts l = length l.reader
 
 abbrev pub decreases-take_type : goal.decreases-take_type
-decreases-take_type l = 8 * l.depth + 6
+decreases-take_type l = 8 * l.depth + 5
+
+abbrev pub decreases-take_types : goal.decreases-take_types
+decreases-take_types l = 8 * l.depth + 7
 
 abbrev pub decreases-take_keys : goal.decreases-take_keys
-decreases-take_keys l = 8 * l.depth + 7
+decreases-take_keys l = 8 * l.depth + 6
 
 abbrev pub decreases-take_only : goal.decreases-take_only
-decreases-take_only l = 8 * l.depth + 6
+decreases-take_only l = 8 * l.depth + 5
 
 abbrev pub invariant-take_only-only : goal.invariant-take_only-only
-invariant-take_only-only l = IsOnlyUnderWay l.depth l.only l.fn.reader l.reader (option_map tree l.data_type)
+invariant-take_only-only l = IsOnlyUnderWay (keyed_at l.only) l.depth l.only l.fn.reader l.reader (option_map tree l.data_type)
 
 abbrev pub decreases-take_only-only : goal.decreases-take_only-only
 decreases-take_only-only l = length l.reader
 
 abbrev pub decreases-take_keyed : goal.decreases-take_keyed
-decreases-take_keyed l = 8 * l.depth + 5
+decreases-take_keyed l = 8 * l.depth + 4
 
 abbrev pub decreases-take_fixed_size_list : goal.decreases-take_fixed_size_list
 decreases-take_fixed_size_list l = 8 * l.depth + 5
@@ -60,7 +66,7 @@ abbrev pub decreases-take_union-keys : goal.decreases-take_union-keys
 decreases-take_union-keys l = length l.reader
 
 abbrev pub decreases-take_fields : goal.decreases-take_fields
-decreases-take_fields l = 8 * l.depth + 4
+decreases-take_fields l = 8 * l.depth + 3
 
 abbrev pub invariant-take_fields-items : goal.invariant-take_fields-items
 invariant-take_fields-items l = AreItemsTaken field_trees fields_in l.below l.initial.reader l.reader l.fields.items
