@@ -21,7 +21,7 @@ from .schema_lines import Schema, lines
 __all__ = [
     "Check", "Column", "Columns", "FileWarning", "InvalidColumns", "Reason", "RefusedSource", "Schema", "SchemaError", "canon", "check", "lines", "read", "write_schema"]
 
-__version__ = "1.0.0"
+__version__ = "2.0.0"
 
 
 def check(source: Any, infer: bool = False, strict: bool = False, notes: bool = False) -> Columns:

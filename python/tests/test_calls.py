@@ -256,7 +256,7 @@ class Threads(unittest.TestCase):
 class Package(unittest.TestCase):
     def test_the_version(self):
         said = (TOP / "VERSION").read_text()
-        self.assertTrue(said.startswith(f"geoarrow_fields {geoarrow_fields.__version__},"))
+        self.assertTrue(said.startswith(f"geoarrow_fields {geoarrow_fields.__version__},"), said)
 
 
 if __name__ == "__main__":
