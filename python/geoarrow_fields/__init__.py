@@ -15,13 +15,13 @@ from . import library, sources
 from .c_schema import SchemaError
 from .columns import Check, Column, Columns, FileWarning, Reason, columns_of
 from .library import Command
-from .refusals import InvalidColumns, RefusedSource, is_at_a_byte
+from .refusals import InvalidColumns, RefusedSource, moved
 from .schema_lines import Schema, lines
 
 __all__ = [
     "Check", "Column", "Columns", "FileWarning", "InvalidColumns", "Reason", "RefusedSource", "Schema", "SchemaError", "canon", "check", "lines", "read", "write_schema"]
 
-__version__ = "1.0.0"
+__version__ = "2.0.0"
 
 
 def check(source: Any, infer: bool = False, strict: bool = False, notes: bool = False) -> Columns:
@@ -40,17 +40,16 @@ def check(source: Any, infer: bool = False, strict: bool = False, notes: bool = 
 
     A list without lines and a schema without columns have no columns; a file or bytes that are empty, or blank lines alone, are refused.
 
-    Raises `TypeError` where the source is none of these; `RefusedSource`, a `ValueError` with a code and an offset, where the bytes are not read; `SchemaError`,
-    which is one too, where the schema of the object is wrong; `OSError` for the file; and `MemoryError`.
+    Raises `TypeError` where the source is none of these; `RefusedSource`, a `ValueError` with a code, a message and a place, where the bytes are not read;
+    `SchemaError`, which is one too, where the schema of the object is wrong; `OSError` for the file; and `MemoryError`.
     """
     given = sources.given_of(source)
     if given.is_schema and not given.content:
         return Columns()
-    status, report, place = library.report(given.content, infer, notes)
-    if status != library.DONE:
-        of_file = given.is_arrow_file and is_at_a_byte(status)
-        raise RefusedSource(status, place + given.left_out if of_file else place, of_file)
-    columns = columns_of(report)
+    status, text = library.report(given.name, given.content, infer, notes)
+    if status == library.REFUSED:
+        raise RefusedSource(moved(text.rstrip("\n"), given.uncounted))
+    columns = columns_of(text)
     invalid = [one for one in columns if one.is_invalid] if strict else []
     if invalid:
         raise InvalidColumns(invalid)
@@ -71,12 +70,11 @@ def write_schema(lines: Iterable[Union[str, bytes]]) -> bytes:
     """An Arrow stream of the schema whose columns the lines denote (docs/FORMAT.md, 2.7 and 3.6). It has the schema alone: no batches, and no
     mark of the stream's end.
 
-    Raises `RefusedSource` with the code `NoField` where a line denotes no column, `Column` where no message can hold its type, and `TooLarge`;
-    and `MemoryError`.
+    Raises `RefusedSource` where a line denotes no column, no message can hold its type, or the schema is too large; and `MemoryError`.
     """
     if isinstance(lines, (str, bytes)):
         raise TypeError("lines are a list of texts")
-    status, stream, place = library.stream(sources.of_lines(lines))
-    if status != library.DONE:
-        raise RefusedSource(status, place)
-    return stream
+    status, found = library.stream(sources.of_lines(lines))
+    if status == library.REFUSED:
+        raise RefusedSource(str(found, "utf-8").rstrip("\n"))
+    return found

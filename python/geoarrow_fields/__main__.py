@@ -1,17 +1,18 @@
 """The command: python -m geoarrow_fields check [--infer] [--notes] [--json] FILE..
 
-Prints what each column of each file holds, as `geoarrow_check` does with these options; the others are that program's alone. The status is 1 where a
-column is invalid or a check of GeoParquet metadata does not hold, and 2 where a file is empty, a file or the words cannot be read, or the output fails.
-Where nobody reads the output any more, the command ends without a word, with the status 141.
+Prints what each column of each file holds, as `geoarrow_check` does with these options; the others are that program's alone. Why a file cannot be read is
+said on standard error; with --json the line of one that is refused stands on standard output too. The status is 1 where a column is invalid or a check of
+GeoParquet metadata does not hold, and 2 where a file is refused, a file or the words cannot be read, or the output fails. Where nobody reads the output any
+more, the command ends without a word, with the status 141.
 """
 import argparse
 import io
-import json
 import os
 import sys
 from typing import Any, List, NoReturn, Optional
 
 from . import RefusedSource, check
+from .sources import file_name
 from .tables import shown
 
 INVALID, FAILED = 1, 2
@@ -63,23 +64,20 @@ def _say(text: str) -> None:
 
 def _checked(file: str, asked: argparse.Namespace) -> int:
     """Prints what the columns of a file hold, or why it cannot be read. The status."""
-    name = os.fsencode(file).decode("utf-8", "replace")
+    name = shown(file_name(file))
     try:
         columns = check(_input() if file == "-" else file, infer=asked.infer, notes=asked.notes)
     except (OSError, RefusedSource, MemoryError) as error:
+        if asked.json and isinstance(error, RefusedSource):
+            print(error.json)
         said = "out of memory" if isinstance(error, MemoryError) else getattr(error, "strerror", None) or error
-        _say(f"{shown(name)}: {said}")
+        _say(f"{name}: {said}")
         return FAILED
     if asked.json:
-        named = "" if file == "-" else f'"file":{json.dumps(name, ensure_ascii=False)},'
-        for column in columns:
-            print(_with(named, column.json, column.json.rfind('"index":')))
-        for check_ in columns.checks:
-            print(_with(named, check_.json, check_.json.find('"message":')))
-        for warning in columns.warnings:
-            print(_with(named, warning.json, 1))
+        for one in (*columns, *columns.checks, *columns.warnings):
+            print(one.json)
     else:
-        print(*([f"{shown(name)}:"] if len(asked.files) > 1 else []), repr(columns), sep="\n")
+        print(*([f"{name}:"] if len(asked.files) > 1 else []), repr(columns), sep="\n")
     return INVALID if columns.checks or any(one.is_invalid for one in columns) else 0
 
 
@@ -88,13 +86,6 @@ def _input() -> bytes:
     if sys.stdin is None:
         raise OSError("it is closed")
     return bytes(sys.stdin.buffer.read())
-
-
-def _with(named: str, line: str, at: int) -> str:
-    """The line of a column, of a check or of a warning with the name of its file in its place: before the index of a column, which is the last key
-    `index` (behind it stand the reasons and warnings, which have none), before the message of a check, which is the first key `message`, and
-    at the begin of a warning."""
-    return f"{line[:at]}{named}{line[at:]}"
 
 
 if __name__ == "__main__":

@@ -10,12 +10,13 @@ import functools
 import mmap
 import os
 import pathlib
-from typing import Any, Tuple
+from typing import Any, Sequence, Tuple
 
 NAME = "libgeoarrow_c.so"
-VERSION = 10000
+VERSION = 20000
 
 DONE, SHORT, MEMORY = range(3)
+REFUSED = 5
 INFER_TYPES, NOTES = 1, 2
 _ROOM_OF_ANSWERS = 4096  # at first
 _ROOM_OF_REPORTS = 65536  # at first, and twice the bytes of the source, up to 64 MiB: enough for nearly all
@@ -61,29 +62,32 @@ def _library() -> Any:
 
 
 @functools.lru_cache(maxsize=None)
-def _call(name: str, numbers: int) -> Any:
-    """A call of the header, which takes so many numbers of a byte, then bytes, and then room for what it writes."""
+def _call(name: str, numbers: int, texts: int) -> Any:
+    """A call of the header, which takes so many numbers of a byte, then so many texts, and then room for what it writes."""
     call = getattr(_library(), name)
     call.restype = ctypes.c_uint8
-    call.argtypes = [ctypes.c_uint8] * numbers + [
-        ctypes.c_char_p, ctypes.c_size_t, ctypes.c_void_p, ctypes.c_size_t, ctypes.POINTER(ctypes.c_size_t)]
+    call.argtypes = [
+        *[ctypes.c_uint8] * numbers, *[ctypes.c_char_p, ctypes.c_size_t] * texts, ctypes.c_void_p, ctypes.c_size_t, ctypes.POINTER(ctypes.c_size_t)]
     return call
 
 
-def _called(name: str, numbers: Tuple[int, ...], given: bytes, size: int) -> Tuple[int, memoryview, int]:
-    """The status of a call with room of this size at first, what it writes, and what it leaves as its length.
+def _called(name: str, numbers: Sequence[int], texts: Sequence[bytes], size: int) -> Tuple[int, memoryview]:
+    """The status of a call, DONE or REFUSED, with room of this size at first, and what it writes.
 
     The room is this call's own, so any number of threads may call at once.
     """
-    call = _call(name, len(numbers))
+    call = _call(name, len(numbers), len(texts))
+    given = [*numbers, *(part for text in texts for part in (text, len(text)))]
     length = ctypes.c_size_t()
     while True:
         room = _room(size)
-        status = call(*numbers, given, len(given), room, size, ctypes.byref(length))
+        status = call(*given, room, size, ctypes.byref(length))
+        if status in (DONE, REFUSED):
+            return status, memoryview(room)[: length.value]
         if status == MEMORY:
             raise MemoryError
         if status != SHORT:
-            return status, memoryview(room)[: length.value if status == DONE else 0], length.value
+            raise RuntimeError(f"{name} of {NAME} answers the status {status}")
         size = length.value
 
 
@@ -103,17 +107,17 @@ def _first_room(given: bytes) -> int:
 
 def answer(command: Command, line: bytes) -> str:
     """The answer to one line under a command."""
-    return str(_called("geoarrow_answer", (command,), line, _ROOM_OF_ANSWERS)[1], "utf-8")
+    return str(_called("geoarrow_answer", [command], [line], _ROOM_OF_ANSWERS)[1], "utf-8")
 
 
-def report(given: bytes, infer: bool, notes: bool) -> Tuple[int, str, int]:
-    """The status of a check, the report, and the place where the bytes are refused."""
+def report(name: bytes, given: bytes, infer: bool, notes: bool) -> Tuple[int, str]:
+    """The status of a check of bytes, DONE or REFUSED, with the report or the line that says why. The name is that of the file, in UTF-8, if it has any bytes."""
     options = (INFER_TYPES if infer else 0) | (NOTES if notes else 0)
-    status, text, place = _called("geoarrow_check", (options,), given, _first_room(given))
-    return status, str(text, "utf-8"), place
+    status, text = _called("geoarrow_report", [options], [name, given], _first_room(given))
+    return status, str(text, "utf-8")
 
 
-def stream(lines: bytes) -> Tuple[int, bytes, int]:
-    """The status of a schema that is written, its Arrow stream, and the place where the lines are refused."""
-    status, found, place = _called("geoarrow_write_schema", (), lines, _first_room(lines))
-    return status, bytes(found), place
+def stream(lines: bytes) -> Tuple[int, bytes]:
+    """The status of a schema that is written, DONE or REFUSED, with its Arrow stream or the line that says why."""
+    status, found = _called("geoarrow_write_schema", [], [lines], _first_room(lines))
+    return status, bytes(found)

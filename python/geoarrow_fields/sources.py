@@ -15,22 +15,25 @@ _AT_ONCE = 1 << 20  # bytes that are asked for at once: a size that a file tells
 
 
 class Given(NamedTuple):
-    """What is given to `geoarrow_check` of the library for a source."""
+    """What is given to `geoarrow_report` of the library for a source."""
 
     content: bytes
     left_out: int = 0  # bytes of a file between its head and its end
     is_schema: bool = False  # whether these are the lines of a schema, which may have no columns
+    name: bytes = b""  # of a file that is named by its path
 
     @property
-    def is_arrow_file(self) -> bool:
-        return self.content.startswith(_ARROW_FILE)
+    def uncounted(self) -> int:
+        """How many bytes of an Arrow file stand before a byte that the library names, and are not counted there: those that are left out. A byte of any other
+        file is counted in a part of it that is given as a whole."""
+        return self.left_out if self.content.startswith(_ARROW_FILE) else 0
 
 
 def given_of(source: Any) -> Given:
     """What is given to the library for a source; `TypeError` where it is none."""
     if isinstance(source, (str, os.PathLike)):
         with open(source, "rb") as file:
-            return _of_file(file, file.seekable())
+            return _of_file(file, file.seekable())._replace(name=file_name(source).encode())
     if isinstance(source, (bytes, bytearray, memoryview)):
         return Given(bytes(source))
     if isinstance(source, (list, tuple)):
@@ -38,6 +41,11 @@ def given_of(source: Any) -> Given:
     if c_schema.gives_columns(source):
         return Given(of_lines(lines(source)), is_schema=True)
     return _of_open_file(source) if callable(getattr(source, "read", None)) else Given(_of_buffer(source))
+
+
+def file_name(path: Union[str, bytes, "os.PathLike[Any]"]) -> str:
+    """The name of a file as reports have it; what is not UTF-8 is replaced."""
+    return os.fsencode(path).decode("utf-8", "replace")
 
 
 def of_lines(given: Iterable[Union[str, bytes]]) -> bytes:

@@ -2,6 +2,7 @@
 whose allocator finds what is written past a block."""
 import ctypes
 import io
+import os
 import pathlib
 import tempfile
 import unittest
@@ -11,32 +12,58 @@ import geoarrow_fields
 from geoarrow_fields import RefusedSource, check, library, read, write_schema
 
 SIZES = (0, 1, 4095, 4096, 4097, 65535, 65536, 65537, (1 << 20) - 1, 1 << 20, (1 << 20) + 1, 5_000_000)
+KEYS = ("code", "file", "message", "place", "line", "byte", "element", "column")
+
+
+def said_of(error):
+    """What is said of a refused source, but for what is not."""
+    return {key: getattr(error, key) for key in KEYS if getattr(error, key) is not None}
+
+
+def arrow_file(words, left_out):
+    """An Arrow file whose footer are these words, behind so many bytes that are not read."""
+    return b"ARROW1\0\0" + bytes(left_out) + words + len(words).to_bytes(4, "little") + b"ARROW1"
 
 
 class Cases(unittest.TestCase):
+    def setUp(self):
+        there = tempfile.TemporaryDirectory()
+        self.addCleanup(there.cleanup)
+        self.path = pathlib.Path(there.name, "file")
+
+    def file(self, content):
+        self.path.write_bytes(content)
+        return self.path
+
+    def refused(self, call, *given):
+        with self.assertRaises(RefusedSource) as caught:
+            call(*given)
+        return caught.exception
+
     def test_room_that_is_written_to_its_end(self):
         for size in SIZES:
             self.assertEqual(read(f"n{size}"), "x" * size)
             self.assertEqual(write_schema([f"n{size}"]), b"x" * size)
-            self.assertEqual(library.report(b"n%d" % size, False, False)[:2], (0, "x" * size))
+            self.assertEqual(library.report(b"", b"n%d" % size, False, False), (library.DONE, "x" * size))
 
     def test_large_inputs(self):
         for size in (1 << 19, 1 << 20, 3_000_000):
             given = b"n7" + b" " * size
             self.assertEqual(write_schema([given]), b"x" * 7)
-            self.assertEqual(library.report(given, False, False)[:2], (0, "x" * 7))
+            self.assertEqual(library.report(b"", given, False, False), (library.DONE, "x" * 7))
 
     def test_room_of_each_size(self):
-        """No call is told of more room than there is, and no more than two are made."""
+        """No call is told of more room than there is, and no more than two are made: a text, or the line of what is refused, that is too long is asked for again."""
         real = library._call
 
-        def watched(name, numbers):
-            call = real(name, numbers)
+        def watched(name, numbers, texts):
+            call = real(name, numbers, texts)
 
             def watching(*given):
                 room, told = given[-3:-1]
                 self.assertGreaterEqual(ctypes.sizeof(room), told)
-                self.assertEqual(given[-4], len(given[-5]))
+                for text, length in zip(given[numbers:-3:2], given[numbers + 1:-3:2]):
+                    self.assertEqual(len(text), length)
                 calls.append(told)
                 return call(*given)
 
@@ -44,17 +71,19 @@ class Cases(unittest.TestCase):
 
         with mock.patch.object(library, "_call", watched):
             for size in SIZES:
-                for ask in (lambda: read(f"n{size}"), lambda: write_schema([f"n{size}"]), lambda: library.report(b"n%d" % size, True, True)):
+                for ask in (
+                        lambda: read(f"n{size}"), lambda: write_schema([f"n{size}"]), lambda: library.report(b"name", b"n%d" % size, True, True),
+                        lambda: self.refused(check, b"r%d" % size), lambda: self.refused(write_schema, [b"r%d" % size])):
                     calls = []
                     ask()
                     self.assertIn(len(calls), (1, 2))
                     self.assertGreaterEqual(calls[-1], size)
 
     def test_options(self):
-        found = {library.report(b"o", infer, notes)[1]: (infer, notes) for infer in (False, True) for notes in (False, True)}
+        found = {library.report(b"", b"o", infer, notes)[1]: (infer, notes) for infer in (False, True) for notes in (False, True)}
         self.assertEqual(found, {"0": (False, False), "1": (True, False), "2": (False, True), "3": (True, True)})
         asked = []
-        with mock.patch.object(library, "report", lambda given, infer, notes: asked.append((infer, notes)) or (0, "", 0)):
+        with mock.patch.object(library, "report", lambda name, given, infer, notes: asked.append((infer, notes)) or (library.DONE, "")):
             check(b"o")
             check(b"o", infer=True)
             check(b"o", notes=True)
@@ -62,40 +91,70 @@ class Cases(unittest.TestCase):
         self.assertEqual(asked, [(False, False), (True, False), (False, True), (True, True)])
         self.assertEqual([read("o"), geoarrow_fields.canon("o")], ["0", "2"])
 
-    def refused(self, given):
-        with self.assertRaises(RefusedSource) as caught:
-            check(given)
-        return caught.exception.code, caught.exception.offset, str(caught.exception)
+    def test_names(self):
+        """Of a path its name is given, of what is open none, and none of bytes and of lines."""
+        for name in ("a", "\u00e9\u65e5", "a b"):
+            path = self.path.with_name(name)
+            path.write_bytes(b"r1")
+            for source in (path, str(path)):
+                self.assertEqual(self.refused(check, source).file, str(path))
+            with open(path, "rb") as file:
+                for source in (file, io.BytesIO(b"r1"), b"r1", [b"r1"]):
+                    self.assertIs(self.refused(check, source).file, None)
+        self.assertEqual(library.report("\u00e9".encode(), b"f", False, False), (library.DONE, "\u00e9"))
+        self.assertEqual(library.report(b"x" * 200_000, b"f", False, False), (library.DONE, "x" * 200_000))
 
-    def test_statuses(self):
-        self.assertEqual(self.refused(b"s5p3"), ("NoField", 3, "line 4 is no field"))
-        self.assertEqual(self.refused(b"s6"), ("Parquet", 0, "the columns of the Parquet file are not read"))
-        self.assertEqual(self.refused(b"s7p9"), ("Budget", 9, "byte 9 of the message: more is to be read than eight times its bytes"))
-        self.assertEqual(self.refused(b"s10"), ("ReportTooLarge", 0, "the report would have more than 1048576 bytes and 32 for each byte read"))
-        self.assertEqual(self.refused(b"s11"), ("EmptyFile", 0, "is empty"))
-        self.assertEqual(self.refused(b"s18p40"), ("Offset", 40, "byte 40 of the message: an offset that leads nowhere"))
-        self.assertEqual(self.refused(b"s200p3"), ("Status200", 3, "status 200 at 3"))
-        with self.assertRaises(MemoryError):
-            check(b"s2")
-        with self.assertRaises(RefusedSource) as caught:
-            write_schema(["s9"])
-        self.assertEqual(caught.exception.code, "TooLarge")
+    @unittest.skipUnless(os.supports_bytes_environ, "names of files are no bytes here")
+    def test_a_name_that_is_not_utf_8(self):
+        path = os.fsencode(self.path) + b"\xff\xc3"
+        try:
+            with open(path, "wb") as file:
+                file.write(b"r1")
+        except OSError:
+            self.skipTest("no file has such a name here")
+        self.assertEqual(self.refused(check, os.fsdecode(path)).file, f"{self.path}\ufffd\ufffd")
 
-    def test_the_place_in_an_arrow_file(self):
+    def test_what_is_refused(self):
+        x = {"code": "Code", "message": "x"}
+        for words, wanted in (
+                ("r1", x), ("r1l7", {**x, "line": 7}), ("r1l7b30", {**x, "line": 7, "byte": 30, "place": "byte 30"}), ("r1e0", {**x, "element": 0}),
+                ("r1c2", {**x, "column": 2}), ("r1b0", {**x, "byte": 0, "place": "byte 0"}), ("r3", {**x, "message": "xxx"}),
+                ("r200000", {**x, "message": "x" * 200_000}), ("r3000000b4", {**x, "message": "x" * 3_000_000, "byte": 4, "place": "byte 4"})):
+            for call, given in ((check, words.encode()), (check, [words]), (check, io.BytesIO(words.encode())), (write_schema, [words])):
+                error = self.refused(call, given)
+                self.assertEqual(said_of(error), wanted)
+                self.assertEqual(str(error), f"byte {wanted['byte']}: {wanted['message']}" if "byte" in wanted else wanted["message"])
+                self.assertEqual((error.json[:1], error.json[-1:]), ("{", "}"))  # (without a line feed)
+            self.assertEqual(said_of(self.refused(check, self.file(words.encode()))), {**wanted, "file": str(self.path)})
+
+    def test_other_statuses(self):
+        for call in (lambda words: read(words), lambda words: check(words.encode()), lambda words: write_schema([words])):
+            with self.assertRaises(MemoryError):
+                call("s2")
+            for status in (3, 4, 6, 16, 255):
+                with self.assertRaisesRegex(RuntimeError, f"^geoarrow_(answer|report|write_schema) of libgeoarrow_c.so answers the status {status}$"):
+                    call(f"s{status}")
+
+    def test_the_byte_of_an_arrow_file(self):
         """The library counts from the first byte that it is given; it is told of the first eight bytes of a file and of its end."""
-        end = b"s18p12" + (6).to_bytes(4, "little") + b"ARROW1"
-        for left_out in (0, 5, 1000):
-            whole = b"ARROW1\0\0" + bytes(left_out) + end
-            wanted = ("Offset", 12 + left_out, f"byte {12 + left_out}: an offset that leads nowhere")
-            with tempfile.TemporaryDirectory() as folder:
-                path = pathlib.Path(folder, "file")
-                path.write_bytes(whole)
-                self.assertEqual(self.refused(path), wanted)
-            self.assertEqual(self.refused(io.BytesIO(whole)), wanted)
-            self.assertEqual(self.refused(whole)[1], 12)
-        for status, code in ((7, "Budget"), (16, "Envelope"), (30, "Depth")):
-            words = b"s%dp9" % status
-            whole = b"ARROW1\0\0" + bytes(100) + words + len(words).to_bytes(4, "little") + b"ARROW1"
-            self.assertEqual(self.refused(io.BytesIO(whole))[:2], (code, 109))
-        whole = b"ARROW1\0\0" + bytes(100) + b"s11p0." + (6).to_bytes(4, "little") + b"ARROW1"
-        self.assertEqual(self.refused(io.BytesIO(whole))[:2], ("EmptyFile", 0))
+        for left_out in (0, 5, 1000, 1 << 20):
+            for words in (b"r1b12", b"r1b0", b"r70000b1"):
+                whole = arrow_file(words, left_out)
+                first = int(words.partition(b"b")[2])
+                for source, byte in ((self.file(whole), first + left_out), (io.BytesIO(whole), first + left_out), (whole, first)):
+                    error = self.refused(check, source)
+                    self.assertEqual((error.byte, error.place, str(error)), (byte, f"byte {byte}", f"byte {byte}: {error.message}"))
+                    self.assertIn(f'{{"byte":{byte},"error":', error.json)
+                    self.assertIn(f'"place":"byte {byte}"}}', error.json)
+                    self.assertEqual(error.file, str(self.path) if source is self.path else None)
+        error = self.refused(check, self.file(arrow_file(b"r1l3", 1000)))  # of which no byte is named
+        self.assertEqual(said_of(error), {"code": "Code", "message": "x", "line": 3, "file": str(self.path)})
+
+    def test_the_byte_of_another_file(self):
+        """Of a Parquet file the end is given too, but its bytes are counted in the footer; a stream's in its first message, which is given as a whole."""
+        for whole in (
+                b"PAR1" + bytes(1000) + b"r1b12" + (5).to_bytes(4, "little") + b"PAR1", b"PARE" + bytes(1000) + b"r1b12" + (5).to_bytes(4, "little") + b"PARE",
+                b"\xff\xff\xff\xff" + (8).to_bytes(4, "little") + b"r1b12   " + bytes(1000), b"r1b12" + bytes(1000)):
+            for source in (whole, self.file(whole), io.BytesIO(whole)):
+                error = self.refused(check, source)
+                self.assertEqual((error.byte, error.place), (12, "byte 12"))

@@ -1,7 +1,10 @@
-"""What the tests share: where things are, lines of columns, and what is said of a file."""
+"""What the tests share: where things are, lines of columns, what is said of a file, and the command."""
+import contextlib
+import io
 import pathlib
 
 from geoarrow_fields import FileWarning
+from geoarrow_fields.__main__ import main
 
 TOP = pathlib.Path(__file__).resolve().parent.parent.parent
 DATA = TOP / "crates/geoarrow_check/data"
@@ -20,3 +23,11 @@ def with_crs(crs):
     """The line of a column of well-known binary with this text as its CRS."""
     text = ('{"crs":%s}' % crs).replace("\\", "\\\\").replace('"', '\\"')
     return '{"metadata":{"ARROW:extension:metadata":"%s","ARROW:extension:name":"geoarrow.wkb"},"name":"g","nullable":true,"type":"binary"}' % text
+
+
+def printed(words):
+    """What the command prints on both outputs, and its status."""
+    out, err = io.StringIO(), io.StringIO()
+    with contextlib.redirect_stdout(out), contextlib.redirect_stderr(err):
+        status = main(words)
+    return out.getvalue(), err.getvalue(), status

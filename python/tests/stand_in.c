@@ -1,53 +1,104 @@
 /* A stand-in for the library of C: what its calls answer is said by their bytes. Each word of them is a letter and a number:
  *   n   so many bytes are written, if there is room; otherwise SHORT
- *   s   this status is answered
- *   p   with this place
+ *   s   this status is answered, and nothing is written
+ *   r   the bytes are refused: the line that says why, whose message has so many bytes, is written, if there is room; otherwise SHORT
+ *   b, c, e, l   the byte, the column, the element or the line that stands there; with a byte the place that is it
  *   o   the options (or the command) are written, as one digit
- * All the room that a call is told of is written to, as a call may. */
+ *   f   the name of the file is written
+ * The line says the file too, where the call gives a name. All the room that a call is told of is written to, as a call may. */
 #include <stddef.h>
 #include <stdint.h>
+#include <stdio.h>
 #include <stdlib.h>
 #include <string.h>
 
-enum { DONE = 0, SHORT = 1 };
+#include "geoarrow.h"
 
-uint32_t geoarrow_version(void) { return 10000; }
+#ifndef VERSION
+#define VERSION GEOARROW_VERSION
+#endif
 
-static uint8_t answered(uint8_t number, const uint8_t *given, size_t given_len, uint8_t *out, size_t out_len, size_t *len) {
-    size_t wanted = 0, place = 0, status = DONE, at = 0;
-    int options = 0;
+uint32_t geoarrow_version(void) { return VERSION; }
+
+/* What the words of a call say: the numbers of those that are there, by their letters. */
+typedef struct {
+    size_t number[128];
+    int is_there[128];
+} words;
+
+static void read_words(const uint8_t *given, size_t given_len, words *found) {
+    size_t at = 0;
+    memset(found, 0, sizeof *found);
     while (at < given_len) {
-        char word = (char)given[at++];
+        unsigned word = given[at++] & 127;
         size_t value = 0;
         while (at < given_len && given[at] >= '0' && given[at] <= '9') value = 10 * value + (size_t)(given[at++] - '0');
-        if (word == 'n') wanted = value;
-        if (word == 's') status = value;
-        if (word == 'p') place = value;
-        if (word == 'o') options = 1;
+        found->number[word] = value;
+        found->is_there[word] = 1;
     }
-    if (status != DONE) {
-        *len = place;
-        return (uint8_t)status;
-    }
-    if (options) wanted = 1;
-    if (out_len < wanted) {
-        *len = wanted;
-        return SHORT;
-    }
+}
+
+/* Writes to all of the room, and the text at its front; or says what is needed. */
+static uint8_t filled(const char *text, size_t text_len, uint8_t status, uint8_t *out, size_t out_len, size_t *len) {
+    *len = text_len;
+    if (out_len < text_len) return GEOARROW_SHORT;
     memset(out, 'x', out_len);
-    if (options) out[0] = (uint8_t)('0' + number);
-    *len = wanted;
-    return DONE;
+    memcpy(out, text, text_len);
+    return status;
+}
+
+static char *number(char *at, const words *said, char word, const char *key) {
+    return said->is_there[(unsigned)word] ? at + sprintf(at, "\"%s\":%zu,", key, said->number[(unsigned)word]) : at;
+}
+
+/* The line that says why the bytes are refused, with its line feed: its keys stand in order. */
+static uint8_t refused(const words *said, const uint8_t *name, size_t name_len, uint8_t *out, size_t out_len, size_t *len) {
+    size_t message_len = said->number['r'];
+    char *line = malloc(message_len + name_len + 400), *at = line;
+    uint8_t status;
+    if (!line) return GEOARROW_MEMORY;
+    *at++ = '{';
+    at = number(at, said, 'b', "byte");
+    at = number(at, said, 'c', "column");
+    at = number(at, said, 'e', "element");
+    at += sprintf(at, "\"error\":\"Code\",");
+    if (name_len) at += sprintf(at, "\"file\":\"%.*s\",", (int)name_len, (const char *)name);
+    at = number(at, said, 'l', "line");
+    at += sprintf(at, "\"message\":\"");
+    memset(at, 'x', message_len);
+    at += message_len;
+    at += said->is_there['b'] ? sprintf(at, "\",\"place\":\"byte %zu\"}\n", said->number['b']) : sprintf(at, "\"}\n");
+    status = filled(line, (size_t)(at - line), GEOARROW_REFUSED, out, out_len, len);
+    free(line);
+    return status;
+}
+
+static uint8_t answered(uint8_t options, const uint8_t *name, size_t name_len, const uint8_t *given, size_t given_len, uint8_t *out, size_t out_len, size_t *len) {
+    words said;
+    read_words(given, given_len, &said);
+    if (said.is_there['s']) return (uint8_t)said.number['s'];
+    if (said.is_there['r']) return refused(&said, name, name_len, out, out_len, len);
+    if (said.is_there['f']) return filled((const char *)name, name_len, GEOARROW_DONE, out, out_len, len);
+    if (said.is_there['o']) {
+        char digit = (char)('0' + options);
+        return filled(&digit, 1, GEOARROW_DONE, out, out_len, len);
+    }
+    *len = said.number['n'];
+    if (out_len < *len) return GEOARROW_SHORT;
+    memset(out, 'x', out_len);
+    return GEOARROW_DONE;
 }
 
 uint8_t geoarrow_answer(uint8_t command, const uint8_t *line, size_t line_len, uint8_t *out, size_t out_len, size_t *len) {
-    return answered(command, line, line_len, out, out_len, len);
+    return answered(command, NULL, 0, line, line_len, out, out_len, len);
 }
 
-uint8_t geoarrow_check(uint8_t options, const uint8_t *bytes, size_t bytes_len, uint8_t *out, size_t out_len, size_t *len) {
-    return answered(options, bytes, bytes_len, out, out_len, len);
+uint8_t geoarrow_report(
+    uint8_t options, const uint8_t *name, size_t name_len, const uint8_t *bytes, size_t bytes_len, uint8_t *out, size_t out_len, size_t *len) {
+    if (!name || !bytes) abort(); /* as the header asks, also where there are none */
+    return answered(options, name, name_len, bytes, bytes_len, out, out_len, len);
 }
 
 uint8_t geoarrow_write_schema(const uint8_t *lines, size_t lines_len, uint8_t *out, size_t out_len, size_t *len) {
-    return answered(0, lines, lines_len, out, out_len, len);
+    return answered(0, NULL, 0, lines, lines_len, out, out_len, len);
 }

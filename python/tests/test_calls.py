@@ -6,7 +6,6 @@ import json
 import mmap
 import pathlib
 import pickle
-import re
 import tempfile
 import threading
 import unittest
@@ -14,8 +13,7 @@ from unittest import mock
 
 import geoarrow_fields
 from geoarrow_fields import (
-    Column, InvalidColumns, Reason, RefusedSource, Schema, SchemaError, canon, check, library, lines, read, write_schema)
-from geoarrow_fields.refusals import RULES
+    Column, InvalidColumns, Reason, Schema, SchemaError, canon, check, library, lines, read, write_schema)
 
 from .shared import BROKEN, CANON, CRS, DATA, NO_GEO_METADATA, OTHER, POINT, TEXT, TOP, with_crs
 
@@ -36,7 +34,7 @@ class Answers(unittest.TestCase):
         self.assertEqual(canon(long), CANON.replace('"p"', '"' + "p" * 200_000 + '"'))
 
     def test_out_of_memory(self):
-        with mock.patch.object(library, "_call", lambda name, numbers: lambda *given: library.MEMORY):
+        with mock.patch.object(library, "_call", lambda *of: lambda *given: library.MEMORY):
             for call in (lambda: read(TEXT), lambda: canon(TEXT), lambda: check([TEXT]), lambda: write_schema([TEXT])):
                 with self.assertRaises(MemoryError):
                     call()
@@ -178,111 +176,6 @@ class Checks(unittest.TestCase):
                 self.assertEqual(check(path), check(DATA / name))
 
 
-class Refusals(unittest.TestCase):
-    def refused(self, call, *given):
-        with self.assertRaises(RefusedSource) as caught:
-            call(*given)
-        self.assertIsInstance(caught.exception, ValueError)
-        return caught.exception.code, caught.exception.offset, str(caught.exception)
-
-    def test_bytes(self):
-        self.assertEqual(self.refused(check, f"{TEXT}\n{{}}\n".encode()), ("NoField", 1, "line 2 is no field"))
-        self.assertEqual(self.refused(check, f"\n{TEXT}\n\n[]".encode()), ("NoField", 3, "line 4 is no field"))
-        self.assertEqual(self.refused(check, b"PAR1"), ("Parquet", 0, "the columns of the Parquet file are not read"))
-        self.assertEqual(self.refused(check, b"ARROW1"), ("Envelope", 0, "byte 0: no whole message"))
-        self.assertEqual(self.refused(check, b"\xff\xff\xff\xff"), ("Number", 4, "byte 4 of the message: no aligned number before the end"))
-        self.assertEqual(self.refused(check, [TEXT, "\ud800"])[:2], ("NoField", 1))
-
-    def test_empty_sources(self):
-        wanted = ("EmptyFile", 0, "is empty")
-        for given in (b"", bytearray(), b"\n", b" \t\r\n\n  ", [""], ["", " "], io.BytesIO(), io.BytesIO(b"\n")):
-            self.assertEqual(self.refused(check, given), wanted)
-        with tempfile.TemporaryDirectory() as folder:
-            path = pathlib.Path(folder, "empty")
-            for given in (b"", b"\n\n"):
-                path.write_bytes(given)
-                self.assertEqual(self.refused(check, path), wanted)
-        self.assertEqual(write_schema([]), write_schema([""]))
-
-    def test_a_report_that_is_too_large(self):
-        long = r"\u0001" * 30_000
-        inside = ",".join(['{"metadata":{"ARROW:extension:name":"geoarrow.wkb"},"name":"k","nullable":true,"type":"binary"}'] * 16)
-        struct = '{"struct":[{"name":"%s","nullable":true,"type":{"struct":[%s]}}]}' % (long, inside)
-        stream = write_schema([TEXT.replace('"utf8"', struct)])  # each of its sixteen warnings has the long name in its path
-        words = re.search(r'TOO_LARGE: &str = "(.*)"', (TOP / "crates/report_words/src/problems.rt").read_text())[1]  # those of the program
-        self.assertEqual(self.refused(check, stream), ("ReportTooLarge", 0, words))
-        self.assertIn(f'"{words}"', (TOP / "rust/geoarrow-checked/src/error.rs").read_text())
-
-    def test_an_encrypted_file(self):
-        footer = bytes(20)
-        found = b"PARE" + bytes(100) + footer + len(footer).to_bytes(4, "little") + b"PARE"
-        self.assertEqual(self.refused(check, found)[0], "Parquet")
-        self.assertEqual(self.refused(check, io.BytesIO(found))[0], "Parquet")
-
-    def test_the_place_in_an_arrow_file_is_that_in_the_file(self):
-        """With each of its last bytes turned, however it is opened: the same place, and one that was found by turning is behind what was turned."""
-        with tempfile.TemporaryDirectory() as folder:
-            path = pathlib.Path(folder, "file")
-            whole = bytearray((DATA / "file.arrow").read_bytes())
-            refused = 0
-            for at in range(len(whole) - 200, len(whole)):
-                whole[at] ^= 0x81
-                path.write_bytes(whole)
-                said = []
-                for source in (path, bytes(whole), io.BytesIO(whole)):
-                    try:
-                        said.append([one.json for one in check(source)])
-                    except RefusedSource as error:
-                        said.append((error.code, error.offset, str(error)))
-                        self.assertRegex(str(error), r"^byte \d+: ")
-                        refused += 1
-                self.assertEqual(said[1:], said[:1] * 2, at)
-                whole[at] ^= 0x81
-            self.assertGreater(refused, 60)
-
-    def test_a_stream_with_an_offset_that_leads_nowhere(self):
-        stream = bytearray(write_schema([TEXT]))
-        stream[8:12] = (2**31).to_bytes(4, "little")  # the root offset, which is the first of the message
-        self.assertEqual(self.refused(check, bytes(stream)), ("Offset", 0, "byte 0 of the message: an offset that leads nowhere"))
-
-    def test_a_file_that_is_cut_is_refused_at_its_end(self):
-        whole = (DATA / "file.arrow").read_bytes()
-        with tempfile.TemporaryDirectory() as folder:
-            path = pathlib.Path(folder, "file")
-            for length in range(6, len(whole)):
-                path.write_bytes(whole[:length])
-                code, offset, _ = self.refused(check, path)
-                self.assertEqual((code, offset), ("Envelope", max(length - 10, 0)))
-                self.assertEqual(self.refused(check, whole[:length])[:2], (code, offset))
-
-    def test_no_schema_and_no_file(self):
-        with self.assertRaises(TypeError):
-            check(object())
-        with self.assertRaises(FileNotFoundError):
-            check("/nowhere/at/all")
-        with self.assertRaises(IsADirectoryError):
-            check(TOP)
-
-    def test_each_status_of_the_header_has_its_words(self):
-        header = (TOP / "include/geoarrow.h").read_text()
-        found = {int(number): name for name, number in re.findall(r"GEOARROW_(\w+) = (\d+),? *(?=/\*|\n)", header) if int(number) > 4}
-        self.assertTrue({5, 6, 7, 10, 11, 16, 30} <= found.keys())
-        found[11] += "_FILE"  # (GEOARROW_EMPTY)
-        for number, name in found.items():
-            with self.subTest(name):
-                self.assertEqual(RefusedSource(number, 0).code.lower(), re.sub("^RULE_", "", name).replace("_", "").lower())
-
-    def test_the_rules_in_words(self):
-        source = (TOP / "crates/arrow_ipc/src/fault.rt").read_text()
-        self.assertEqual(list(RULES), [(code, text) for text, code in re.findall(r'#\[error\("(.*)"\)\]\n +(\w+),', source)])
-
-    def test_errors_cross_processes(self):
-        self.assertEqual(str(RefusedSource(18, 7)), str(RefusedSource(18, 7, False)))
-        for error in (RefusedSource(5, 1), RefusedSource(18, 7), RefusedSource(18, 7, True), RefusedSource(200, 3), InvalidColumns(check([BROKEN]))):
-            other = pickle.loads(pickle.dumps(error))
-            self.assertEqual((type(other), str(other), vars(other)), (type(error), str(error), vars(error)))
-
-
 class Streams(unittest.TestCase):
     def test_streams_that_others_read(self):
         rows = [line for line in (TOP / "crates/ipc_samples/data/written.rows").read_text().split("\n") if not line.startswith("#")]
@@ -296,11 +189,7 @@ class Streams(unittest.TestCase):
             compared += 1
         self.assertGreater(compared, 6)
 
-    def test_refused(self):
-        for given, code, offset in (([TEXT, "{}"], "NoField", 1), ([TEXT, POINT, OTHER], "Column", 2), (["1"], "NoField", 0)):
-            with self.assertRaises(RefusedSource) as caught:
-                write_schema(given)
-            self.assertEqual((caught.exception.code, caught.exception.offset), (code, offset))
+    def test_a_text_is_no_list_of_lines(self):
         for given in (TEXT, TEXT.encode()):
             with self.assertRaises(TypeError):
                 write_schema(given)
@@ -367,7 +256,7 @@ class Threads(unittest.TestCase):
 class Package(unittest.TestCase):
     def test_the_version(self):
         said = (TOP / "VERSION").read_text()
-        self.assertTrue(said.startswith(f"geoarrow_fields {geoarrow_fields.__version__},"))
+        self.assertTrue(said.startswith(f"geoarrow_fields {geoarrow_fields.__version__},"), said)
 
 
 if __name__ == "__main__":

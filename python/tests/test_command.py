@@ -1,6 +1,7 @@
 """Tests of the command: what it prints, also beside the program `geoarrow_check`, where that is built."""
 import contextlib
 import io
+import json
 import os
 import pathlib
 import subprocess
@@ -13,17 +14,10 @@ from geoarrow_fields import check
 from geoarrow_fields.__main__ import OF_THE_PROGRAM, main
 from geoarrow_fields.columns import columns_of
 
-from .shared import BROKEN, CRS, DATA, TEXT, TOP
+from .shared import BROKEN, CRS, DATA, TEXT, TOP, printed
 
 PROGRAM = TOP / "crates/geoarrow_check/out/geoarrow_check"
-
-
-def printed(words):
-    """What the command prints on both outputs, and its status."""
-    out, err = io.StringIO(), io.StringIO()
-    with contextlib.redirect_stdout(out), contextlib.redirect_stderr(err):
-        status = main(words)
-    return out.getvalue(), err.getvalue(), status
+NO_NAME = 'line 1: is JSON, but no field: "name" is no text'  # of a line `{}`
 
 
 class Command(unittest.TestCase):
@@ -35,7 +29,7 @@ class Command(unittest.TestCase):
             pathlib.Path(none).write_text("{}\n")
             self.assertEqual(printed(["check", good]), ("column  holds  CRS  edges\nt       utf8\n", "", 0))
             self.assertEqual(printed(["check", good, bad])[2], 1)
-            self.assertEqual(printed(["check", none, bad])[1:], (f"{none}: line 1 is no field\n", 2))
+            self.assertEqual(printed(["check", none, bad])[1:], (f"{none}: {NO_NAME}\n", 2))
             self.assertEqual(printed(["check", folder + "/no"]), ("", f"{folder}/no: No such file or directory\n", 2))
 
     def test_the_lines_that_the_program_is_to_print(self):
@@ -49,13 +43,16 @@ class Command(unittest.TestCase):
             empty, blank, good = (str(pathlib.Path(folder, name)) for name in ("empty", "blank", "good"))
             for path, text in ((empty, ""), (blank, "\n \t\r\n"), (good, f"{TEXT}\n\n")):
                 pathlib.Path(path).write_bytes(text.encode())
-            for options in ([], ["--json"], ["--infer", "--notes"]):
+            line = '{"error":"EmptyFile"%s,"message":"is empty"}\n'
+            refused = "".join(line % f',"file":"{path}"' for path in (empty, blank))
+            for options, before in (([], ""), (["--json"], refused), (["--infer", "--notes"], "")):
                 out, err, status = printed(["check", *options, empty, blank, good])
                 self.assertEqual((err, status), (f"{empty}: is empty\n{blank}: is empty\n", 2))
-                self.assertEqual(out.count("\n"), 1 if options == ["--json"] else 3)
-        for text in (b"", b"\n"):
-            found = self.run_in_data(sys.executable, "-m", "geoarrow_fields", "check", "-", given=text)
-            self.assertEqual((found.stdout, found.stderr, found.returncode), (b"", b"-: is empty\n", 2))
+                self.assertEqual((out[:len(before)], out[len(before):].count("\n")), (before, 1 if before else 3))
+        for options, out in (([], ""), (["--json"], line % "")):
+            for text in (b"", b"\n"):
+                found = self.run_in_data(sys.executable, "-m", "geoarrow_fields", "check", *options, "-", given=text)
+                self.assertEqual((found.stdout.decode(), found.stderr, found.returncode), (out, b"-: is empty\n", 2))
 
     def test_notes(self):
         with tempfile.TemporaryDirectory() as folder:
@@ -74,7 +71,7 @@ class Command(unittest.TestCase):
             self.assertEqual(printed(["check", *names]), ("".join(f"{name}:\n{table}" for name in shown), "", 0))
             for name in names:
                 pathlib.Path(name).write_text("{}\n")
-            self.assertEqual(printed(["check", *names]), ("", "".join(f"{name}: line 1 is no field\n" for name in shown), 2))
+            self.assertEqual(printed(["check", *names]), ("", "".join(f"{name}: {NO_NAME}\n" for name in shown), 2))
             self.assertEqual(printed(["check", names[0] + "\t"]), ("", f"{shown[0]}?: No such file or directory\n", 2))
 
     def test_an_output_that_nobody_reads(self):
@@ -137,15 +134,25 @@ class Command(unittest.TestCase):
             for length in (*range(0, min(len(whole), 300), 29), len(whole) - 1, len(whole)):
                 ours = self.run_in_data(sys.executable, "-m", "geoarrow_fields", "check", "--json", "-", given=whole[:length])
                 wanted = self.run_in_data(str(PROGRAM), "--json", "-", given=whole[:length])
-                self.assertEqual(ours.returncode, wanted.returncode)
-                before = ours
+                before = b""
                 if name == "columns.jsonl" and ours.returncode == 2:  # (the program prints the columns before a line that is refused)
-                    self.assertEqual(ours.stdout, b"")
                     lines = whole[: whole.rfind(b"\n", 0, length) + 1]
-                    before = self.run_in_data(sys.executable, "-m", "geoarrow_fields", "check", "--json", "-", given=lines)
-                self.assertEqual(before.stdout, wanted.stdout)
-                if b"of the message" in wanted.stderr:
-                    self.assertEqual(ours.stderr, wanted.stderr)
+                    before = self.run_in_data(sys.executable, "-m", "geoarrow_fields", "check", "--json", "-", given=lines).stdout if lines else b""
+                self.assertEqual((before + ours.stdout, ours.returncode), (wanted.stdout, wanted.returncode))
+                self.assertEqual(ours.stderr, wanted.stderr)
+
+    @unittest.skipUnless(PROGRAM.is_file(), "the program is not built")
+    def test_names_beside_the_program(self):
+        with tempfile.TemporaryDirectory() as folder:
+            for name in ("a", 'b"\\', "c\n\x01\x1b\x7f\x85", "\u00e9\U0001f600"):
+                path = pathlib.Path(folder, name)
+                for text in (TEXT, "{}", ""):
+                    path.write_text(text)
+                    for options in ([], ["--json"]):
+                        words = [*options, str(path), str(path)]
+                        ours = self.run_in_data(sys.executable, "-m", "geoarrow_fields", "check", *words)
+                        wanted = self.run_in_data(str(PROGRAM), *words)
+                        self.assertEqual((ours.stdout, ours.stderr, ours.returncode), (wanted.stdout, wanted.stderr, wanted.returncode))
 
     def run_in_data(self, *words, given=b"", encoding="utf-8"):
         environment = {**os.environ, "PYTHONPATH": str(TOP / "python"), "PYTHONIOENCODING": encoding, "PYTHONDONTWRITEBYTECODE": "1"}
@@ -153,24 +160,25 @@ class Command(unittest.TestCase):
 
 
 class Printed(unittest.TestCase):
-    def test_what_stands_behind_the_columns(self):
-        column, other = '{"column":"g"', ',"index":0,"state":"plain","type":"binary"}'
-        check_, message = '{"check":"GeoBbox","column":"\\"message\\":"', ',"message":"m","ok":false,"path":["columns"]}'
-        warning = '"message":"w","warning":"NoGeoMetadata"}'
-        columns = columns_of(f"{column}{other}\n{{{warning}\n")
-        with mock.patch("geoarrow_fields.__main__.check", lambda *given, **more: columns):
-            for file, named in (("-", ""), ('a"b', '"file":"a\\"b",')):
-                out, err, status = printed(["check", "--json", file])
-                self.assertEqual((out, err, status), (f"{column},{named}{other[1:]}\n{{{named}{warning}\n", "", 0))
-            self.assertEqual(printed(["check", "a", "b"])[0].split("\n")[-2], "NoGeoMetadata: w")
-            columns = columns_of(f"{column}{other}\n{check_}{message}\n{{{warning}\n")
-            lines = f'{column},"file":"f"{other}\n{check_},"file":"f"{message}\n{{"file":"f",{warning}\n'
-            self.assertEqual(printed(["check", "--json", "f"]), (lines, "", 1))
+    def test_lines_of_json_are_those_of_the_report(self):
+        column, check_ = '{"column":"g","index":0,"state":"plain","type":"binary"}', '{"check":"GeoBbox","column":"g","message":"m","ok":false,"path":["columns"]}'
+        warning = '{"message":"w","warning":"NoGeoMetadata"}'
+        for report, status in ((f"{column}\n{column}\n{warning}\n", 0), (f"{column}\n{check_}\n{check_}\n{warning}\n", 1)):
+            with mock.patch("geoarrow_fields.__main__.check", lambda *given, **more: columns_of(report)):
+                self.assertEqual(printed(["check", "--json", "a"]), (report, "", status))
+                self.assertEqual(printed(["check", "--json", "a", "b"]), (report * 2, "", status))
+                self.assertEqual(printed(["check", "a", "b"])[0].split("\n")[-2], "NoGeoMetadata: w")
 
-    def test_json_is_that_of_the_column_with_the_file(self):
-        path = str(DATA / "stream.arrows")
-        line = check(path)[0].json
-        self.assertEqual(printed(["check", "--json", path])[0], line.replace(',"index"', f',"file":"{path}","index"') + "\n")
+    def test_lines_of_json_name_the_file(self):
+        for name in ("stream.arrows", "geo.parquet", "columns.jsonl"):
+            path = str(DATA / name)
+            with open(path, "rb") as file:
+                unnamed = check(file)
+            named = check(path)
+            for ours, others in ((named, unnamed), (named.checks, unnamed.checks), (named.warnings, unnamed.warnings)):
+                self.assertEqual([json.loads(one.json) for one in ours], [{**json.loads(one.json), "file": path} for one in others])
+            self.assertEqual(printed(["check", "--json", path])[0], "".join(f"{one.json}\n" for one in (*named, *named.checks, *named.warnings)))
+            self.assertNotIn('"file"', "".join(one.json for one in (*unnamed, *unnamed.checks, *unnamed.warnings)))
 
 
 if __name__ == "__main__":

@@ -19,6 +19,7 @@ from geoarrow_fields import files
 from .shared import BROKEN, CRS, DATA, TEXT, TOP
 
 SCRIPT = TOP / "examples/many_files.py"
+NO_JSON = "line 1, byte 1: is no JSON, or nests more than 127 levels"
 HAS_DASK = all(importlib.util.find_spec(name) for name in ("dask", "distributed"))
 
 
@@ -238,7 +239,7 @@ class Cluster(unittest.TestCase):
     def test_the_reports_are_those_of_a_loop(self):
         found = sorted(self.reports(self.has_package()), key=lambda one: one["file"])
         self.assertEqual(found, files.reports(self.paths))
-        self.assertEqual({one["error"] for one in found}, {None, "line 1 is no field"})
+        self.assertEqual({one["error"] for one in found}, {None, NO_JSON})
 
     def test_the_command_with_a_scheduler(self):
         client = self.has_package()
@@ -271,7 +272,7 @@ class Cluster(unittest.TestCase):
         threading.Thread(target=lambda: pathlib.Path(path).write_text(f"{TEXT}\n"), daemon=True).start()
         found += reports
         self.assertEqual(sorted(one["file"] for one in found), sorted([*self.paths, path]))
-        self.assertEqual({one["error"] for one in found}, {None, "line 1 is no field"})
+        self.assertEqual({one["error"] for one in found}, {None, NO_JSON})
 
     def test_where_all_workers_are_killed_the_run_ends(self):
         path, found, reports, processes = self.begun()

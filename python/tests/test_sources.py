@@ -58,6 +58,7 @@ class SeeksToo(ReadsAlone):
 
 # Each content, what is given to the library of it, and how many bytes are left out.
 LARGE = bytes(3_000_000)
+ARROW_FILES = ("Arrow file", "Arrow file with a footer of 3 MB", "Arrow file with a footer that is too large")
 CONTENTS = {
     "empty": (b"", b"", 0),
     "short": (b"{}", b"{}", 0),
@@ -78,18 +79,19 @@ CONTENTS = {
 
 
 class Files(InAFolder):
-    def judge(self, name, found, content, seeks=True):
-        """What is given for a source: of one that cannot seek, the whole, but for what stands behind a message."""
+    def judge(self, name, found, content, seeks=True, file_name=b""):
+        """What is given for a source: of one that cannot seek, the whole, but for what stands behind a message; the name of the file where it is a path."""
         whole, wanted, left_out = CONTENTS[name]
         if not seeks and left_out:
             wanted, left_out = whole, 0
-        self.assertEqual((found.content == wanted, found.left_out, found.is_schema), (True, left_out, False), content)
+        self.assertEqual((found.content == wanted, found.left_out, found.is_schema, found.name), (True, left_out, False, file_name), content)
+        self.assertEqual(found.uncounted, left_out if name.endswith(ARROW_FILES) else 0)
 
     def test_paths(self):
         for name, (whole, _, _) in CONTENTS.items():
             path = self.file(whole)
             for given in (path, str(path)):
-                self.judge(name, given_of(given), name)
+                self.judge(name, given_of(given), name, file_name=str(path).encode())
         with self.assertRaises(FileNotFoundError):
             check(TEXT)  # a str is a path
         with self.assertRaises(IsADirectoryError):
@@ -151,7 +153,7 @@ class Files(InAFolder):
                 else:
                     found = given_of(self.path)
                 writer.join()
-                self.judge(name, found, name, seeks=False)
+                self.judge(name, found, name, seeks=False, file_name=b"" if is_open else str(self.path).encode())
 
     def test_a_size_that_is_told_is_not_believed(self):
         asked = []
@@ -192,9 +194,9 @@ class Buffers(unittest.TestCase):
     def test_buffers(self):
         every_other = memoryview(b"".join(bytes([one, 0]) for one in LINES))[::2]
         for source in (LINES, bytearray(LINES), memoryview(LINES), every_other, array.array("B", LINES), (type("Bytes", (bytes,), {})(LINES))):
-            self.assertEqual(given_of(source), (LINES, 0, False))
+            self.assertEqual(given_of(source), (LINES, 0, False, b""))
         whole = arrow_file(b"footer", b"12345")
-        self.assertEqual(given_of(whole), (whole, 0, False))
+        self.assertEqual(given_of(whole), (whole, 0, False, b""))
 
     def test_a_buffer_that_is_not_contiguous(self):
         class Strided:  # (as an array of numpy; in Python itself a class may give a buffer from 3.12 on)
@@ -209,7 +211,7 @@ class Lines(unittest.TestCase):
     def test_lines(self):
         for source in ([TEXT, POINT], (TEXT.encode(), POINT), [bytearray(TEXT.encode()), memoryview(POINT.encode())], Schema(LINES.decode())):
             found = given_of(source)
-            self.assertEqual((found.content, found.is_schema), (LINES, True))
+            self.assertEqual(found, (LINES, 0, True, b""))
 
     def test_no_lines_are_no_columns(self):
         for source in ([], (), Schema([])):

@@ -9,7 +9,7 @@ import tempfile
 import unittest
 import zipfile
 
-from geoarrow_fields import library
+from geoarrow_fields import __version__, library
 
 from .shared import TOP
 
@@ -58,7 +58,7 @@ class Wheel(unittest.TestCase):
 
     def test_what_it_holds(self):
         found = self.wheel()
-        self.assertRegex(found.name, r"^geoarrow_fields-1\.0\.0-py3-none-(?!any).+\.whl$")
+        self.assertRegex(found.name, rf"^geoarrow_fields-{re.escape(__version__)}-py3-none-(?!any).+\.whl$")
         with zipfile.ZipFile(found) as held:
             self.assertEqual(held.read("geoarrow_fields/libgeoarrow_c.so"), pathlib.Path(os.path.realpath(library.path())).read_bytes())
             modules = {f"geoarrow_fields/{one.name}" for one in (TOP / "python/geoarrow_fields").iterdir() if one.suffix in (".py", ".typed")}

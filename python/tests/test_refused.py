@@ -1,0 +1,229 @@
+"""Tests of refused sources: what is said of each, in the words of the program, however it is given."""
+import copy
+import io
+import json
+import pathlib
+import pickle
+import re
+import tempfile
+import traceback
+import unittest
+
+from geoarrow_fields import InvalidColumns, RefusedSource, check, files, write_schema
+
+from .shared import BROKEN, DATA, OTHER, POINT, TEXT, TOP, printed
+
+NUMBERS = ("line", "byte", "element", "column")
+KEYS = {"code": "error", "message": "message", "place": "place", "file": "file", **{name: name for name in NUMBERS}}
+MAGICS = (b"ARROW1", b"\xff\xff\xff\xff", b"PAR1", b"PARE")
+
+
+def cases():
+    """Each case of native/refused.rows, which all languages share: the bytes, and what is said of them."""
+    content = None
+    for line in (TOP / "native/refused.rows").read_text(encoding="utf-8").split("\n"):
+        if line.startswith("{"):
+            yield content or b"", json.loads(line)
+            content = None
+        elif line and not line.startswith("#"):
+            content = bytes.fromhex(line)
+
+
+def lines_of(content):
+    """The lines of a content, which are bytes."""
+    return content[: -1 if content.endswith(b"\n") else None].split(b"\n")
+
+
+def words_of(said):
+    """What the program prints behind the name of a file."""
+    return ": ".join(said[key] for key in ("place", "message") if key in said)
+
+
+def line_of(said):
+    """The line of the library, without its line feed."""
+    return json.dumps(said, ensure_ascii=False, sort_keys=True, separators=(",", ":"))
+
+
+class InAFolder(unittest.TestCase):
+    def setUp(self):
+        there = tempfile.TemporaryDirectory()
+        self.addCleanup(there.cleanup)
+        self.path = pathlib.Path(there.name, "file")
+
+    def file(self, content):
+        self.path.write_bytes(content)
+        return self.path
+
+    def refused(self, call, *given):
+        with self.assertRaises(RefusedSource) as caught:
+            call(*given)
+        return caught.exception
+
+    def judge(self, error, said):
+        """What a refused source holds and says, here and in another process."""
+        for one in (error, pickle.loads(pickle.dumps(error)), copy.copy(error)):
+            self.assertIs(type(one), RefusedSource)
+            self.assertIsInstance(one, ValueError)
+            self.assertEqual({name: getattr(one, name) for name in KEYS}, {name: said.get(key) for name, key in KEYS.items()})
+            self.assertEqual(str(one), words_of(said))
+            self.assertEqual(one.json, line_of(said))
+            self.assertEqual(vars(one), vars(error))
+
+    def judge_each(self, content, said):
+        """What is said of a content, however it is given."""
+        for source in (content, bytearray(content), io.BytesIO(content)):
+            self.judge(self.refused(check, source), said)
+        path = self.file(content)
+        for source in (path, str(path)):
+            self.judge(self.refused(check, source), {**said, "file": str(path)})
+        with open(path, "rb") as file:
+            self.judge(self.refused(check, file), said)
+        if not content.startswith(MAGICS):
+            self.judge(self.refused(check, lines_of(content)), said)
+
+
+class Shared(InAFolder):
+    """The cases of all languages."""
+
+    def test_each_case(self):
+        keys = set()
+        for content, said in cases():
+            with self.subTest(content[:80], said=said):
+                self.judge_each(content, said)
+            keys |= said.keys()
+        self.assertTrue({"error", "message", "place", "line", "byte", "element"} <= keys, keys)
+
+    def test_the_words_of_the_command_and_of_many_files(self):
+        for content, said in cases():
+            with self.subTest(content[:80], said=said):
+                path, words = str(self.file(content)), words_of(said)
+                for options, out in ([], ""), (["--json"], f"{line_of({**said, 'file': path})}\n"):
+                    self.assertEqual(printed(["check", *options, path]), (out, f"{path}: {words}\n", 2))
+                self.assertEqual(files.report(path)["error"], words)
+
+    def test_large_arrow_files(self):
+        """Those of which what stands before the footer is not read: the byte is the same as where the library is given all, and so that of the file."""
+        moved = 0
+        for content, said in cases():
+            if not content.startswith(b"ARROW1"):
+                continue
+            for more in (1, 992, 1 << 20):
+                whole = content[:8] + bytes(more) + content[8:]
+                wanted = json.loads(self.refused(check, whole).json)
+                self.judge_each(whole, wanted)
+                moved += {**wanted, "byte": 0, "place": ""} == {**said, "byte": 0, "place": ""} and wanted["byte"] == said["byte"] + more
+        self.assertGreater(moved, 2)
+
+
+class Refused(InAFolder):
+    def said(self, error, message, place=None, **numbers):
+        return {"error": error, "message": message, **({} if place is None else {"place": place}), **numbers}
+
+    def test_lines(self):
+        for content, said in (
+                (f"{TEXT}\n{{}}\n", self.said("LineName", 'is JSON, but no field: "name" is no text', "line 2", line=2)),
+                (f"\n{TEXT}\n\n[]", self.said("LineNotObject", "is JSON, but no object", "line 4", line=4)),
+                ("{", self.said("LineNotJson", "is no JSON, or nests more than 127 levels", "line 1, byte 1", line=1, byte=1))):
+            self.judge_each(content.encode(), said)
+        self.judge(self.refused(check, [TEXT, "\ud800"]), self.said("LineNotUtf8", "is no UTF-8", "line 2, byte 1", line=2, byte=1))
+
+    def test_files(self):
+        for content, said in (
+                (b"PAR1", self.said("FooterMagic", "does not end as a Parquet file does")),
+                (b"ARROW1", self.said("IpcEnvelope", "no whole message", "byte 0", byte=0)),
+                (b"\xff\xff\xff\xff", self.said("IpcNumber", "no aligned number before the end", "byte 4 of the message", byte=4))):
+            self.judge_each(content, said)
+        stream = bytearray(write_schema([TEXT]))
+        stream[8:12] = (2**31).to_bytes(4, "little")  # the root offset, which is the first of the message
+        self.judge_each(bytes(stream), self.said("IpcOffset", "an offset that leads nowhere", "byte 0 of the message", byte=0))
+
+    def test_a_large_encrypted_file(self):
+        footer = bytes(20)
+        found = b"PARE" + bytes(100) + footer + len(footer).to_bytes(4, "little") + b"PARE"
+        self.judge_each(found, self.said("FooterEncrypted", "the footer is encrypted"))
+
+    def test_empty_sources(self):
+        said = self.said("EmptyFile", "is empty")
+        for content in (b"", b"\n", b" \t\r\n\n  "):
+            self.judge_each(content, said)
+        for source in ([""], ["", " "]):
+            self.judge(self.refused(check, source), said)
+        self.assertEqual(write_schema([]), write_schema([""]))
+
+    def test_a_report_that_is_too_large(self):
+        long = r"\u0001" * 30_000
+        inside = ",".join(['{"metadata":{"ARROW:extension:name":"geoarrow.wkb"},"name":"k","nullable":true,"type":"binary"}'] * 16)
+        struct = '{"struct":[{"name":"%s","nullable":true,"type":{"struct":[%s]}}]}' % (long, inside)
+        stream = write_schema([TEXT.replace('"utf8"', struct)])  # each of its sixteen warnings has the long name in its path
+        self.judge_each(stream, self.said("ReportTooLarge", "the report would have more than 1048576 bytes and 32 for each byte read"))
+
+    def test_the_byte_of_an_arrow_file_is_that_of_the_file(self):
+        """With each of its last bytes turned, however it is opened: the same place, which is that where all of the file is given to the library."""
+        whole = bytearray((DATA / "file.arrow").read_bytes())
+        refused = 0
+        for at in range(len(whole) - 200, len(whole)):
+            whole[at] ^= 0x81
+            said = []
+            for source in (bytes(whole), self.file(bytes(whole)), io.BytesIO(whole)):
+                try:
+                    said.append(check(source))
+                except RefusedSource as error:
+                    self.assertEqual((error.place, str(error)), (f"byte {error.byte}", f"byte {error.byte}: {error.message}"))
+                    said.append((error.code, error.byte))
+                    refused += 1
+            self.assertEqual(said[1:], said[:1] * 2, at)
+            whole[at] ^= 0x81
+        self.assertGreater(refused, 60)
+
+    def test_a_file_that_is_cut_is_refused_at_its_end(self):
+        whole = (DATA / "file.arrow").read_bytes()
+        for length in range(6, len(whole)):
+            for source in (whole[:length], self.file(whole[:length])):
+                error = self.refused(check, source)
+                self.assertEqual((error.code, error.byte), ("IpcEnvelope", max(length - 10, 0)))
+
+    def test_schemas_that_are_not_written(self):
+        for given, said in (
+                ([TEXT, "{}"], self.said("LineName", 'is JSON, but no field: "name" is no text', "line 2", line=2)),
+                (["1"], self.said("LineNotObject", "is JSON, but no object", "line 1", line=1)),
+                ([TEXT, POINT, OTHER], self.said("ColumnType", "a type that no message can hold", "column 2", column=2))):
+            self.judge(self.refused(write_schema, given), said)
+
+    def test_what_is_no_source(self):
+        with self.assertRaises(TypeError):
+            check(object())
+        with self.assertRaises(FileNotFoundError):
+            check("/nowhere/at/all")
+        with self.assertRaises(IsADirectoryError):
+            check(TOP)
+
+
+class Errors(InAFolder):
+    """What is raised."""
+
+    def test_each_key(self):
+        self.judge(RefusedSource('{"error":"E","message":"m"}'), {"error": "E", "message": "m"})
+        said = {"byte": 1, "column": 2, "element": 3, "error": "E", "file": "f\u00e9", "line": 4, "message": "m", "place": "p 9"}
+        self.judge(RefusedSource(line_of(said)), said)
+        for key in ("byte", "column", "element", "line"):
+            some = {"error": "E", key: 0, "message": "m"}
+            self.judge(RefusedSource(line_of(some)), some)
+
+    def test_the_example_of_the_readme(self):
+        (call, wanted), = re.findall(r"(?m)^    >>> (check\(b.*\))\n    Traceback .*\n    \.\.\.\n    (.*)$", (TOP / "python/README.md").read_text())
+        error = self.refused(lambda: eval(call))
+        self.assertEqual(traceback.format_exception_only(RefusedSource, error), [f"{wanted}\n"])
+
+    def test_what_is_put_on_one_crosses_processes_too(self):
+        error = RefusedSource('{"error":"E","message":"m"}')
+        error.more = 7
+        self.assertEqual(pickle.loads(pickle.dumps(error)).more, 7)
+
+    def test_invalid_columns_cross_processes(self):
+        error = InvalidColumns(check([BROKEN]))
+        other = pickle.loads(pickle.dumps(error))
+        self.assertEqual((type(other), str(other), vars(other)), (type(error), str(error), vars(error)))
+
+
+if __name__ == "__main__":
+    unittest.main()
