@@ -1,5 +1,5 @@
 //! Rows of data types, their layouts and their kinds: calls of `arrow_values` and of `geoarrow_layout`. A row's text says its
-//! data types in the notation of `notation`; `trees` says what else a text may hold.
+//! data types in the notation of `notation`.
 mod built;
 mod changes;
 mod errors;
@@ -7,7 +7,7 @@ mod found;
 mod read;
 mod summaries;
 mod tables;
-mod trees;
+mod unions;
 mod values;
 
 use arrow_values::{DataType, Field, Fields, UnionFields};
@@ -23,7 +23,7 @@ pub fn answer(it: &mut Asked<'_>) {
         "GeoArrowError" | "ArrowError" | "into_arrow_error" => errors::answer(it),
         "layout" | "coord_data_type" | "mixed_data_type" => built::answer(it),
         "spelled" | "printed" | "equal" | "UnionFields::try_new" => values::answer(it),
-        "kind" | "parse_kind" | "parse_native" => read::named(it),
+        "kind" => read::kind(it),
         "find_fault" => found::found(it),
         "alike" => read::likeness(it),
         _ => tables_or_read(it),

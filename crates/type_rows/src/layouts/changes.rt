@@ -1,9 +1,10 @@
 //! Commands that leave out members of unions and join unions.
 use crate::layouts::read::say_part;
-use crate::layouts::trees::{data_type, ids, members};
+use crate::layouts::unions::{ids, members};
 use arrow_values::{AppendFault, DataType, Field, UnionFields, UnionMode};
 use geoarrow_layout::{alike, append_members, keep_members, parse_geometry};
 use rows::asked::Asked;
+use rows::notation::data_type;
 use rows::said::Said;
 use rows::texts::halves;
 use std::mem::ManuallyDrop;

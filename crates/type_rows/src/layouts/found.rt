@@ -1,8 +1,8 @@
 //! The command that finds the fault of a data type, and where it is.
-use crate::layouts::trees::data_type;
 use arrow_values::DataType;
 use geoarrow_layout::{ExtensionName, child_field, find_fault};
 use rows::asked::Asked;
+use rows::notation::data_type;
 use rows::said::Said;
 use rows::texts::first_word;
 use std::alloc::AllocError;

@@ -1,14 +1,14 @@
 //! Commands that read data types, by calls that allocate nothing.
 use crate::layouts::summaries::say_summary;
-use crate::layouts::trees::data_type;
 use arrow_values::DataType;
 use geoarrow_layout::{
-    CoordType, Dimension, ExtensionName, LayoutFault, alike, candidates, infer_point, parse_box,
-    parse_geometry, parse_geometry_collection, parse_kind, parse_linestring, parse_mixed,
-    parse_multilinestring, parse_multipoint, parse_multipolygon, parse_native, parse_point,
-    parse_polygon, parse_wkb, parse_wkt, summarize, written_kind,
+    CoordType, Dimension, LayoutFault, alike, candidates, infer_point, parse_box, parse_geometry,
+    parse_geometry_collection, parse_linestring, parse_mixed, parse_multilinestring,
+    parse_multipoint, parse_multipolygon, parse_point, parse_polygon, parse_wkb, parse_wkt,
+    summarize, written_kind,
 };
 use rows::asked::Asked;
+use rows::notation::data_type;
 use rows::said::Said;
 use rows::texts::{first_word, halves};
 use std::fmt::Debug;
@@ -79,24 +79,13 @@ pub fn one(it: &mut Asked<'_>) {
     it.after();
 }
 
-/// Says what a call answers about a data type and a name, which is before it.
-pub fn named(it: &mut Asked<'_>) {
+/// Says the kind that the summary of a data type tells under a name, which is before it.
+pub fn kind(it: &mut Asked<'_>) {
     let (named, rest) = first_word(&mut it.said, it.text);
     let tree = data_type(&mut it.said, rest);
     it.before();
-    say_named(it, named, &tree);
+    it.said.name_or_none(&summarize(&tree).kind(named));
     it.after();
-}
-
-/// Says it; nothing where the name is none that the call takes.
-fn say_named(it: &mut Asked<'_>, named: &str, tree: &DataType) {
-    let said = &mut it.said;
-    match (it.command, ExtensionName::from_text(named)) {
-        ("kind", _) => said.name_or_none(&summarize(tree).kind(named)),
-        ("parse_kind", Some(name)) => say_part(said, &parse_kind(name, tree)),
-        (_, Some(ExtensionName::Native(kind))) => say_pair(said, parse_native(kind, tree)),
-        _ => said.fail(),
-    }
 }
 
 /// Says whether two data types are alike, asked both ways round.

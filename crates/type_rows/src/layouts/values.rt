@@ -1,5 +1,5 @@
 //! Commands that spell, compare and make values of `arrow_values`.
-use crate::layouts::trees::ids;
+use crate::layouts::unions::ids;
 use arrow_values::{Field, UnionFields};
 use rows::asked::Asked;
 use rows::notation;
