@@ -1,22 +1,23 @@
--- The line of a column of another type is read back.
-use Rattle.std.proofs.Common.{◌≡◌, [], ◌∷◌, Bool, Some, IfOk, Result, Ok, Err, String, Global, option_map, option_and_then, string_bytes, sym, ap, ◌∙◌}
+-- The line of a column is read back.
+use Rattle.std.proofs.Common.{◌≡◌, ◌≤◌, Bool, Some, IfOk, Result, Ok, Err, String, Global, option_and_then, string_bytes, sym, ap, ◌∙◌}
 use Rattle.std.proofs.lemmas.Str.{IsUtf8-string_bytes}
-use Rattle.serde_json.specs.Read.{read}
-use Rattle.arrow_values.specs.Tree.{Text, Metadata, plain, null, field_tree}
-use Rattle.arrow_columns.specs.Column.{ColumnTree}
-use Rattle.field_lines.specs.FieldOfValue.{field_of_value}
-use Rattle.field_lines.specs.Line.{value_of_field, other_value}
-use Rattle.column_files.specs.Lines.{with_other, column_of_value, column_of_line}
-use Rattle.column_files.proofs.LineReads.{value_is}
+use Rattle.serde_json.specs.Data.{depth}
+use Rattle.serde_json.specs.Read.{read, max_depth}
+use Rattle.arrow_values.specs.Tree.{Text, Metadata, FieldTree}
+use Rattle.arrow_columns.specs.Column.{ColumnTree, column_of}
+use Rattle.field_lines.specs.Line.{field_of_line, value_of_field, other_value}
+use Rattle.field_lines.specs.LineForm.{HasLineForm}
+use Rattle.field_lines.specs.ColumnOfValue.{column_of_value, column_of_line}
+use Rattle.column_files.specs.ColumnLines.{FitsLine}
+use Rattle.column_files.proofs.LineReads.{FieldIsColumn, value_is, field_column}
 
-other_column : (n t : Text) (b : Bool) (m : Metadata) → field_of_value (value_of_field (field_tree n (plain null) b m)) ≡ Some (field_tree n (plain null) b m)
-    → column_of_value (other_value n t b m) ≡ Some (with_other t (field_tree n (plain null) b m))
-other_column n t b [] law = ap (option_map (with_other t)) law
-other_column n t b (e ∷ es) law = ap (option_map (with_other t)) law
+pub other_line_read : {E : Type 0} (n t : Text) (b : Bool) (m : Metadata) (c : ColumnTree) (P : Type 0) → column_of_value (other_value n t b m) ≡ Some c
+    → (r : Result (String Global) E) → IfOk r (λ s. read (string_bytes s) ≡ Some (other_value n t b m)) → IfOk r (λ s. P → column_of_line (string_bytes s) ≡ Some c)
+other_line_read n t b m c P law (Ok s) is = λ fits. ap (option_and_then column_of_value) (value_is (string_bytes s) (IsUtf8-string_bytes s) ∙ is) ∙ law
+other_line_read n t b m c P law (Err e) is = tt
 
-pub other_line_read : {E : Type 0} (n t : Text) (b : Bool) (m : Metadata) (c : ColumnTree) (P : Type 0) → field_of_value (value_of_field (field_tree n (plain null) b m)) ≡ Some (field_tree n (plain null) b m)
-    → c ≡ with_other t (field_tree n (plain null) b m) → (r : Result (String Global) E) → IfOk r (λ s. read (string_bytes s) ≡ Some (other_value n t b m))
-    → IfOk r (λ s. P → column_of_line (string_bytes s) ≡ Some c)
-other_line_read n t b m c P law c_is (Ok s) is = λ fits.
-    ap (option_and_then column_of_value) (value_is (string_bytes s) (IsUtf8-string_bytes s) ∙ is) ∙ other_column n t b m law ∙ ap Some (sym c_is)
-other_line_read n t b m c P law c_is (Err e) is = tt
+pub field_line_read : {E : Type 0} → FieldIsColumn → (f : FieldTree) → (r : Result (String Global) E)
+    → IfOk r (λ s. HasLineForm f.tree → depth (value_of_field f) ≤ max_depth → field_of_line (string_bytes s) ≡ Some f)
+    → IfOk r (λ s. FitsLine (column_of f) → column_of_line (string_bytes s) ≡ Some (column_of f))
+field_line_read law f (Ok s) is = λ fits. field_column law (string_bytes s) f (is fits.0 fits.1)
+field_line_read law f (Err e) is = tt

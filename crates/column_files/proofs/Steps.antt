@@ -4,7 +4,8 @@ use Rattle.std.specs.List.{filter}
 use Rattle.std.proofs.lemmas.List.{map-append}
 use Rattle.std.proofs.lemmas.List.Elements.{filter-append}
 use Rattle.arrow_columns.specs.Column.{ColumnTree}
-use Rattle.column_files.specs.Lines.{LinesTo, Denote, is_blank, is_filled, column_of_line}
+use Rattle.field_lines.specs.ColumnOfValue.{column_of_line}
+use Rattle.column_files.specs.Lines.{LinesTo, Denote, is_blank, is_filled}
 
 -- lines, and those behind them
 pub lines_more : (lines more : List (List ℕ)) (text rest later : List ℕ) → LinesTo text lines rest → LinesTo rest more later → LinesTo text (lines ++ more) later

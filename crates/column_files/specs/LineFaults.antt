@@ -5,11 +5,12 @@ use Rattle.std.specs.Str.Lossy.{utf8_valid_len}
 use Rattle.serde_json.specs.Data.{Data, object, Members}
 use Rattle.serde_json.specs.Find.{get_member, as_str, as_bool, as_object}
 use Rattle.serde_json.specs.Read.{read}
-use Rattle.arrow_values.specs.Tree.{Text, FieldTree}
+use Rattle.arrow_values.specs.Tree.{Text}
 use Rattle.arrow_columns.specs.Column.{column_tree}
 use Rattle.arrow_columns.specs.declared.column.SchemaColumn.{SchemaColumn}
-use Rattle.field_lines.specs.FieldOfValue.{under, field_of_value, type_in, metadata_of_value}
-use Rattle.column_files.specs.Lines.{other_of_value, with_null, value_of_line, column_of_value, column_of_line, is_blank, FirstLine, Denote}
+use Rattle.field_lines.specs.FieldOfValue.{under, type_in, metadata_of_value}
+use Rattle.field_lines.specs.ColumnOfValue.{other_of_value, value_of_line, column_of_line}
+use Rattle.column_files.specs.Lines.{is_blank, FirstLine, Denote}
 use Rattle.column_files.specs.declared.line.LineFault.{LineFault}
 use Rattle.column_files.specs.declared.line.LineFault.TheVariants.{NotUtf8, NotJson, NotObject, Name, Nullable, Metadata, TypeUnknown}
 
@@ -25,18 +26,6 @@ HasMetadata ms = IsSome (metadata_of_value (get_member (codes "metadata") ms))
 
 abbrev pub HasType : Members → Type 0
 HasType ms = IsSome (type_in ms)
-
--- the first of the keys beside the type that the members lack, or at which stands what denotes nothing; for private clauses
-abbrev pub IsPartFault : Members → LineFault → Type 0
-IsPartFault ms Name = ¬ HasName ms
-IsPartFault ms Nullable = HasName ms × ¬ HasNullable ms
-IsPartFault ms Metadata = HasName ms × HasNullable ms
-IsPartFault ms fault = ⊥
-
--- what is read of members by the field that they denote with the type null: it, or the part at fault; for private clauses
-abbrev pub IsNullRead : Members → Result FieldTree LineFault → Type 0
-IsNullRead ms (Ok f) = field_of_value (object (with_null ms)) ≡ Some f
-IsNullRead ms (Err fault) = (field_of_value (object (with_null ms)) ≡ None) × IsPartFault (with_null ms) fault
 
 -- the first of a field's keys that the members lack, or at which stands what denotes nothing: its name, its nullability, its metadata and its type
 abbrev pub IsKeyFault : Members → LineFault → Type 0
@@ -56,13 +45,6 @@ abbrev pub IsLineFault : Text → LineFault → Type 0
 IsLineFault line (NotUtf8 at) = ¬ IsUtf8 line × (at ≡ utf8_valid_len line)
 IsLineFault line (NotJson at) = IsUtf8 line × (read line ≡ None)
 IsLineFault line fault = (d : Data) × (value_of_line line ≡ Some d) × IsValueFault d fault
-
--- what is read of a value: the column that it denotes, or why it denotes none
-abbrev pub IsValueRead : Data → Result SchemaColumn LineFault → Type 0
-IsValueRead d (Ok column) = column_of_value d ≡ Some (column_tree column)
-IsValueRead d (Err (NotUtf8 at)) = ⊥
-IsValueRead d (Err (NotJson at)) = ⊥
-IsValueRead d (Err fault) = (column_of_value d ≡ None) × IsValueFault d fault
 
 -- what is read of a line: the column that it denotes, or why it denotes none
 abbrev pub IsLineRead : Text → Result SchemaColumn LineFault → Type 0

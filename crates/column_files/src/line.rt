@@ -1,22 +1,20 @@
 //! A line of text, and the column that it denotes.
-ghost use Rattle.std.specs.Prelude.{◌≡◌, ◌≤◌, Some, None, IfOk, OnOk, IsSome, MatchBool, option_map, option_and_then, codes, string_bytes};
-ghost use Rattle.serde_json.specs.Data.{depth, object, Members};
-ghost use Rattle.serde_json.specs.Find.{get, as_str, as_object};
-ghost use Rattle.serde_json.specs.Read.{max_depth};
-ghost use Rattle.serde_json.specs.View.{view};
+ghost use Rattle.std.specs.Prelude.{◌≡◌, Some, None, IfOk, is_some, codes, string_bytes};
+ghost use Rattle.serde_json.specs.Data.{object, Members};
+ghost use Rattle.serde_json.specs.Find.{get};
+ghost use Rattle.serde_json.specs.View.{view, members_view};
 ghost use Rattle.arrow_columns.specs.Column.{column_tree};
-ghost use Rattle.field_lines.specs.FieldOfValue.{under, field_of_value};
-ghost use Rattle.field_lines.specs.Line.{field_of_line};
-ghost use Rattle.column_files.specs.Lines.{other_of_value, with_null, with_other, column_of_line};
+ghost use Rattle.field_lines.specs.FieldOfValue.{texts_in, metadata_of_value};
+ghost use Rattle.field_lines.specs.ColumnOfValue.{column_of_value, column_of_line};
 ghost use Rattle.column_files.specs.ColumnLines.{line_of_column, FitsLine};
-ghost use Rattle.column_files.specs.LineFaults.{IsLineRead, IsValueRead, IsPartFault, IsNullRead};
+ghost use Rattle.column_files.specs.LineFaults.{IsLineRead, IsLineFault, IsValueFault, IsKeyFault};
 
 use arrow_columns::{AnyType, SchemaColumn};
 use arrow_values::Field;
-use field_lines::laws::written_null_is_read;
-use field_lines::{field_line, other_line, parse_line, parse_line_with_scratch};
+use field_lines::laws::{field_is_column, written_other_is_read};
+use field_lines::{field_line, other_line, parse_column};
 use json::Scratch;
-use serde_json::Value;
+use serde_json::{Map, Value};
 use std::alloc::{AllocError, Global};
 
 /// Why a line denotes no column (docs/FORMAT.md, 2.7).
@@ -48,7 +46,6 @@ pub enum LineFault {
 /// let read = parse_column_line(alloc, b"{}", &mut Scratch::new(alloc))?;
 /// assert!(rt; matches!(read, Err(LineFault::Name)));
 /// ```
-#[tactic(auto, using(crate::proofs::LineReads::field_column))]
 pub fn parse_column_line(
     alloc: Global,
     line: &[u8],
@@ -56,9 +53,9 @@ pub fn parse_column_line(
 ) -> Result<Result<SchemaColumn, LineFault>, AllocError>
     ensures { IfOk result (IsLineRead line.now) }
 {
-    match parse_line_with_scratch(alloc, line, scratch)? {
-        Some(field) => Ok(Ok(SchemaColumn::from_field(alloc, field)?)),
-        None => parse_other_line(alloc, line),
+    match parse_column(alloc, line, scratch)? {
+        Some(column) => Ok(Ok(column)),
+        None => Ok(Err(line_fault(alloc, line)?)),
     }
 }
 
@@ -76,7 +73,8 @@ pub fn column_line(alloc: Global, column: SchemaColumn) -> Result<String, AllocE
     ensures text { IfOk result (λ s. string_bytes s ≡ line_of_column (column_tree column)) }
     ensures reads_back { IfOk result (λ s. FitsLine (column_tree column) → column_of_line (string_bytes s) ≡ Some (column_tree column)) }
 {
-    written_null_is_read();
+    field_is_column();
+    written_other_is_read();
     let SchemaColumn {
         name,
         nullable,
@@ -96,164 +94,93 @@ pub fn column_line(alloc: Global, column: SchemaColumn) -> Result<String, AllocE
     }
 }
 
-/// The column that a line denotes which denotes no field.
+/// Why a line denotes no column.
 #[cold]
-#[tactic(auto, using(crate::proofs::LineReads::no_utf8))]
-fn parse_other_line(
-    alloc: Global,
-    line: &[u8],
-) -> Result<Result<SchemaColumn, LineFault>, AllocError>
-    requires { field_of_line line.now ≡ None }
-    ensures { IfOk result (IsLineRead line.now) }
+fn line_fault(alloc: Global, line: &[u8]) -> Result<LineFault, AllocError>
+    requires { column_of_line line.now ≡ None }
+    ensures { IfOk result (IsLineFault line.now) }
 {
     match simdutf8::compat::from_utf8(line) {
-        Ok(text) => parse_other_text(alloc, text),
-        Err(error) => Ok(Err(LineFault::NotUtf8(error.valid_up_to()))),
+        Ok(text) => text_fault(alloc, text),
+        Err(error) => Ok(LineFault::NotUtf8(error.valid_up_to())),
     }
 }
 
-/// The column that a text denotes which denotes no field.
-#[tactic(auto, using(crate::proofs::LineReads::no_field, crate::proofs::LineReads::read_of_line, crate::proofs::LineReads::no_json))]
-fn parse_other_text(
-    alloc: Global,
-    text: &str,
-) -> Result<Result<SchemaColumn, LineFault>, AllocError>
-    requires { field_of_line text.now ≡ None }
-    ensures { IfOk result (IsLineRead text.now) }
+/// Why a text denotes no column.
+#[tactic(auto, using(crate::proofs::LineReads::no_column, crate::proofs::LineReads::line_fault_of))]
+fn text_fault(alloc: Global, text: &str) -> Result<LineFault, AllocError>
+    requires { column_of_line text.now ≡ None }
+    ensures { IfOk result (IsLineFault text.now) }
 {
     match Value::from_str(alloc, text) {
-        Ok(mut value) => {
-            let read = column_of(alloc, &mut value);
-            drop(value);
-            read
-        }
+        Ok(value) => Ok(value_fault(&value)),
         Err(error) => {
             if error.is_memory() {
                 return Err(AllocError);
             }
-            Ok(Err(LineFault::NotJson(error.column())))
+            Ok(LineFault::NotJson(error.column()))
         }
     }
 }
 
-/// The column that a value denotes which denotes no field. An object then has the type null.
-#[tactic(auto, using(crate::proofs::NullType::not_object, crate::proofs::NullType::no_column_of))]
-fn column_of(
-    alloc: Global,
-    value: &mut Value,
-) -> Result<Result<SchemaColumn, LineFault>, AllocError>
-    requires none { field_of_value (view value.old) ≡ None }
-    requires shallow { depth (view value.old) ≤ max_depth }
-    ensures { IfOk result (IsValueRead (view value.old)) }
+/// Why a value denotes no column.
+#[tactic(auto, using(crate::proofs::KeyFaults::no_object, crate::proofs::KeyFaults::value_fault_of))]
+fn value_fault(value: &Value) -> LineFault
+    requires { column_of_value (view value.now) ≡ None }
+    ensures { IsValueFault (view value.now) result }
 {
     if !value.is_object() {
-        return Ok(Err(LineFault::NotObject));
+        return LineFault::NotObject;
     }
-    let notation = notation_in(alloc, value)?;
-    let field = match null_field(alloc, value)? {
-        Ok(field) => field,
-        Err(fault) => return Ok(Err(fault)),
-    };
-    match notation {
-        Some(notation) => Ok(Ok(other_column(alloc, field, notation)?)),
-        None => {
-            drop(field);
-            Ok(Err(LineFault::TypeUnknown))
-        }
-    }
+    key_fault(value)
 }
 
-/// The field that an object denotes with the type null in place of its own, or which of its keys is at fault. The object then has that type.
-fn null_field(alloc: Global, value: &mut Value) -> Result<Result<Field, LineFault>, AllocError>
-    requires is_object { IsSome (as_object (view value.old)) }
-    requires shallow { depth (view value.old) ≤ max_depth }
-    ensures { IfOk result (λ read. (ms : Members) → view value.old ≡ object ms → IsNullRead ms read) }
-{
-    put_null(alloc, value)?;
-    match field_of(alloc, value)? {
-        Some(field) => Ok(Ok(field)),
-        None => Ok(Err(key_fault(value))),
-    }
-}
-
-/// The notation of the other type at the key `type`.
-fn notation_in(alloc: Global, value: &Value) -> Result<Option<String>, AllocError>
-    ensures { IfOk result (λ o. option_map string_bytes o ≡ option_and_then other_of_value (get (codes "type") (view value.now))) }
-{
-    match value.get("type") {
-        Some(data_type) => other_notation(alloc, data_type),
-        None => Ok(None),
-    }
-}
-
-/// The notation at the key `other` of an object that has no other keys.
-fn other_notation(alloc: Global, value: &Value) -> Result<Option<String>, AllocError>
-    ensures { IfOk result (λ o. option_map string_bytes o ≡ other_of_value (view value.now)) }
-{
-    if !has_one_key(value) {
-        return Ok(None);
-    }
-    match value.get("other").and_then(Value::as_str) {
-        Some(notation) => Ok(Some(String::from_str(alloc, notation)?)),
-        None => Ok(None),
-    }
-}
-
-/// Whether a value is an object with a single key.
-fn has_one_key(value: &Value) -> bool
-    ensures { MatchBool result (option_and_then as_str (get (codes "other") (view value.now)) ≡ other_of_value (view value.now)) (other_of_value (view value.now) ≡ None) }
-{
-    match value.as_object() {
-        Some(members) => members.len() == 1,
-        None => false,
-    }
-}
-
-/// Puts the type null into an object.
-fn put_null(alloc: Global, value: &mut Value) -> Result<(), AllocError>
-    requires { IsSome (as_object (view value.old)) }
-    ensures { OnOk result ((ms : Members) → view value.old ≡ object ms → view value.new ≡ object (with_null ms)) }
-{
-    if let Some(members) = value.as_object_mut() {
-        let key = String::from_str(alloc, "type")?;
-        let null = Value::from(String::from_str(alloc, "null")?);
-        drop(members.insert(key, null)?);
-    }
-    Ok(())
-}
-
-/// The field that a value denotes, by its text.
-fn field_of(alloc: Global, value: &Value) -> Result<Option<Field>, AllocError>
-    requires { depth (view value.now) ≤ max_depth }
-    ensures { IfOk result (λ o. o ≡ field_of_value (view value.now)) }
-{
-    let line = value.to_string(alloc)?;
-    parse_line(alloc, line.as_bytes())
-}
-
-/// The column of a field, with another type in place of its own.
-fn other_column(alloc: Global, field: Field, notation: String) -> Result<SchemaColumn, AllocError>
-    ensures { IfOk result (λ column. column_tree column ≡ with_other (string_bytes notation) field) }
-{
-    let (name, data_type, nullable, metadata) = field.into_parts(alloc)?;
-    drop(data_type);
-    Ok(SchemaColumn {
-        name,
-        nullable,
-        data_type: AnyType::Other(notation),
-        metadata,
-    })
-}
-
-/// Which key of a field an object lacks that denotes none, and has a type.
+/// Which of a column's keys an object lacks, or at which of them stands what denotes nothing.
 fn key_fault(value: &Value) -> LineFault
-    ensures { (ms : Members) → view value.now ≡ object ms → IsPartFault ms result }
+    requires { column_of_value (view value.now) ≡ None }
+    ensures { (ms : Members) → view value.now ≡ object ms → IsKeyFault ms result }
 {
+    field_is_column();
     if value.get("name").and_then(Value::as_str).is_none() {
         return LineFault::Name;
     }
     if value.get("nullable").and_then(Value::as_bool).is_none() {
         return LineFault::Nullable;
     }
-    LineFault::Metadata
+    if !has_metadata(value) {
+        return LineFault::Metadata;
+    }
+    LineFault::TypeUnknown
+}
+
+/// Whether an object of texts stands at the key `metadata`, or nothing.
+fn has_metadata(value: &Value) -> bool
+    ensures { result ≡ is_some (metadata_of_value (get (codes "metadata") (view value.now))) }
+{
+    match value.get("metadata") {
+        Some(metadata) => is_texts(metadata),
+        None => true,
+    }
+}
+
+/// Whether a value is an object of texts.
+fn is_texts(value: &Value) -> bool
+    ensures { result ≡ is_some (metadata_of_value (Some (view value.now))) }
+{
+    match value.as_object() {
+        Some(members) => are_texts(members),
+        None => false,
+    }
+}
+
+/// Whether the members of an object are texts.
+fn are_texts(members: &Map<String, Value>) -> bool
+    ensures { result ≡ is_some (texts_in (members_view members.now.entries)) }
+{
+    for entry in members.iter() {
+        if entry.1.as_str().is_none() {
+            return false;
+        }
+    }
+    true
 }

@@ -1,9 +1,9 @@
-use Rattle.std.proofs.Common.{◌≡◌, string_bytes, ap, ◌∙◌, rules}
-use Rattle.arrow_values.specs.Tree.{Text, plain, null, field_tree}
-use Rattle.arrow_columns.specs.Column.{ColumnTree, TypeTree, other, type_tree, column_tree}
-use Rattle.column_files.specs.Lines.{with_other}
+use Rattle.std.proofs.Common.{◌≡◌, Some, IfOk, string_bytes, sym, ap, subst, ◌∙◌, rules}
+use Rattle.arrow_values.specs.Tree.{Text}
+use Rattle.arrow_columns.specs.Column.{ColumnTree, TypeTree, other, type_tree, column_of, column_tree}
 use Rattle.column_files.specs.ColumnLines.{FitsLine}
-use Rattle.column_files.proofs.ColumnRead.{other_line_read}
+use Rattle.field_lines.specs.ColumnOfValue.{column_of_line}
+use Rattle.column_files.proofs.ColumnRead.{other_line_read, field_line_read}
 use Rattle.column_files.proofs.line.column_line.Goals as goal
 
 abbrev column : ColumnTree → Text → TypeTree → ColumnTree
@@ -17,5 +17,13 @@ returns-in-Other-clause-reads_back c =
     let name_is : string_bytes c.args.column.name ≡ n = search rules in
     let notation_is : string_bytes c.in-Other.notation ≡ t = search rules in
     let type_is : type_tree c.args.column.data_type ≡ other t = ap type_tree c.in-Other.is ∙ ap other notation_is in
-    let is : whole ≡ with_other t (field_tree n (plain null) whole.nullable whole.metadata) = ap (column whole whole.name) type_is ∙ ap (λ n. column whole n (other t)) name_is in
-    other_line_read n t whole.nullable whole.metadata whole (FitsLine whole) (c.written_null_is_read.ensures n whole.nullable whole.metadata) is c.other_line.result c.other_line.ensures.reads_back
+    let is : whole ≡ column whole n (other t) = ap (column whole whole.name) type_is ∙ ap (λ n. column whole n (other t)) name_is in
+    other_line_read n t whole.nullable whole.metadata whole (FitsLine whole) (c.written_other_is_read.ensures n t whole.nullable whole.metadata ∙ ap Some (sym is)) c.other_line.result c.other_line.ensures.reads_back
+
+pub returns-in-Data-clause-reads_back : goal.returns-in-Data-clause-reads_back
+returns-in-Data-clause-reads_back c =
+    let whole = column_tree c.args.column in
+    let f = c.from_parts-field.result in
+    let is : column_of f ≡ whole = ap column_of c.from_parts-field.ensures ∙ sym (ap (column whole whole.name) (ap type_tree c.in-Data.is)) in
+    subst (λ (x : ColumnTree). IfOk c.field_line-line.result (λ s. FitsLine x → column_of_line (string_bytes s) ≡ Some x)) is
+    (field_line_read c.field_is_column.ensures f c.field_line-line.result c.field_line-line.ensures.reads_back)
