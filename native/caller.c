@@ -1,8 +1,9 @@
 /* A caller of geoarrow.h, which native/test compiles: caller answers|faults|threads|stack|leaks < REQUESTS
  *
- * A request is a byte for the call (0 geoarrow_answer, 1 geoarrow_run, 2 geoarrow_check, 3 geoarrow_write_schema), one for the number that
- * the call takes, if it does, the length of its bytes in four bytes, the lowest first, and the bytes. A command, options and a status are
- * told by their place in the lists of the header's names below; a number past a list is sent as it is.
+ * A request is a byte for the call (0 geoarrow_answer, 1 geoarrow_run, 2 geoarrow_report, 3 geoarrow_write_schema), one for the number that
+ * the call takes, if it does, the length of the name that it takes, if it does, and that of its bytes, each in four bytes, the lowest first,
+ * and behind them the name and the bytes. A command, options and a status are told by their place in the lists of the header's names below; a
+ * number past a list is sent as it is.
  *   answers  calls with room, with each size of buffer that is too small (of long texts some), and between guards; writes for each
  *            request its status in a byte (255 for a number that the header does not name), `*len` in eight, and the text
  *   faults   over the library of bin/faults: each request for memory refused, one at a time
@@ -17,11 +18,14 @@
 #include <stdlib.h>
 #include <string.h>
 
-typedef uint8_t (*call_t)(uint8_t, const uint8_t *, size_t, uint8_t *, size_t, size_t *);
+struct request;
+typedef uint8_t (*call_t)(const struct request *, uint8_t *, size_t, size_t *);
 
-typedef struct {
+typedef struct request {
     call_t call;
     uint8_t number;
+    uint8_t *name;
+    size_t name_size;
     uint8_t *bytes;
     size_t size;
     uint8_t status; /* with room */
@@ -32,22 +36,28 @@ typedef struct {
 enum { GUARD = 64, THREADS = 8, ROUNDS = 6, LONG = 100000 };
 static const size_t UNSET = (size_t)0x5a5a5a5a;
 
-static uint8_t write_schema(uint8_t number, const uint8_t *lines, size_t lines_len, uint8_t *out, size_t out_len, size_t *len) {
-    (void)number;
-    return geoarrow_write_schema(lines, lines_len, out, out_len, len);
+static uint8_t answer_line(const request_t *of, uint8_t *out, size_t out_len, size_t *len) {
+    return geoarrow_answer(of->number, of->bytes, of->size, out, out_len, len);
 }
 
-static const call_t CALLS[] = {geoarrow_answer, geoarrow_run, geoarrow_check, write_schema};
+static uint8_t run(const request_t *of, uint8_t *out, size_t out_len, size_t *len) {
+    return geoarrow_run(of->number, of->bytes, of->size, out, out_len, len);
+}
+
+static uint8_t report(const request_t *of, uint8_t *out, size_t out_len, size_t *len) {
+    return geoarrow_report(of->number, of->name, of->name_size, of->bytes, of->size, out, out_len, len);
+}
+
+static uint8_t write_schema(const request_t *of, uint8_t *out, size_t out_len, size_t *len) {
+    return geoarrow_write_schema(of->bytes, of->size, out, out_len, len);
+}
+
+static const call_t CALLS[] = {answer_line, run, report, write_schema};
 
 /* The numbers of the header by their names, in the order of native/test. */
 static const uint8_t COMMANDS[] = {GEOARROW_READ, GEOARROW_INFER, GEOARROW_CANON, GEOARROW_COLUMNS};
 static const uint8_t OPTIONS[] = {0, GEOARROW_INFER_TYPES, GEOARROW_NOTES, GEOARROW_INFER_TYPES | GEOARROW_NOTES};
-static const uint8_t STATUSES[] = {
-    GEOARROW_DONE, GEOARROW_SHORT, GEOARROW_MEMORY, GEOARROW_UNKNOWN, GEOARROW_LIMIT, GEOARROW_NO_FIELD, GEOARROW_PARQUET, GEOARROW_BUDGET,
-    GEOARROW_COLUMN, GEOARROW_TOO_LARGE, GEOARROW_REPORT_TOO_LARGE, GEOARROW_EMPTY, GEOARROW_RULE_ENVELOPE, GEOARROW_RULE_NUMBER,
-    GEOARROW_RULE_OFFSET, GEOARROW_RULE_VTABLE, GEOARROW_RULE_SLOT, GEOARROW_RULE_TEXT, GEOARROW_RULE_UTF8, GEOARROW_RULE_VECTOR,
-    GEOARROW_RULE_MISSING, GEOARROW_RULE_MESSAGE, GEOARROW_RULE_TAG, GEOARROW_RULE_PARAMETER, GEOARROW_RULE_CHILDREN, GEOARROW_RULE_TYPE_IDS,
-    GEOARROW_RULE_DEPTH};
+static const uint8_t STATUSES[] = {GEOARROW_DONE, GEOARROW_SHORT, GEOARROW_MEMORY, GEOARROW_UNKNOWN, GEOARROW_LIMIT, GEOARROW_REFUSED};
 
 static uint8_t number_of(size_t call, uint8_t place) {
     const uint8_t *list = call < 2 ? COMMANDS : OPTIONS;
@@ -59,6 +69,11 @@ static int place_of(uint8_t status) {
         if (STATUSES[i] == status) return (int)i;
     }
     return 255;
+}
+
+/* Whether text was written to the buffer: an answer, or why there is none. */
+static int has_text(uint8_t status) {
+    return status == GEOARROW_DONE || status == GEOARROW_REFUSED;
 }
 
 static request_t *requests;
@@ -89,8 +104,8 @@ static int is_kept(const request_t *of, size_t size, uint8_t *status, size_t *le
     uint8_t *out = room + GUARD;
     memset(room, 0xa5, size + 2 * GUARD);
     *len = UNSET;
-    *status = of->call(of->number, of->bytes, of->size, out, size, len);
-    size_t written = *status == GEOARROW_DONE ? *len : 0;
+    *status = of->call(of, out, size, len);
+    size_t written = has_text(*status) ? *len : 0;
     int is_right = written <= size && (!written || !memcmp(out, of->text, written));
     for (size_t i = 0; i < size + 2 * GUARD; i++) {
         if (i < GUARD || i >= GUARD + written) is_right = is_right && room[i] == 0xa5;
@@ -105,7 +120,7 @@ static void answer(request_t *of) {
     for (;;) {
         of->text = room_for(size);
         of->len = UNSET;
-        of->status = of->call(of->number, of->bytes, of->size, of->text, size, &of->len);
+        of->status = of->call(of, of->text, size, &of->len);
         if (of->status != GEOARROW_SHORT) return;
         give(of->text);
         size = of->len;
@@ -114,7 +129,7 @@ static void answer(request_t *of) {
 
 static void answers(request_t *of) {
     uint8_t status;
-    size_t len, least = of->status == GEOARROW_DONE ? of->len : 0;
+    size_t len, least = has_text(of->status) ? of->len : 0;
     judge(is_kept(of, least + 100, &status, &len) && status == of->status && len == of->len, of, "another answer");
     judge(is_kept(of, least, &status, &len) && status == of->status && len == of->len, of, "another answer in a buffer that just has room");
     size_t step = of->size > LONG ? least : least > 600 ? least / 200 : 1;
@@ -123,18 +138,18 @@ static void answers(request_t *of) {
     }
     fputc(place_of(of->status), stdout);
     for (int i = 0; i < 8; i++) fputc((int)((of->len >> (8 * i)) & 255), stdout);
-    if (of->status == GEOARROW_DONE) fwrite(of->text, 1, of->len, stdout);
+    if (has_text(of->status)) fwrite(of->text, 1, of->len, stdout);
 }
 
 static void faults(request_t *of) {
     uint8_t status;
-    size_t len, least = of->status == GEOARROW_DONE ? of->len : 0;
+    size_t len, least = has_text(of->status) ? of->len : 0;
     uint8_t *out = room_for(least);
     for (size_t at = 1;; at++) {
         memset(out, 0xa5, least);
         len = UNSET;
         (void)take(((size_t)1 << 60) + at);
-        status = of->call(of->number, of->bytes, of->size, out, least, &len);
+        status = of->call(of, out, least, &len);
         void *was = take((size_t)1 << 61);
         if (!was) break;
         give(was);
@@ -152,7 +167,7 @@ static void *all(void *from) {
     uint8_t status;
     for (size_t i = 0; i < count; i++) {
         const request_t *of = &requests[(i + (size_t)from) % count];
-        size_t least = of->status == GEOARROW_DONE ? of->len : 0;
+        size_t least = has_text(of->status) ? of->len : 0;
         wrong += !is_kept(of, least, &status, &len) || status != of->status || len != of->len;
     }
     return (void *)wrong;
@@ -181,17 +196,28 @@ static void leaks(void) {
     forgotten = NULL;
 }
 
+static uint8_t *read_bytes(size_t size) {
+    uint8_t *bytes = room_for(size);
+    if (fread(bytes, 1, size, stdin) != size) exit(5);
+    return bytes;
+}
+
+static size_t size_in(const uint8_t *bytes) {
+    return bytes[0] | (size_t)bytes[1] << 8 | (size_t)bytes[2] << 16 | (size_t)bytes[3] << 24;
+}
+
 static void read_requests(void) {
     size_t room = 0;
-    uint8_t head[6];
-    while (fread(head, 1, 6, stdin) == 6) {
+    uint8_t head[10];
+    while (fread(head, 1, 10, stdin) == 10) {
         if (count == room) requests = realloc(requests, (room = 2 * room + 64) * sizeof *requests);
         request_t *of = &requests[count++];
         of->call = CALLS[head[0]];
         of->number = number_of(head[0], head[1]);
-        of->size = head[2] | (size_t)head[3] << 8 | (size_t)head[4] << 16 | (size_t)head[5] << 24;
-        of->bytes = room_for(of->size);
-        if (fread(of->bytes, 1, of->size, stdin) != of->size) exit(5);
+        of->name_size = size_in(head + 2);
+        of->size = size_in(head + 6);
+        of->name = read_bytes(of->name_size);
+        of->bytes = read_bytes(of->size);
     }
 }
 

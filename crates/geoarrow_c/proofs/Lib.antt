@@ -1,3 +1,3 @@
 mod Runs
 pub mod Feeds
-pub mod Gives
+pub mod Made

@@ -1,4 +1,5 @@
 pub mod Buffer
 pub mod Calls
 pub mod Refusals
+pub mod Reports
 pub mod Streams

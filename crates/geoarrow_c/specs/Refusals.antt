@@ -1,90 +1,60 @@
--- What the check of a file means by its options, what it writes, and the numbers by which it refuses bytes.
-use Rattle.std.specs.Prelude.{◌≡◌, ℕ, ◌+◌, length, None, Ok, Err, string_bytes, if◌then◌else◌}
-use Rattle.arrow_ipc.specs.declared.fault.IpcRule.{IpcRule}
-use Rattle.arrow_ipc.specs.declared.fault.IpcRule.TheVariants.{Envelope, Number, Offset, Vtable, Slot, Text, Utf8, Vector, Missing, Message, Tag, Parameter, Children, TypeIds, Depth}
+-- Why bytes are refused, as a line (docs/FORMAT.md, 2.8).
+use Rattle.std.specs.Prelude.{◌≡◌, ◌≢◌, ◌++◌, [], ◌∷◌, Bool, true, false, Option}
+use Rattle.json.specs.Print.{print}
+use Rattle.json.specs.Tree.{json_tokens}
+use Rattle.arrow_values.specs.Tree.{Text}
+use Rattle.arrow_ipc.specs.Rules.{write_code, write_message}
 use Rattle.arrow_ipc.specs.declared.fault.IpcError.{IpcError}
-use Rattle.arrow_ipc.specs.declared.fault.IpcError.TheVariants.{Broken, Budget, OutOfMemory as NoMemory}
-use Rattle.column_files.specs.declared.columns.FileFault.{FileFault}
-use Rattle.column_files.specs.declared.columns.FileFault.TheVariants.{NoField, Ipc, Parquet, Empty, ReportTooLarge, OutOfMemory}
+use Rattle.arrow_ipc.specs.declared.fault.IpcError.TheVariants as messages
+use Rattle.arrow_ipc.specs.declared.write.WriteError.{WriteError}
+use Rattle.arrow_ipc.specs.declared.write.WriteError.TheVariants as writes
 use Rattle.parquet_columns.specs.declared.error.SchemaError.{SchemaError}
-use Rattle.parquet_columns.specs.declared.error.SchemaError.TheVariants.{Budget as OverBudget, OutOfMemory as NoRoom}
-use Rattle.column_reports.specs.FileReport.{Reports}
-use Rattle.column_reports.specs.declared.report.Options.{Options}
-use Rattle.column_reports.specs.declared.file.Report.{Report as FileReport}
+use Rattle.parquet_columns.specs.declared.error.SchemaError.TheVariants as schemas
+use Rattle.parquet_footer.specs.declared.fault.FooterError.TheVariants as footers
+use Rattle.column_files.specs.Refusals.{fault_code, fault_message, fault_place, write_place}
+use Rattle.column_files.specs.declared.columns.FileFault.{FileFault}
+use Rattle.column_files.specs.declared.columns.FileFault.TheVariants as files
+use Rattle.column_files.specs.declared.form.Form.{Form}
+use Rattle.column_files.specs.declared.refusal.Fault.{Fault}
+use Rattle.column_reports.specs.Faults.{fault_report}
+use Rattle.column_reports.specs.FileReport.{line_feed}
 use Rattle.geoarrow_fields.specs.Lines.{Bytes}
 
--- the number of the options: 1 where a type is inferred without an extension name, and 2 for the notes
-abbrev pub options_number : Options → ℕ
-options_number o = (if o.infer then 1 else 0) + (if o.notes then 2 else 0)
+-- whether memory is all that lacks
+abbrev pub lacks_memory_for_message : IpcError → Bool
+lacks_memory_for_message messages.OutOfMemory = true
+lacks_memory_for_message error = false
 
--- the number of a rule of Arrow's IPC format
-abbrev pub rule_number : IpcRule → ℕ
-rule_number Envelope = 16
-rule_number Number = 17
-rule_number Offset = 18
-rule_number Vtable = 19
-rule_number Slot = 20
-rule_number Text = 21
-rule_number Utf8 = 22
-rule_number Vector = 23
-rule_number Missing = 24
-rule_number Message = 25
-rule_number Tag = 26
-rule_number Parameter = 27
-rule_number Children = 28
-rule_number TypeIds = 29
-rule_number Depth = 30
+abbrev pub lacks_memory_for_columns : SchemaError → Bool
+lacks_memory_for_columns schemas.OutOfMemory = true
+lacks_memory_for_columns (schemas.Footer footers.Memory) = true
+lacks_memory_for_columns (schemas.Ipc error) = lacks_memory_for_message error
+lacks_memory_for_columns error = false
 
--- the number of why a schema is not read
-abbrev pub ipc_number : IpcError → ℕ
-ipc_number NoMemory = 2
-ipc_number (Budget at) = 7
-ipc_number (Broken fault) = rule_number fault.rule
+abbrev pub lacks_memory : FileFault → Bool
+lacks_memory files.OutOfMemory = true
+lacks_memory (files.Ipc error) = lacks_memory_for_message error
+lacks_memory (files.Parquet error) = lacks_memory_for_columns error
+lacks_memory fault = false
 
--- the number of why a Parquet file is not read
-abbrev pub parquet_number : SchemaError → ℕ
-parquet_number NoRoom = 2
-parquet_number OverBudget = 10
-parquet_number _ = 6
+-- the line of a fault, with the name of the file, if there is one, and with its line feed
+abbrev pub line_of : Option Text → Fault → Bytes
+line_of file fault = print (json_tokens (fault_report file fault)) ++ (line_feed ∷ [])
 
--- the number of why a file is not read
-abbrev pub fault_number : FileFault → ℕ
-fault_number OutOfMemory = 2
-fault_number (NoField before why) = 5
-fault_number (Parquet error) = parquet_number error
-fault_number (Ipc error) = ipc_number error
-fault_number ReportTooLarge = 10
-fault_number Empty = 11
+-- the line says why a file of that name and format is refused, not for lack of memory
+pub record IsLineOfFile (file : Option Text) (form : Form) (fault : FileFault) (line : Bytes) : Type 0 where
+  pub said : Fault
+  pub code : said.code.now ≡ fault_code fault
+  pub message : said.message.now ≡ fault_message fault
+  pub place : said.place ≡ fault_place form fault
+  pub has_memory : lacks_memory fault ≡ false
+  pub is : line ≡ line_of file said
 
--- where a schema is not read: at which byte of its message, or of the Arrow file
-abbrev pub ipc_place : IpcError → ℕ
-ipc_place NoMemory = 0
-ipc_place (Budget at) = at
-ipc_place (Broken fault) = fault.at
-
--- where a file is not read: behind how many lines, or at which byte
-abbrev pub fault_place : FileFault → ℕ
-fault_place OutOfMemory = 0
-fault_place (NoField before why) = before
-fault_place (Parquet error) = 0
-fault_place (Ipc error) = ipc_place error
-fault_place ReportTooLarge = 0
-fault_place Empty = 0
-
--- the file has a report under the options of the number, whose lines have that length, and this is done with them
-pub record ReportGives (number : ℕ) (bytes : Bytes) (len : ℕ) (Done : Bytes → Type 0) : Type 0 where
-  pub options : Options
-  pub report : FileReport
-  pub is : number ≡ options_number options
-  pub reports : Reports None options bytes (Ok report)
-  pub len_is : length (string_bytes report.lines) ≡ len
-  pub done : Done (string_bytes report.lines)
-
--- the file has no report under the options of the number, for the reason and at the place of these numbers
-pub record IsRefused (number : ℕ) (bytes : Bytes) (status place : ℕ) : Type 0 where
-  pub options : Options
-  pub fault : FileFault
-  pub is : number ≡ options_number options
-  pub reports : Reports None options bytes (Err fault)
-  pub status_is : status ≡ fault_number fault
-  pub place_is : place ≡ fault_place fault
+-- the line says why a schema is not written, not for lack of memory
+pub record IsLineOfSchema (file : Option Text) (error : WriteError) (line : Bytes) : Type 0 where
+  pub said : Fault
+  pub code : said.code.now ≡ write_code error
+  pub message : said.message.now ≡ write_message error
+  pub place : said.place ≡ write_place error
+  pub has_memory : error ≢ writes.OutOfMemory
+  pub is : line ≡ line_of file said

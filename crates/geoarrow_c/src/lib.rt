@@ -4,13 +4,13 @@
 
 mod answers;
 mod buffer;
-mod check;
 mod limits;
 mod refusal;
+mod report;
 mod schema;
 mod status;
 
 pub use answers::{geoarrow_answer, geoarrow_run};
-pub use check::geoarrow_check;
+pub use report::geoarrow_report;
 pub use schema::geoarrow_write_schema;
 pub use status::geoarrow_version;

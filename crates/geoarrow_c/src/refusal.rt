@@ -1,62 +1,117 @@
-//! The numbers by which bytes are refused.
-ghost use Rattle.std.specs.Prelude.{◌≡◌, ◌≢◌, ◌⊎◌, ◌≤◌};
-ghost use Rattle.geoarrow_c.specs.Refusals.{rule_number, ipc_number, fault_number, ipc_place, fault_place};
+//! Why bytes are refused, as a line in the caller's buffer.
+ghost use Rattle.std.specs.Prelude.{◌≡◌, ◌⊎◌, None, IfOk, string_bytes};
+ghost use Rattle.arrow_values.specs.Texts.{text_of};
+ghost use Rattle.geoarrow_c.specs.Buffer.{Fills, Lacks, Makes};
+ghost use Rattle.geoarrow_c.specs.Refusals.{line_of, lacks_memory, lacks_memory_for_message};
+ghost use Rattle.geoarrow_c.specs.Refusals.{lacks_memory_for_columns, IsLineOfFile, IsLineOfSchema};
 
-use crate::status::MEMORY;
-use arrow_ipc::{IpcError, IpcRule};
-use column_files::FileFault;
+use crate::buffer::fill;
+use crate::status::{DONE, MEMORY, REFUSED, SHORT};
+use arrow_ipc::{IpcError, WriteError};
+use column_files::{Fault, FileFault, Form, fault_of, write_fault};
+use column_reports::fault_line;
 use parquet_columns::SchemaError;
+use parquet_footer::FooterError;
+use std::alloc::{AllocError, Global};
 
-/// The number of a rule.
-fn rule_number(rule: IpcRule) -> u8
-    ensures { (result ≡ rule_number rule) × (5 ≤ result) }
+/// Whether memory is all that lacks for a message to be read.
+fn lacks_memory_for_message(error: IpcError) -> bool
+    ensures { result ≡ lacks_memory_for_message error }
 {
-    match rule {
-        IpcRule::Envelope => 16,
-        IpcRule::Number => 17,
-        IpcRule::Offset => 18,
-        IpcRule::Vtable => 19,
-        IpcRule::Slot => 20,
-        IpcRule::Text => 21,
-        IpcRule::Utf8 => 22,
-        IpcRule::Vector => 23,
-        IpcRule::Missing => 24,
-        IpcRule::Message => 25,
-        IpcRule::Tag => 26,
-        IpcRule::Parameter => 27,
-        IpcRule::Children => 28,
-        IpcRule::TypeIds => 29,
-        IpcRule::Depth => 30,
+    match error {
+        IpcError::OutOfMemory => true,
+        IpcError::Broken(_) | IpcError::Budget(_) => false,
     }
 }
 
-/// The number of why a file is not read, and the place.
-pub(crate) fn refusal_of(fault: &FileFault) -> (u8, usize)
-    ensures number { result.0 ≡ fault_number fault.now }
-    ensures place { result.1 ≡ fault_place fault.now }
-    ensures status { (result.0 ≡ 2) ⊎ (5 ≤ result.0) }
+/// Whether memory is all that lacks for the columns of a Parquet file to be read.
+fn lacks_memory_for_columns(error: SchemaError) -> bool
+    ensures { result ≡ lacks_memory_for_columns error }
+{
+    match error {
+        SchemaError::OutOfMemory | SchemaError::Footer(FooterError::Memory) => true,
+        SchemaError::Ipc(error) => lacks_memory_for_message(error),
+        SchemaError::Footer(
+            FooterError::NotParquet | FooterError::Encrypted | FooterError::Invalid(_, _),
+        )
+        | SchemaError::Cut
+        | SchemaError::Elements(_)
+        | SchemaError::Encoding(_)
+        | SchemaError::Names
+        | SchemaError::Budget => false,
+    }
+}
+
+/// Whether memory is all that lacks for a file to be reported.
+fn lacks_memory(fault: FileFault) -> bool
+    ensures { result ≡ lacks_memory fault }
 {
     match fault {
-        FileFault::OutOfMemory | FileFault::Ipc(IpcError::OutOfMemory) => (MEMORY, 0),
-        FileFault::NoField(before, _) => (5, *before),
-        FileFault::Parquet(SchemaError::OutOfMemory) => (MEMORY, 0),
-        FileFault::ReportTooLarge | FileFault::Parquet(SchemaError::Budget) => (10, 0),
-        FileFault::Parquet(_) => (6, 0),
-        FileFault::Empty => (11, 0),
-        FileFault::Ipc(IpcError::Budget(at)) => (7, *at),
-        FileFault::Ipc(IpcError::Broken(fault)) => (rule_number(fault.rule), fault.at),
+        FileFault::OutOfMemory => true,
+        FileFault::Ipc(error) => lacks_memory_for_message(error),
+        FileFault::Parquet(error) => lacks_memory_for_columns(error),
+        FileFault::NoField(_, _) | FileFault::Empty | FileFault::ReportTooLarge => false,
     }
 }
 
-/// Writes the place of a refusal, which is its second part, to `len`; when out of memory `len` is unchanged. Returns the number, its first part.
-pub(crate) fn refuse(refusal: (u8, usize), len: &mut usize) -> u8
-    ensures number { result ≡ refusal.0 }
-    ensures place { refusal.0 ≢ 2 → len.new ≡ refusal.1 }
-    ensures kept { refusal.0 ≡ 2 → len.new ≡ len.old }
+/// The line of a fault, with its line feed.
+fn line_of(alloc: Global, file: Option<&str>, fault: &Fault) -> Result<String, AllocError>
+    ensures { IfOk result (λ line. string_bytes line ≡ line_of (text_of file.entry) fault.now) }
 {
-    let (number, place) = refusal;
-    if number != MEMORY {
-        *len = place;
+    let mut line = fault_line(alloc, file, fault)?;
+    line.push_str("\n")?;
+    Ok(line)
+}
+
+/// Writes the line of a fault to the front of a buffer, if it has room, and its length in either
+/// case. Returns the status. Out of memory it writes nothing.
+fn refuse(alloc: Global, file: Option<&str>, fault: &Fault, out: &mut [u8], len: &mut usize) -> u8
+    ensures refused { result ≡ 5 → Makes (λ line. line ≡ line_of (text_of file.entry) fault.now) len.new (λ line. Fills line out.old out.new) }
+    ensures short { result ≡ 1 → Makes (λ line. line ≡ line_of (text_of file.entry) fault.now) len.new (λ line. Lacks line out.old out.new) }
+    ensures unchanged { result ≡ 2 → (out.new ≡ out.old) × (len.new ≡ len.old) }
+    ensures status { (result ≡ 1) ⊎ (result ≡ 2) ⊎ (result ≡ 5) }
+{
+    let Ok(line) = line_of(alloc, file, fault) else {
+        return MEMORY;
+    };
+    if fill(line.as_bytes(), out, len) == DONE {
+        REFUSED
+    } else {
+        SHORT
     }
-    number
+}
+
+/// Writes the line that says why a file is refused, as `refuse` does.
+pub(crate) fn refuse_file(
+    alloc: Global,
+    file: Option<&str>,
+    form: Form,
+    fault: FileFault,
+    out: &mut [u8],
+    len: &mut usize,
+) -> u8
+    ensures refused { result ≡ 5 → Makes (IsLineOfFile (text_of file.entry) form fault) len.new (λ line. Fills line out.old out.new) }
+    ensures short { result ≡ 1 → Makes (IsLineOfFile (text_of file.entry) form fault) len.new (λ line. Lacks line out.old out.new) }
+    ensures unchanged { result ≡ 2 → (out.new ≡ out.old) × (len.new ≡ len.old) }
+    ensures status { (result ≡ 1) ⊎ (result ≡ 2) ⊎ (result ≡ 5) }
+{
+    if lacks_memory(fault) {
+        return MEMORY;
+    }
+    refuse(alloc, file, &fault_of(form, fault), out, len)
+}
+
+/// Writes the line that says why a schema is not written, as `refuse` does.
+pub(crate) fn refuse_schema(alloc: Global, error: WriteError, out: &mut [u8], len: &mut usize) -> u8
+    ensures refused { result ≡ 5 → Makes (IsLineOfSchema None error) len.new (λ line. Fills line out.old out.new) }
+    ensures short { result ≡ 1 → Makes (IsLineOfSchema None error) len.new (λ line. Lacks line out.old out.new) }
+    ensures unchanged { result ≡ 2 → (out.new ≡ out.old) × (len.new ≡ len.old) }
+    ensures status { (result ≡ 1) ⊎ (result ≡ 2) ⊎ (result ≡ 5) }
+{
+    match error {
+        WriteError::OutOfMemory => MEMORY,
+        WriteError::Column(_) | WriteError::TooLarge => {
+            refuse(alloc, None, &write_fault(error), out, len)
+        }
+    }
 }
