@@ -111,7 +111,7 @@ def answer(command: Command, line: bytes) -> str:
 
 
 def report(name: bytes, given: bytes, infer: bool, notes: bool) -> Tuple[int, str]:
-    """The status of a check of bytes, DONE or REFUSED, with the report or the line that says why. The name is that of the file, in UTF-8, if it has any bytes."""
+    """The status of a check of bytes, DONE or REFUSED, with the report, or the line that says why. The name is that of the file, in UTF-8; an empty one is none."""
     options = (INFER_TYPES if infer else 0) | (NOTES if notes else 0)
     status, text = _called("geoarrow_report", [options], [name, given], _first_room(given))
     return status, str(text, "utf-8")

@@ -8,8 +8,9 @@ from .columns import Column
 class RefusedSource(ValueError):
     """A source that is not read, or a schema that is not written, as the line of the library says it (docs/FORMAT.md, 2.8): `json`.
 
-    `code` says why, and `message` what is wrong. `place` says where, in words, as `byte 4 of the footer`; it is None where the source is at fault as a whole. Of its
-    numbers, `line`, `byte`, `element` and `column`, those that it has not are None. `file` is the name of the file, where the source is a path.
+    `code` says why, and `message` what is wrong. `place` says where, in words, as `byte 4 of the footer`; it is None where the source is at fault as a
+    whole. Of its numbers, `line`, `byte`, `element` and `column`, those that it does not have are None. `file` is the name of the file, where the source
+    is a path.
     """
 
     def __init__(self, line: str) -> None:

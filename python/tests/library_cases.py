@@ -53,7 +53,8 @@ class Cases(unittest.TestCase):
             self.assertEqual(library.report(b"", given, False, False), (library.DONE, "x" * 7))
 
     def test_room_of_each_size(self):
-        """No call is told of more room than there is, and no more than two are made: a text, or the line of what is refused, that is too long is asked for again."""
+        """No call is told of more room than there is, and no more than two are made: a text for which there is no room is asked for again, also the line of what
+        is refused."""
         real = library._call
 
         def watched(name, numbers, texts):

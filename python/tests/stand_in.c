@@ -73,7 +73,8 @@ static uint8_t refused(const words *said, const uint8_t *name, size_t name_len, 
     return status;
 }
 
-static uint8_t answered(uint8_t options, const uint8_t *name, size_t name_len, const uint8_t *given, size_t given_len, uint8_t *out, size_t out_len, size_t *len) {
+static uint8_t answered(
+    uint8_t options, const uint8_t *name, size_t name_len, const uint8_t *given, size_t given_len, uint8_t *out, size_t out_len, size_t *len) {
     words said;
     read_words(given, given_len, &said);
     if (said.is_there['s']) return (uint8_t)said.number['s'];

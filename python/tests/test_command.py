@@ -161,7 +161,8 @@ class Command(unittest.TestCase):
 
 class Printed(unittest.TestCase):
     def test_lines_of_json_are_those_of_the_report(self):
-        column, check_ = '{"column":"g","index":0,"state":"plain","type":"binary"}', '{"check":"GeoBbox","column":"g","message":"m","ok":false,"path":["columns"]}'
+        column = '{"column":"g","index":0,"state":"plain","type":"binary"}'
+        check_ = '{"check":"GeoBbox","column":"g","message":"m","ok":false,"path":["columns"]}'
         warning = '{"message":"w","warning":"NoGeoMetadata"}'
         for report, status in ((f"{column}\n{column}\n{warning}\n", 0), (f"{column}\n{check_}\n{check_}\n{warning}\n", 1)):
             with mock.patch("geoarrow_fields.__main__.check", lambda *given, **more: columns_of(report)):

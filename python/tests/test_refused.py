@@ -68,6 +68,7 @@ class InAFolder(unittest.TestCase):
             self.assertEqual(str(one), words_of(said))
             self.assertEqual(one.json, line_of(said))
             self.assertEqual(vars(one), vars(error))
+            self.assertEqual(vars(RefusedSource(*one.args)), vars(one))
 
     def judge_each(self, content, said):
         """What is said of a content, however it is given."""
