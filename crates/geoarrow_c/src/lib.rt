@@ -4,7 +4,6 @@
 
 mod answers;
 mod buffer;
-mod limits;
 mod refusal;
 mod report;
 mod schema;
