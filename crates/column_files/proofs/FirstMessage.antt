@@ -11,7 +11,7 @@ use Rattle.arrow_ipc.specs.Wire.{integer_at}
 use Rattle.column_files.specs.Forms.{IsForm}
 use Rattle.column_files.specs.Files.{size_in, IsSchemaRead, IsFileRead}
 use Rattle.column_files.specs.Reading.{GivesSchema, IsHead, ReadAs}
-use Rattle.column_files.specs.Sources.{GivesUpTo}
+use Rattle.line_reader.specs.Sources.{GivesUpTo}
 use Rattle.column_files.specs.declared.form.Form.{Form}
 use Rattle.column_files.specs.declared.form.Form.TheVariants.{ArrowFile, ArrowStream, Parquet, Lines}
 

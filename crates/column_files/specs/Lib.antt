@@ -3,7 +3,6 @@ pub mod Lines
 pub mod LineFaults
 pub mod ColumnLines
 pub mod Files
-pub mod Sources
-pub mod ReadErrors
+pub mod Faults
 pub mod Reading
 pub mod Refusals

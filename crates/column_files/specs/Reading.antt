@@ -1,18 +1,18 @@
 -- What is read of a source: its lines one after another, and the bytes that hold its schema.
-use Rattle.std.specs.Prelude.{◌≡◌, ◌≢◌, ℕ, ◌+◌, ◌-◌, ◌^◌, ◌<◌, ◌≤◌, ◌⊎◌, ◌↔◌, min, Bool, true, false, List, [], ◌∷◌, ◌++◌, length, take, drop, Option, Some, None, IfSome, Result, Ok, Err, ⊤}
+use Rattle.std.specs.Prelude.{◌≡◌, ◌≢◌, ℕ, ◌+◌, ◌≤◌, ◌⊎◌, ◌↔◌, min, Bool, true, false, List, [], ◌∷◌, ◌++◌, length, take, drop, Option, Some, None, IfSome, Result, Ok, Err, ⊤}
 use Rattle.std.specs.List.{All}
-use Rattle.std.specs.Io.KnownBytes.{IsAtEnd, prepend_known}
+use Rattle.std.specs.Io.KnownBytes.{Consumes, IsAtEnd, prepend_known}
 use Rattle.std.specs.IoError.{error_kind}
 use Rattle.std.specs.declared.io.ErrorKind.TheVariants.{Interrupted}
-use Rattle.memchr.specs.Find.{is_byte, Passes, Nowhere, IsFirstByte}
+use Rattle.line_reader.specs.Lines.{max_line_bytes, max_count, held, passed as passed_lines, HasNoFeed, IsLong}
+use Rattle.line_reader.specs.Sources.{GivesUpTo}
 use Rattle.std.specs.declared.vec.Vec.{Vec}
 use Rattle.std.specs.declared.alloc.Global.{Global}
 use Rattle.arrow_columns.specs.Column.{ColumnTree, column_tree}
 use Rattle.arrow_columns.specs.declared.column.SchemaColumn.{SchemaColumn}
-use Rattle.column_files.specs.Lines.{line_feed, LinesTo, Denote}
+use Rattle.column_files.specs.Lines.{LinesTo, Denote}
 use Rattle.column_files.specs.LineFaults.{DenotesNone}
 use Rattle.column_files.specs.Files.{IsFileRead, size_in, HasFooter}
-use Rattle.column_files.specs.Sources.{GivesUpTo, GivesAll}
 use Rattle.column_files.specs.declared.form.Form.{Form}
 use Rattle.column_files.specs.declared.form.Form.TheVariants.{ArrowFile, ArrowStream, Parquet}
 use Rattle.column_files.specs.declared.columns.FileFault.{FileFault}
@@ -23,28 +23,13 @@ use Rattle.column_files.specs.declared.reading.LineColumns.{LineColumns}
 
 -- ---- lines
 
--- at most so many bytes stand in a line, its line feed not among them
-abbrev pub max_line_bytes : ℕ
-max_line_bytes = 1048576
-
--- no byte of it is a line feed
-abbrev pub HasNoFeed : List ℕ → Type 0
-HasNoFeed bytes = IsFirstByte (is_byte line_feed) bytes None
-
--- the first line of the text has more bytes than a line may have: so many come before any line feed
-abbrev pub IsLong : List ℕ → Type 0
-IsLong text = (max_line_bytes < length text) × Nowhere (Passes (is_byte line_feed) text) 0 (max_line_bytes + 1)
-
 -- what is read of the source and not yet answered
 abbrev pub ahead : {R : Type 0} → LineColumns R → List ℕ
-ahead r = drop r.start (take r.end r.buffer.items)
+ahead r = held r.lines
 
 -- how many lines are passed, blank ones too, which stops at the greatest `usize`; and whether one of them denotes a column
-abbrev pub max_lines : ℕ
-max_lines = 2 ^ 64 - 1
-
 abbrev pub passed : {R : Type 0} → LineColumns R → ℕ
-passed r = r.count
+passed r = passed_lines r.lines
 
 abbrev pub has_column : {R : Type 0} → LineColumns R → Bool
 has_column r = r.has_column
@@ -67,7 +52,7 @@ answered r = []
 -- what a call passes that leaves the known text old as new, after n lines and then after m: lines, none of them too long, that denote the columns answered
 abbrev pub PassesLines : ℕ → ℕ → Option (List ℕ) → Option (List ℕ) → List ColumnTree → Type 0
 PassesLines n m old new cs =
-    (lines : List (List ℕ)) × (m ≡ min (n + length lines) max_lines) × All (λ line. length line ≤ max_line_bytes) lines × Denote lines cs
+    (lines : List (List ℕ)) × (m ≡ min (n + length lines) max_count) × All (λ line. length line ≤ max_line_bytes) lines × Denote lines cs
     × Goes (λ text rest. LinesTo text lines rest) old new
 
 -- what a call answers behind m lines, with the known text left, and of that `held` at hand: the last line's column; that no text is left, where a line had a
@@ -87,22 +72,11 @@ abbrev pub is_column : Result (Option SchemaColumn) ReadFault → Bool
 is_column (Ok (Some column)) = true
 is_column r = false
 
--- ---- parts of these, for private clauses
-
--- the bytes at hand have the next line whole, one of so many bytes, which a line feed ends, or the end of the source; or there is none
-abbrev pub HasLine : List ℕ → Option (List ℕ) → Option ℕ → Type 0
-HasLine held remaining None = (held ≡ []) × IsAtEnd remaining
-HasLine held remaining (Some len) = (len ≤ max_line_bytes) × (IsFirstByte (is_byte line_feed) held (Some len)
-    ⊎ ((len ≡ length held) × (0 < len) × IsFirstByte (is_byte line_feed) held None × IsAtEnd remaining))
-
--- why the next line is not held after n lines: the bytes at hand have more than a line may have; or a read failed before its end; or out of memory
-abbrev pub IsUnfinished : ℕ → List ℕ → ReadFault → Type 0
-IsUnfinished n held (LongLine k) = (k ≡ n) × IsLong held
-IsUnfinished n held (Input error) = HasNoFeed held × (error_kind error ≢ Interrupted)
-IsUnfinished n held (File OutOfMemory) = ⊤
-IsUnfinished n held (File fault) = ⊥
-
 -- ---- schemas
+
+-- the source gives all that it has, which is these bytes
+abbrev pub GivesAll : Option (List ℕ) → Option (List ℕ) → List ℕ → Type 0
+GivesAll old new bytes = Consumes old new bytes × IsAtEnd new
 
 -- the source gives, behind the first bytes, those that belong to its schema: of a stream the first message, whose size stands behind its marker; else all
 abbrev pub GivesSchema : Form → List ℕ → Option (List ℕ) → Option (List ℕ) → List ℕ → Type 0

@@ -1,6 +1,7 @@
 //! Why the columns of a source are not read.
 
 use crate::columns::FileFault;
+use line_reader::LineError;
 use std::alloc::AllocError;
 use std::io;
 
@@ -46,5 +47,20 @@ impl From<AllocError> for ReadFault {
 
     fn from(_refused: AllocError) -> ReadFault {
         ReadFault::File(FileFault::OutOfMemory)
+    }
+}
+
+impl From<LineError> for ReadFault {
+    ghost use Rattle.std.specs.Prelude.{◌≡◌};
+    ghost use Rattle.column_files.specs.Faults.{read_fault};
+
+    ghost from_gives = { λ error fault. fault ≡ read_fault error };
+
+    fn from(error: LineError) -> ReadFault {
+        match error {
+            LineError::Input(error) => ReadFault::Input(error),
+            LineError::LongLine(before) => ReadFault::LongLine(before),
+            LineError::OutOfMemory => ReadFault::File(FileFault::OutOfMemory),
+        }
     }
 }

@@ -11,14 +11,14 @@ mod opening;
 mod reading;
 mod refusal;
 mod schema_bytes;
-mod source;
 
 pub use columns::FileFault;
 pub use fault::ReadFault;
 pub use form::{Form, form_of};
 pub use line::{LineFault, column_line, parse_column_line};
+pub use line_reader::MAX_LINE_BYTES;
 pub use lines::columns_of_lines;
 pub use opening::{File, open, open_end};
-pub use reading::{LineColumns, MAX_LINE_BYTES};
+pub use reading::LineColumns;
 pub use refusal::{Fault, Place, fault_of, long_line, write_fault};
 pub use schema_bytes::{FileEnd, read_head, read_schema_bytes, read_schema_end};

@@ -1,28 +1,20 @@
 //! The columns of the lines of a source, one after another.
-ghost use Rattle.std.specs.Prelude.{◌≡◌, ◌+◌, ◌≤◌, ◌||◌, false, min, length, drop, take, []};
-ghost use Rattle.std.specs.Prelude.{IfOk, IfSome, OnErr, IfErr};
-ghost use Rattle.std.specs.Io.KnownBytes.{Keeps, prepend_known};
-ghost use Rattle.memchr.specs.Find.{is_byte, Passes, Nowhere, IsFirstByte};
-ghost use Rattle.column_files.specs.Lines.{line_feed, is_blank};
-ghost use Rattle.column_files.specs.Sources.{ReadsBehind};
-ghost use Rattle.column_files.specs.ReadErrors.{IsReadError, IsNoSignal};
-ghost use Rattle.column_files.specs.Reading.{ahead, max_lines, passed, has_column, text_left};
+ghost use Rattle.std.specs.Prelude.{◌≡◌, ◌||◌, false, take, [], Err, IfOk, IfSome, IfErr};
+ghost use Rattle.std.specs.Io.KnownBytes.{prepend_known};
+ghost use Rattle.line_reader.specs.Lines.{HasLine};
+ghost use Rattle.column_files.specs.Lines.{is_blank};
+ghost use Rattle.column_files.specs.Reading.{ahead, passed, has_column, text_left};
 ghost use Rattle.column_files.specs.Reading.{PassesLines, answered, is_column, IsNext};
-ghost use Rattle.column_files.specs.Reading.{HasLine, IsUnfinished};
 
 use crate::columns::FileFault;
 use crate::fault::ReadFault;
 use crate::line::parse_column_line;
 use crate::lines::is_blank;
-use crate::source::{CHUNK_BYTES, move_front, part_of, read_behind, rest_of};
 use arrow_columns::SchemaColumn;
 use json::Scratch;
-use memchr::memchr;
+use line_reader::LineBuffer;
 use std::alloc::{AllocError, Global};
 use std::io::Read;
-
-/// The greatest number of bytes in a line of a source, its line feed not among them.
-pub const MAX_LINE_BYTES: usize = 1_048_576;
 
 /// The columns that the lines of a source denote (docs/FORMAT.md, 2.7), one after another. What is held in memory does not grow with the
 /// number of lines: it is a line that is not whole yet, and the 65,536 bytes that are read at a time, in a buffer of at most twice their size.
@@ -38,12 +30,8 @@ pub const MAX_LINE_BYTES: usize = 1_048_576;
 pub struct LineColumns<R> {
     alloc: Global,
     source: R,
-    /// What is read of the source stands up to `end`; up to `start` it is answered.
-    buffer: Vec<u8>,
-    start: usize,
-    end: usize,
+    lines: LineBuffer,
     scratch: Scratch,
-    count: usize,
     has_column: bool,
 }
 
@@ -57,11 +45,8 @@ impl<R: Read> LineColumns<R> {
         LineColumns {
             alloc,
             source,
-            end: head.len(),
-            buffer: head,
-            start: 0,
+            lines: LineBuffer::new(head),
             scratch: Scratch::new(alloc),
-            count: 0,
             has_column: false,
         }
     }
@@ -70,7 +55,7 @@ impl<R: Read> LineColumns<R> {
     ///
     /// Errs with `Empty` where no text is left, and no line had a column (docs/FORMAT.md, 2.7);
     /// with `NoField` where the line denotes no column, with how many lines stand before it, blank
-    /// ones too, and why; with `LongLine` where it, blank or not, has more than [`MAX_LINE_BYTES`]
+    /// ones too, and why; with `LongLine` where it, blank or not, has more than [`crate::MAX_LINE_BYTES`]
     /// bytes, with how many stand before it; with `Input` where the source fails, unless a signal
     /// interrupts it, which is tried again; and when out of memory. The line is then not passed
     /// over: a further call begins with it, and goes on where the source failed.
@@ -87,14 +72,13 @@ impl<R: Read> LineColumns<R> {
                 false => Err(ReadFault::File(FileFault::Empty)),
             };
         };
-        let line = line_of(self.buffer.as_slice(), self.start, self.end, len);
-        match parse_column_line(self.alloc, line, &mut self.scratch)? {
+        match parse_column_line(self.alloc, self.lines.line(len), &mut self.scratch)? {
             Ok(column) => {
-                self.pass_line(len);
+                self.lines.pass_line(len);
                 self.has_column = true;
                 Ok(Some(column))
             }
-            Err(fault) => Err(ReadFault::File(FileFault::NoField(self.count, fault))),
+            Err(fault) => Err(ReadFault::File(FileFault::NoField(self.lines.count(), fault))),
         }
     }
 
@@ -107,91 +91,19 @@ impl<R: Read> LineColumns<R> {
         ensures line { IfOk result (HasLine (ahead self.new) (R.remaining self.new.source)) }
         ensures filled { IfOk result (λ held.
             IfSome held (λ len. is_blank (take len (ahead self.new)) ≡ false)) }
-        ensures err { IfErr result (IsUnfinished (passed self.new) (ahead self.new)) }
+        ensures err { IfErr result (λ fault. IsNext (passed self.new) (has_column self.old)
+            (text_left R.remaining self.new) (ahead self.new) (Err fault)) }
     {
         for _ in 0..u64::MAX {
-            let Some(len) = self.hold_line()? else {
+            let Some(len) = self.lines.hold_line(&mut self.source)? else {
                 return Ok(None);
             };
-            if !is_blank(line_of(self.buffer.as_slice(), self.start, self.end, len)) {
+            if !is_blank(self.lines.line(len)) {
                 return Ok(Some(len));
             }
-            self.pass_line(len);
+            self.lines.pass_line(len);
         }
         // No source gives so many lines.
         Err(ReadFault::from(AllocError))
     }
-
-    /// Passes over a line of so many bytes, and its line feed.
-    fn pass_line(&mut self, len: usize)
-        ensures ahead { ahead self.new ≡ drop (len + 1) (ahead self.old) }
-        ensures source { self.new.source ≡ self.old.source }
-        ensures counted { passed self.new ≡ min (passed self.old + 1) max_lines }
-        ensures column { has_column self.new ≡ has_column self.old }
-    {
-        self.start = self.start.saturating_add(len).saturating_add(1);
-        self.count = self.count.saturating_add(1);
-    }
-
-    /// Reads until the next line is held, and says how many bytes it has, its line feed not among them; or that there is none.
-    fn hold_line(&mut self) -> Result<Option<usize>, ReadFault>
-        ensures text { Keeps (text_left R.remaining self.old) (text_left R.remaining self.new) }
-        ensures counted { passed self.new ≡ passed self.old }
-        ensures column { has_column self.new ≡ has_column self.old }
-        ensures line { IfOk result (HasLine (ahead self.new) (R.remaining self.new.source)) }
-        ensures err { IfErr result (IsUnfinished self.new.count (ahead self.new)) }
-    {
-        let mut seen = 0;
-        loop {
-            let rest = part_of(self.buffer.as_slice(), self.start, self.end);
-            if let Some(len) = feed_in(rest, seen) {
-                if len > MAX_LINE_BYTES {
-                    return Err(ReadFault::LongLine(self.count));
-                }
-                return Ok(Some(len));
-            }
-            seen = rest.len();
-            if seen > MAX_LINE_BYTES {
-                return Err(ReadFault::LongLine(self.count));
-            }
-            if self.read_more()? == 0 {
-                return Ok(if seen == 0 { None } else { Some(seen) });
-            }
-        }
-    }
-
-    /// Reads once, behind what is not answered, and says how many bytes.
-    fn read_more(&mut self) -> Result<usize, ReadFault>
-        ensures ok { IfOk result (λ n. ReadsBehind n (R.remaining self.old.source) (R.remaining self.new.source) (ahead self.old) (ahead self.new)) }
-        ensures err { OnErr result ((ahead self.new ≡ ahead self.old) × Keeps (R.remaining self.old.source) (R.remaining self.new.source)) }
-        ensures kind { IfErr result IsReadError }
-        ensures signal { IfErr result IsNoSignal }
-        ensures counted { passed self.new ≡ passed self.old }
-        ensures column { has_column self.new ≡ has_column self.old }
-    {
-        self.end = move_front(&mut self.buffer, self.start, self.end);
-        self.start = 0;
-        let count = read_behind(&mut self.source, &mut self.buffer, self.end, CHUNK_BYTES)?;
-        self.end += count;
-        Ok(count)
-    }
-}
-
-/// Where the first line feed stands, of which there is none among the first bytes, so many.
-fn feed_in(held: &[u8], seen: usize) -> Option<usize>
-    requires { Nowhere (Passes (is_byte line_feed) held.now) 0 seen }
-    ensures { IsFirstByte (is_byte line_feed) held.now result }
-{
-    match memchr(b'\n', rest_of(held, seen)) {
-        Some(at) => Some(seen + at),
-        None => None,
-    }
-}
-
-/// The first bytes, so many, of what stands up to a place, and from another on.
-fn line_of(bytes: &[u8], start: usize, end: usize, len: usize) -> &[u8]
-    requires { len ≤ length (drop start (take end bytes.now)) }
-    ensures { result.now ≡ take len (drop start (take end bytes.now)) }
-{
-    &part_of(bytes, start, end)[..len]
 }

@@ -3,14 +3,14 @@ ghost use Rattle.std.specs.Prelude.{◌≡◌, ◌+◌, ◌-◌, ◌≤◌, List
 ghost use Rattle.std.specs.Prelude.{OnOk, IfSome, IfOk, IfErr};
 ghost use Rattle.std.specs.Io.KnownBytes.{IsAtEnd};
 ghost use Rattle.column_files.specs.Forms.{IsForm};
-ghost use Rattle.column_files.specs.Sources.{GivesUpTo};
-ghost use Rattle.column_files.specs.ReadErrors.{IsReadError};
+ghost use Rattle.line_reader.specs.Sources.{GivesUpTo};
+ghost use Rattle.column_files.specs.Faults.{IsReadError};
 ghost use Rattle.column_files.specs.Files.{size_in, HasFooter};
 ghost use Rattle.column_files.specs.Reading.{GivesSchema, GivesEnd, IsEnd, IsHead, ReadAs};
 
 use crate::fault::ReadFault;
 use crate::form::Form;
-use crate::source::{read_up_to, rest_of};
+use line_reader::read_up_to;
 use std::alloc::Global;
 use std::io::{Read, Seek, SeekFrom};
 
@@ -34,9 +34,7 @@ pub fn read_head<R: Read>(alloc: Global, source: &mut R) -> Result<Vec<u8>, Read
     ensures ok { IfOk result (λ head. GivesUpTo 8 (R.remaining source.old) (R.remaining source.new) head.items) }
     ensures err { IfErr result IsReadError }
 {
-    let mut head = Vec::new(alloc);
-    read_up_to(source, &mut head, HEAD_BYTES)?;
-    Ok(head)
+    Ok(read_up_to(source, Vec::new(alloc), HEAD_BYTES)?)
 }
 
 /// The bytes from which `columns_of` reads the columns of a source in that format, whose first bytes are `head`, as `read_head` gives them: of
@@ -60,13 +58,11 @@ pub fn read_schema_bytes<R: Read>(
         IsForm head.items form → IsHead head.items rest → ReadAs form bytes.items (head.items ++ rest))) }
     ensures err { IfErr result IsReadError }
 {
-    let mut bytes = head;
     let rest = match form {
-        Form::ArrowStream => u64::from(size_of_four(rest_of(bytes.as_slice(), 4))),
+        Form::ArrowStream => u64::from(size_of_four(rest_of(head.as_slice(), 4))),
         Form::ArrowFile | Form::Parquet | Form::Lines => u64::MAX,
     };
-    read_up_to(source, &mut bytes, rest)?;
-    Ok(bytes)
+    Ok(read_up_to(source, head, rest)?)
 }
 
 /// The end of a file, or all of it.
@@ -168,8 +164,7 @@ fn last_of<S: Read + Seek>(
 {
     let start = length.saturating_sub(count);
     source.seek(SeekFrom::Start(start))?;
-    let mut bytes = Vec::new(alloc);
-    read_up_to(source, &mut bytes, u64::MAX)?;
+    let bytes = read_up_to(source, Vec::new(alloc), u64::MAX)?;
     Ok(FileEnd { start, bytes })
 }
 
@@ -181,4 +176,11 @@ fn size_of_four(bytes: &[u8]) -> u32
         [a, b, c, d, ..] => u32::from_le_bytes([*a, *b, *c, *d]),
         _ => 0,
     }
+}
+
+/// What stands from a place on.
+fn rest_of(bytes: &[u8], start: usize) -> &[u8]
+    ensures { result.now ≡ drop start bytes.now }
+{
+    bytes.get(start..).unwrap_or(&[])
 }

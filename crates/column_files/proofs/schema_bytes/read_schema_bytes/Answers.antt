@@ -10,7 +10,7 @@ returns-clause-enough g c =
     let new = g.R.Read.remaining c.read_up_to.new.source in
     let form = c.args.form in
     let head = c.args.head.items in
-    let bytes = c.read_up_to.new.held in
+    let bytes = c.in_ok-read_up_to.field-0 in
     let given : Given form head bytes.items old new = elim c.match-form.branch [
       | in-ArrowStream w ↦
           let size : w.size_of_four.result ≡ size_in (drop 4 head) = w.size_of_four.ensures ∙ ap size_in (w.rest_of.ensures ∙ ap (drop 4) w.as_slice.ensures.value) in
