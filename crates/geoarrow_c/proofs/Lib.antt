@@ -1,3 +1,2 @@
 mod Runs
-pub mod Feeds
 pub mod Gives

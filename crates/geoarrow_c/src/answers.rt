@@ -6,9 +6,8 @@ ghost use Rattle.geoarrow_c.specs.Buffer.{Fills, Lacks};
 ghost use Rattle.geoarrow_c.specs.Calls.{number_of, Gives, RunGives};
 
 use crate::buffer::fill;
-use crate::limits::keeps_limits;
 use crate::status::{LIMIT, MEMORY, UNKNOWN};
-use geoarrow_fields::{Command, RunEnd, answer_line, run};
+use geoarrow_fields::{Command, RunEnd, answer_line, is_within_limits, run};
 use std::alloc::Global;
 
 /// The command of a number: 0 `read`, 1 `infer`, 2 `canon`, 3 `columns`.
@@ -82,7 +81,7 @@ pub extern "C" fn geoarrow_run(
     let Some(command) = command_of(command) else {
         return UNKNOWN;
     };
-    if !keeps_limits(input) {
+    if !is_within_limits(input) {
         return LIMIT;
     }
     let mut written = Vec::new(alloc);

@@ -5,7 +5,6 @@
 mod answers;
 mod buffer;
 mod check;
-mod limits;
 mod refusal;
 mod schema;
 mod status;

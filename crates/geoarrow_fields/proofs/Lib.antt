@@ -1,5 +1,6 @@
 pub mod Terms
 pub mod Limits
+pub mod Feeds
 pub mod Ways
 mod Layouts
 mod Extension

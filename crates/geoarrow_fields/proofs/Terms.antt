@@ -43,4 +43,4 @@ unfoldable pub use Rattle.geoarrow_fields.specs.Answer.{Answered, Answers}
 pub use Rattle.geoarrow_fields.specs.Answer.{AnswersField, AnswersNoType, AnswersUntil, Means, ReadsAndWrites, RunsTo, column_text, error_text, inferred_text, type_text}
 pub use Rattle.geoarrow_fields.specs.declared.output.Fault.{Fault}
 pub use Rattle.geoarrow_fields.specs.declared.output.Fault.TheVariants.{Input, Memory as NoMemory, Output}
-pub use Rattle.geoarrow_fields.specs.Progress.{AnswersLine, AppendsSome, Breaks, FrontOf, HasCome, IsAt, IsBegun, IsMeant, IsStopped, Leads, bytes_come}
+pub use Rattle.geoarrow_fields.specs.Progress.{AnswersLine, AppendsSome, Breaks, FrontOf, HasCome, IsAt, IsCause, IsMeant, IsStopped}

@@ -1,22 +1,16 @@
 -- The lines of an input, and their limits.
 use Rattle.std.specs.Prelude.{◌≡◌, ◌≢◌, ◌⊎◌, ℕ, ◌<◌, ◌≤◌, ◌==◌, List, [], ◌∷◌, ◌++◌, length, All, if◌then◌else◌}
 use Rattle.std.specs.List.{onto_first}
+-- the byte that ends a line; and how many bytes stand in a line at most, its line feed not among them
+pub use Rattle.line_reader.specs.Lines.{line_feed, max_line_bytes}
 
 -- the bytes of an input, of a line without its line feed, or of an output
 abbrev pub Bytes : Type 0
 Bytes = List ℕ
 
--- the byte that ends a line
-abbrev pub line_feed : ℕ
-line_feed = 10
-
 -- at most so many lines are answered
 abbrev pub max_lines : ℕ
 max_lines = 1000000
-
--- at most so many bytes stand in a line, its line feed not among them
-abbrev pub max_line_bytes : ℕ
-max_line_bytes = 1048576
 
 -- the lines of an input: a line feed ends each, and the last may lack it
 abbrev pub lines_of : Bytes → List Bytes

@@ -1,28 +1,17 @@
 -- Only private contracts cite it. How far a run has come, inside the loop.
-use Rattle.std.specs.Prelude.{◌≡◌, ℕ, ◌+◌, ◌*◌, ◌<◌, ◌≤◌, [], ◌∷◌, ◌++◌, length, Option, codes}
+use Rattle.std.specs.Prelude.{◌≡◌, ◌⊎◌, ℕ, [], ◌∷◌, ◌++◌, Option, codes}
 use Rattle.std.specs.Io.KnownBytes.{Appends, Keeps}
 use Rattle.geoarrow_fields.specs.declared.Command.{Command}
 use Rattle.geoarrow_fields.specs.declared.RunEnd.{RunEnd}
 use Rattle.geoarrow_fields.specs.declared.RunEnd.TheVariants.{InputFault, Memory as OutOfMemory, OutputFault}
 use Rattle.geoarrow_fields.specs.declared.output.Fault.{Fault}
 use Rattle.geoarrow_fields.specs.declared.output.Fault.TheVariants.{Input, Memory, Output}
-use Rattle.geoarrow_fields.specs.Lines.{Bytes, max_lines, max_line_bytes, IsLine}
+use Rattle.geoarrow_fields.specs.Lines.{Bytes, IsLine, IsPastLimit}
 use Rattle.geoarrow_fields.specs.Answer.{Answered, AnswersUntil, Means, ReadsAndWrites, RunsTo}
 
 -- the answer to a line is written, with its line feed
 abbrev pub AnswersLine : Command → Bytes → Bytes → Type 0
 AnswersLine command line = Answered command [] (line ∷ [])
-
--- after `count` lines, what has come of the next one is within the limits
-pub record IsBegun (count : ℕ) (begun : Bytes) : Type 0 where
-  pub line : IsLine begun
-  pub short : length begun ≤ max_line_bytes
-  pub few : count ≤ max_lines
-  pub room : 0 < length begun → count < max_lines
-
--- how many bytes have come at most, after `count` lines and what is begun
-abbrev pub bytes_come : ℕ → Bytes → ℕ
-bytes_come count begun = count * (max_line_bytes + 1) + length begun
 
 -- the place after `count` lines, before `later`
 abbrev pub IsAt : ℕ → Bytes → ℕ → Bytes → Type 0
@@ -42,9 +31,11 @@ IsStopped command Input = IsMeant command InputFault (codes "error input\n")
 IsStopped command Memory = IsMeant command OutOfMemory (codes "error memory\n")
 IsStopped command Output = RunsTo command OutputFault
 
--- by writing, a run that has come there comes here
-abbrev pub Leads : (There Here : (in_old in_new out_old out_new : Option Bytes) → Type 0) → Option Bytes → Option Bytes → Type 0
-Leads There Here old new = (i j o : Option Bytes) → There i j o old → Here i j o new
+-- why a run is stopped after `count` lines, before `later`
+abbrev pub IsCause : Fault → ℕ → Bytes → Type 0
+IsCause Input count later = IsPastLimit count later ⊎ IsLine later
+IsCause Memory count later = ¬ IsPastLimit count later
+IsCause Output count later = ⊥
 
 -- known bytes grow by an output of this kind
 abbrev pub AppendsSome : (Bytes → Type 0) → Option Bytes → Option Bytes → Type 0

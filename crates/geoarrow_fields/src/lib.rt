@@ -13,7 +13,7 @@ mod words;
 pub use answer::answer_line;
 pub use arguments::{command_of, serve, status_of};
 pub use geoarrow_layout::{coord_type_word, dimension_word, kind_word};
-pub use lines::{keeps_limits_or_passes_one, splits_at_line_feeds};
+pub use lines::{is_within_limits, keeps_limits_or_passes_one, splits_at_line_feeds};
 pub use reading::run;
 
 /// What is asked about the field of each line.

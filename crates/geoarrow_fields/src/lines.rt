@@ -1,20 +1,13 @@
-//! The lines of a chunk of the input: their limits, their answers, and the line that goes on into the next chunk.
-ghost use Rattle.std.specs.Prelude.{◌≡◌, ◌⊎◌, ◌+◌, ◌<◌, ◌≤◌, List, [], ◌∷◌, ◌++◌, length, All, IfOk, OnOk, IfErr, MatchBool};
-ghost use Rattle.geoarrow_fields.specs.Lines.{Bytes, max_lines, max_line_bytes, lines_of, ended_lines, IsLine, IsSplit, IsWithinLimits, IsPastLimit, Stops};
-ghost use Rattle.geoarrow_fields.specs.Progress.{AnswersLine, IsBegun, HasCome, IsStopped, Leads, AppendsSome, Breaks, bytes_come};
+//! The lines of an input, and their limits.
+ghost use Rattle.std.specs.Prelude.{◌≡◌, ◌⊎◌, ◌<◌, ◌≤◌, List, ◌∷◌, [], ◌++◌, length, All, MatchBool};
+ghost use Rattle.geoarrow_fields.specs.Lines.{Bytes, max_lines, max_line_bytes, lines_of, ended_lines};
+ghost use Rattle.geoarrow_fields.specs.Lines.{IsLine, IsSplit, IsWithinLimits, IsPastLimit, Stops};
 
-use crate::Command;
-use crate::output::{Fault, write_answer};
-use json::Scratch;
+use line_reader::MAX_LINE_BYTES;
 use memchr::memchr;
-use std::alloc::Global;
-use std::io::Write;
 
 /// The greatest number of lines that are answered.
-const MAX_LINES: usize = 1_000_000;
-
-/// The greatest number of bytes in a line, not counting its line feed.
-const MAX_LINE_BYTES: usize = 1_048_576;
+pub(crate) const MAX_LINES: usize = 1_000_000;
 
 /// A law: lines that are joined, each with its line feed, and followed by a rest without one, are an input of exactly
 /// these lines and, unless it is empty, the rest; every input has this form. There is nothing to run.
@@ -34,73 +27,32 @@ pub fn keeps_limits_or_passes_one()
     ensures never_both { (input : Bytes) → IsWithinLimits (lines_of input) → ¬ Stops IsPastLimit input }
 {}
 
-/// Whether a line of `begun` and `more` bytes after that exceeds a limit, after `count` lines.
-fn is_past_limit(count: usize, begun: &Vec<u8>, more: usize) -> bool
-    requires { IsBegun count begun.now.items }
-    ensures { MatchBool result ((count ≡ max_lines) ⊎ (max_line_bytes < length begun.now.items + more))
-        ((count < max_lines) × (length begun.now.items + more ≤ max_line_bytes)) }
+/// Whether a line of so many bytes is past a limit, after `count` lines.
+fn is_past_limit(count: usize, bytes: usize) -> bool
+    requires { count ≤ max_lines }
+    ensures { MatchBool result ((count ≡ max_lines) ⊎ (max_line_bytes < bytes))
+        ((count < max_lines) × (bytes ≤ max_line_bytes)) }
 {
-    count == MAX_LINES || more > MAX_LINE_BYTES - begun.len()
+    count == MAX_LINES || bytes > MAX_LINE_BYTES
 }
 
-/// Answers the line that consists of `begun` and `end`, and clears `begun`.
-pub(crate) fn end_line<W: Write>(
-    alloc: Global,
-    command: Command,
-    begun: &mut Vec<u8>,
-    end: &[u8],
-    scratch: &mut Scratch,
-    writer: &mut W,
-) -> Result<(), Fault>
-    ensures ok { OnOk result (AppendsSome (AnswersLine command (begun.old.items ++ end.now)) (W.contents writer.old) (W.contents writer.new)) }
-    ensures clear { OnOk result (begun.new.items ≡ []) }
-    ensures err { IfErr result (λ fault. Breaks fault (AnswersLine command (begun.old.items ++ end.now)) (W.contents writer.old) (W.contents writer.new)) }
+/// Returns whether the lines of an input are within the limits (docs/FORMAT.md, 2.3), so that
+/// [`crate::run`] answers all of them. Allocates nothing.
+///
+/// ```rust
+/// assert!(rt; is_within_limits(b"[]\n\n{}"));
+/// ```
+pub fn is_within_limits(input: &[u8]) -> bool
+    ensures { MatchBool result (IsWithinLimits (lines_of input.now)) (¬ IsWithinLimits (lines_of input.now)) }
 {
-    if begun.is_empty() {
-        return write_answer(alloc, command, end, scratch, writer);
-    }
-    begun.extend_from_slice(end)?;
-    write_answer(alloc, command, begun.as_slice(), scratch, writer)?;
-    begun.clear();
-    Ok(())
-}
-
-/// Answers the lines that end in `chunk`, where the first one continues `begun`, and leaves in `begun` what comes
-/// after them. Returns how many lines have been answered, `count` included.
-pub(crate) fn answer_chunk<W: Write>(
-    alloc: Global,
-    command: Command,
-    chunk: &[u8],
-    begun: &mut Vec<u8>,
-    count: usize,
-    scratch: &mut Scratch,
-    writer: &mut W,
-) -> Result<usize, Fault>
-    requires { IsBegun count begun.old.items }
-    ensures ok { IfOk result (λ total. Leads (HasCome command count (begun.old.items ++ chunk.now))
-        (HasCome command total begun.new.items) (W.contents writer.old) (W.contents writer.new)) }
-    ensures begun { IfOk result (λ total. IsBegun total begun.new.items) }
-    ensures come { IfOk result (λ total. bytes_come count begun.old.items + length chunk.now
-        ≤ bytes_come total begun.new.items) }
-    ensures err { IfErr result (λ fault. Leads (HasCome command count (begun.old.items ++ chunk.now))
-        (IsStopped command fault) (W.contents writer.old) (W.contents writer.new)) }
-{
-    let mut count = count;
-    let mut rest = chunk;
+    let mut rest = input;
+    let mut count = 0;
     while let Some(at) = memchr(b'\n', rest) {
-        if is_past_limit(count, begun, at) {
-            return Err(Fault::Input);
+        if is_past_limit(count, at) {
+            return false;
         }
-        end_line(alloc, command, begun, &rest[..at], scratch, writer)?;
         count += 1;
         rest = &rest[at + 1..];
     }
-    if rest.is_empty() {
-        return Ok(count);
-    }
-    if is_past_limit(count, begun, rest.len()) {
-        return Err(Fault::Input);
-    }
-    begun.extend_from_slice(rest)?;
-    Ok(count)
+    rest.is_empty() || !is_past_limit(count, rest.len())
 }

@@ -1,39 +1,55 @@
 //! The loop that reads an input, answers its lines and ends.
-ghost use Rattle.std.specs.Prelude.{◌≡◌, ◌<◌, ◌≤◌, [], take, IfOk, OnOk, IfErr, vec_len};
-ghost use Rattle.std.specs.Io.KnownBytes.{Consumes, IsAtEnd, Keeps};
+ghost use Rattle.std.specs.Prelude.{◌≡◌, ◌<◌, ◌≤◌, [], IfOk, OnOk, IfErr, OnSome};
+ghost use Rattle.std.specs.Io.KnownBytes.{IsAtEnd};
+ghost use Rattle.line_reader.specs.Lines.{held, passed, HasLine, IsUnfinished};
+ghost use Rattle.line_reader.specs.Sources.{ReadsOn};
+ghost use Rattle.geoarrow_fields.specs.Lines.{max_lines};
 ghost use Rattle.geoarrow_fields.specs.Answer.{RunsTo};
-ghost use Rattle.geoarrow_fields.specs.Progress.{IsMeant, IsStopped};
+ghost use Rattle.geoarrow_fields.specs.Progress.{IsCause, IsMeant, IsStopped};
 
-use crate::lines::{answer_chunk, end_line};
-use crate::output::{Fault, finish};
+use crate::lines::MAX_LINES;
+use crate::output::{Fault, finish, write_answer};
 use crate::{Command, RunEnd};
 use json::Scratch;
-use std::alloc::{AllocError, Global};
+use line_reader::{LineBuffer, LineError};
+use std::alloc::Global;
 use std::io::{Read, Write};
 
-/// The size of the read buffer, in bytes.
-const CHUNK_BYTES: usize = 65_536;
-
-/// A chunk of that many bytes.
-fn zeros(alloc: Global, len: usize) -> Result<Vec<u8>, AllocError>
-    ensures { IfOk result (λ chunk. vec_len chunk ≡ len) }
+/// Why a run ends where the next line is not held. A line behind the last that is answered is past
+/// the limit, whether there is memory for it or not.
+fn fault_of(lines: &LineBuffer, error: &LineError) -> Fault
+    requires few { passed lines.now ≤ max_lines }
+    requires unfinished { IsUnfinished (passed lines.now) (held lines.now) error.now }
+    ensures { IsCause result (passed lines.now) (held lines.now) }
 {
-    vec![in alloc; 0u8; len]
+    let has_room = lines.count() < MAX_LINES || lines.line(1).is_empty();
+    match error {
+        LineError::OutOfMemory if has_room => Fault::Memory,
+        LineError::OutOfMemory | LineError::Input(_) => Fault::Input,
+        LineError::LongLine(_) => Fault::Input,
+    }
 }
 
-/// Reads once into the front of a chunk, which keeps its length, or returns a fault of the input.
-fn read_chunk<R: Read>(reader: &mut R, chunk: &mut Vec<u8>) -> Result<usize, Fault>
-    requires { 0 < vec_len chunk.old }
-    ensures len { vec_len chunk.new ≡ vec_len chunk.old }
-    ensures bound { IfOk result (λ n. n ≤ vec_len chunk.new) }
-    ensures bytes { IfOk result (λ n. Consumes (R.remaining reader.old) (R.remaining reader.new) (take n chunk.new.items)) }
-    ensures end { IfOk result (λ n. n ≡ 0 → IsAtEnd (R.remaining reader.new)) }
-    ensures err { IfErr result (λ fault. (fault ≡ Fault.Input)
-        × Keeps (R.remaining reader.old) (R.remaining reader.new)) }
+/// Reads until the next line is held, and says how many bytes it has; or that there is none.
+fn hold_next<R: Read>(lines: &mut LineBuffer, reader: &mut R) -> Result<Option<usize>, Fault>
+    requires { passed lines.old ≤ max_lines }
+    ensures read { ReadsOn (R.remaining reader.old) (R.remaining reader.new)
+        (held lines.old) (held lines.new) }
+    ensures counted { passed lines.new ≡ passed lines.old }
+    ensures line { IfOk result (HasLine (held lines.new) (R.remaining reader.new)) }
+    ensures few { IfOk result (λ next. OnSome next (passed lines.new < max_lines)) }
+    ensures err { IfErr result (λ fault. IsCause fault (passed lines.new) (held lines.new)) }
 {
-    match reader.read(chunk.as_mut_slice()) {
-        Ok(n) => Ok(n),
-        Err(_) => Err(Fault::Input),
+    match lines.hold_line(reader) {
+        Ok(None) => Ok(None),
+        Ok(Some(len)) => {
+            if lines.count() < MAX_LINES {
+                Ok(Some(len))
+            } else {
+                Err(Fault::Input)
+            }
+        }
+        Err(error) => Err(fault_of(lines, &error)),
     }
 }
 
@@ -50,35 +66,24 @@ fn answer_lines<R: Read, W: Write>(
     ensures err { IfErr result (λ fault. IsStopped command fault
         (R.remaining reader.old) (R.remaining reader.new) (W.contents writer.old) (W.contents writer.new)) }
 {
-    let mut chunk = zeros(alloc, CHUNK_BYTES)?;
+    let mut lines = LineBuffer::new(Vec::new(alloc));
     let mut scratch = Scratch::new(alloc);
-    let mut begun = Vec::new(alloc);
-    let mut count = 0;
     loop {
-        let n = read_chunk(reader, &mut chunk)?;
-        if n == 0 {
-            if begun.is_empty() {
-                return Ok(());
-            }
-            return end_line(alloc, command, &mut begun, &[], &mut scratch, writer);
+        let Some(len) = hold_next(&mut lines, reader)? else {
+            return Ok(());
+        };
+        write_answer(alloc, command, lines.line(len), &mut scratch, writer)?;
+        if !lines.pass_line(len) {
+            return Ok(());
         }
-        count = answer_chunk(
-            alloc,
-            command,
-            &chunk[..n],
-            &mut begun,
-            count,
-            &mut scratch,
-            writer,
-        )?;
     }
 }
 
 /// Reads lines, each up to a line feed or the end, and writes the answer to each with a line feed after it. Returns how
 /// the run ended: `Done` at the reader's end.
 ///
-/// `InputFault` is returned for any error of the reader, and for an input that exceeds a limit (docs/FORMAT.md, 2.3);
-/// `Memory` when out of memory. The line that is not finished then has no answer: `error input` or `error memory` is
+/// `InputFault` is returned for any error of the reader but a signal, at which it is tried again, and for an input that
+/// exceeds a limit (docs/FORMAT.md, 2.3); `Memory` when out of memory. The line that is not finished then has no answer: `error input` or `error memory` is
 /// written instead, and the answers before it stay. `OutputFault` is returned for any error of the writer, or if it
 /// accepts no bytes; nothing more is written.
 pub fn run<R: Read, W: Write>(
