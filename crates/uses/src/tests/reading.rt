@@ -6,7 +6,8 @@ use std::io::{Error, ErrorKind, Read, Write};
 use std::process::Abort;
 use std::test::Fail;
 
-/// Gives one byte a call, and fails at the call `fails_at`, where calls count from 0.
+/// Gives one byte a call, and fails at the call `fails_at`, where calls count from 0; once, where a
+/// signal interrupts it.
 #[derive(Drop)]
 pub struct OneByte<'a> {
     text: &'a [u8],
@@ -33,6 +34,9 @@ impl<'a> OneByte<'a> {
 impl Read for OneByte<'_> {
     fn read(&mut self, buf: &mut [u8]) -> io::Result<usize> {
         if self.call == self.fails_at {
+            if self.kind == ErrorKind::Interrupted {
+                self.fails_at = usize::MAX;
+            }
             return Err(Error::from(self.kind));
         }
         self.call = self.call.saturating_add(1);
@@ -179,18 +183,27 @@ fn answers_lines_in_order(rt: HostRuntime) -> Result<(), Fail> {
     Ok(())
 }
 
-/// A read that fails, for whatever reason: the whole lines before it are answered.
+/// A read that fails: the whole lines before it are answered.
 #[test]
 fn read_fails_at_each_call(rt: HostRuntime) -> Result<(), Fail> {
-    for &kind in [ErrorKind::Other, ErrorKind::Interrupted].iter() {
-        for &(first, next, before) in [(0usize, 3, 0), (3, 5, 1), (5, 6, 2), (6, 8, 3)].iter() {
-            for call in first..next {
-                let mut reader = OneByte::failing(LINES, call, kind);
-                let out = output(&rt, Command::Read, &mut reader, RunEnd::InputFault);
-                let want = refused(rt.alloc(), before, b"error input\n")?;
-                assert!(rt; out.as_slice() == want.as_slice(), "{kind:?} at {call}");
-            }
+    for &(first, next, before) in [(0usize, 3, 0), (3, 5, 1), (5, 6, 2), (6, 8, 3)].iter() {
+        for call in first..next {
+            let mut reader = OneByte::failing(LINES, call, ErrorKind::Other);
+            let out = output(&rt, Command::Read, &mut reader, RunEnd::InputFault);
+            let want = refused(rt.alloc(), before, b"error input\n")?;
+            assert!(rt; out.as_slice() == want.as_slice(), "at {call}");
         }
+    }
+    Ok(())
+}
+
+/// A read that a signal interrupts is not seen.
+#[test]
+fn read_is_interrupted_at_each_call(rt: HostRuntime) -> Result<(), Fail> {
+    for call in 0..8usize {
+        let mut reader = OneByte::failing(LINES, call, ErrorKind::Interrupted);
+        let out = output(&rt, Command::Read, &mut reader, RunEnd::Done);
+        assert!(rt; out.as_slice() == ANSWERS, "at {call}");
     }
     Ok(())
 }
