@@ -423,12 +423,12 @@ The checks of GeoParquet metadata behind the columns: those that do not hold, or
 Words that are answered at once
 
   $ geoarrow_check --version
-  geoarrow_check 1.0.0 (rattle-kit-13f)
+  geoarrow_check 2.0.0 (rattle-kit-13f)
 
   $ geoarrow_check --help | cmp - ../docs/check_help.txt
 
   $ geoarrow_check -V x
-  geoarrow_check 1.0.0 (rattle-kit-13f)
+  geoarrow_check 2.0.0 (rattle-kit-13f)
 
   $ geoarrow_check --json --lines -h --jsno | cmp - ../docs/check_help.txt
 

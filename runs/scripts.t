@@ -64,23 +64,23 @@ Words of the four commands for which nothing is built, without `rt`
   > done
   > "$top/bin/try" --help | grep check
   > "$top/bin/geoarrow_fields" --help | wc -l
-  geoarrow_fields 1.0.0, a port of geoarrow-schema 0.9.0
+  geoarrow_fields 2.0.0, a port of geoarrow-schema 0.9.0
   status 0
-  geoarrow_fields 1.0.0, a port of geoarrow-schema 0.9.0
-  status 0
-  usage: bin/try check FILE.. | bin/try read|infer|canon|columns
+  geoarrow_fields 2.0.0, a port of geoarrow-schema 0.9.0
   status 0
   usage: bin/try check FILE.. | bin/try read|infer|canon|columns
   status 0
   usage: bin/try check FILE.. | bin/try read|infer|canon|columns
-  status 2
+  status 0
   usage: bin/try check FILE.. | bin/try read|infer|canon|columns
   status 2
   usage: bin/try check FILE.. | bin/try read|infer|canon|columns
   status 2
-  geoarrow_fields 1.0.0, a port of geoarrow-schema 0.9.0
+  usage: bin/try check FILE.. | bin/try read|infer|canon|columns
+  status 2
+  geoarrow_fields 2.0.0, a port of geoarrow-schema 0.9.0
   status 0
-  geoarrow_fields 1.0.0, a port of geoarrow-schema 0.9.0
+  geoarrow_fields 2.0.0, a port of geoarrow-schema 0.9.0
   status 0
   usage: geoarrow_fields read|infer|canon|columns
   status 0
@@ -117,9 +117,9 @@ Words of the other program for which nothing is built, without `rt`: the first l
   Says what each column of each file holds, and why it is invalid;
   and which checks of GeoParquet metadata do not hold
   status 0
-  geoarrow_check 1.0.0 (rattle-kit-13f)
+  geoarrow_check 2.0.0 (rattle-kit-13f)
   status 0
-  geoarrow_check 1.0.0 (rattle-kit-13f)
+  geoarrow_check 2.0.0 (rattle-kit-13f)
   status 0
   error: the following required arguments were not provided:
     <FILE>...
@@ -155,9 +155,9 @@ Words of the other program for which nothing is built, without `rt`: the first l
   Says what each column of each file holds, and why it is invalid;
   and which checks of GeoParquet metadata do not hold
   status 0
-  geoarrow_check 1.0.0 (rattle-kit-13f)
+  geoarrow_check 2.0.0 (rattle-kit-13f)
   status 0
-  geoarrow_check 1.0.0 (rattle-kit-13f)
+  geoarrow_check 2.0.0 (rattle-kit-13f)
   status 0
   error: the following required arguments were not provided:
     <FILE>...
@@ -347,7 +347,7 @@ The script of the other program: its own words, what it builds, and what it runs
   > bin/geoarrow_check --expect '' -
   > bin/try check --json 'a  b' c '*' 2> /dev/null
   > bin/try check --expect '' - 2> /dev/null
-  geoarrow_check 1.0.0 (rattle-kit-13f)
+  geoarrow_check 2.0.0 (rattle-kit-13f)
   geoarrow_check: proving and building the program
   geoarrow_check: proved low
   geoarrow_check: proved geoarrow_check

@@ -68,7 +68,7 @@ fn with_demands<'a>(alloc: Global, command: Command<'a>) -> Result<Command<'a>, 
 /// The command: its options, and the files.
 pub(crate) fn command<'a>(alloc: Global) -> Result<Command<'a>, AllocError> {
     let command = Command::new(alloc, "geoarrow_check")
-        .version("1.0.0 (rattle-kit-13f)")
+        .version("2.0.0 (rattle-kit-13f)")
         .about(
             "Says what each column of each file holds, and why it is invalid;
 and which checks of GeoParquet metadata do not hold",
