@@ -68,7 +68,7 @@ The columns as an Arrow stream, which is read back
   $ geoarrow_check --ipc ../examples/schema.jsonl | geoarrow_check --lines - | cmp - ../examples/schema.jsonl
 
   $ geoarrow_check --ipc ../crates/geoarrow_check/data/other.arrows
-  ../crates/geoarrow_check/data/other.arrows: column 1 has a type that no message can hold
+  ../crates/geoarrow_check/data/other.arrows: column 1: a type that no message can hold
   [2]
 
 Columns of Parquet files
@@ -151,6 +151,7 @@ A line of 1,048,576 bytes, and one with a byte more
   {"column":"geometry","edges":"planar","extension":"geoarrow.
   {"column":"a","index":1,"state":"plain","type":"null"}
   {"column":"geometry","edges":"planar","extension":"geoarrow.
+  {"error":"LineTooLong","line":2,"message":"has more than 104
   -: line 2: has more than 1048576 bytes
 
 An input without a line feed, which does not end
@@ -191,12 +192,16 @@ A file of no bytes, or of blank lines alone, is empty
        10 -: is empty
         5 blank: is empty
         5 none: is empty
+        1 {"error":"EmptyFile","file":"blank","message":"is empty"}
+        1 {"error":"EmptyFile","file":"none","message":"is empty"}
+        2 {"error":"EmptyFile","message":"is empty"}
 
   $ geoarrow_check /dev/null
   /dev/null: is empty
   [2]
 
   $ geoarrow_check --json - < /dev/null
+  {"error":"EmptyFile","message":"is empty"}
   -: is empty
   [2]
 
@@ -208,6 +213,7 @@ A blank line is passed over, wherever it stands, and counts as a line
 
   $ printf '{"name":"a","nullable":true,"type":"null"}\n\n \r\n[]\n' | geoarrow_check --json -
   {"column":"a","index":0,"state":"plain","type":"null"}
+  {"error":"LineNotObject","line":4,"message":"is JSON, but no object","place":"line 4"}
   -: line 4: is JSON, but no object
   [2]
 
@@ -246,7 +252,7 @@ Names of files that would control a terminal, or stand on two lines: above a tab
   a?b?[1m: no column b
   a?b?[1m: column a holds no geometries
   a?b?[1m: no column of geometries
-  a?b?[1m: column 0 has a type that no message can hold
+  a?b?[1m: column 0: a type that no message can hold
   a?b?[1m: line 1: is JSON, but no object
   a?b?[1m.parquet: No such file or directory (os error 2)
   error: 'a?b?[1m' is no COLUMN=WANT
@@ -274,6 +280,7 @@ A PROJJSON of 60,009 bytes that 2,048 columns of a Parquet file name: refused, i
   > do
   >     (ulimit -v 64000; geoarrow_check $words bomb.parquet)
   > done
+  {"error":"ReportTooLarge","file":"bomb.parquet","message":"the report would have more than 1048576 bytes and 32 for each byte read"}
   bomb.parquet: the report would have more than 1048576 bytes and 32 for each byte read
   bomb.parquet: the report would have more than 1048576 bytes and 32 for each byte read
   bomb.parquet: the report would have more than 1048576 bytes and 32 for each byte read
@@ -285,6 +292,7 @@ A report that is too large: no column is printed, also of those before the one t
   $ long=$(yes '\u0001' | head -n 30000 | tr -d '\n') && field='{"metadata":{"ARROW:extension:name":"geoarrow.wkb"},"name":"k","nullable":true,"type":"binary"}' && cd "$TMPDIR" && (echo "$field"; printf '{"name":"s","nullable":true,"type":{"struct":[{"name":"%s","nullable":true,"type":{"struct":[%s%s]}}]}}\n' "$long" "$(yes "$field," | head -n 15 | tr -d '\n')" "$field") > lines && geoarrow_check --ipc lines > stream
   > geoarrow_check --json stream
   > geoarrow_check --quiet --expect k=wkb stream && geoarrow_check --json lines | wc -l
+  {"error":"ReportTooLarge","file":"stream","message":"the report would have more than 1048576 bytes and 32 for each byte read"}
   stream: the report would have more than 1048576 bytes and 32 for each byte read
   2
 
@@ -315,6 +323,7 @@ What stands before a line that is refused is printed, but for a table and a stre
   >     printf '{"name":"a","nullable":true,"type":"null"}\n[]\n' | geoarrow_check $words --expect b=point --require-geometry -
   > done
   {"column":"a","index":0,"state":"plain","type":"null"}
+  {"error":"LineNotObject","line":2,"message":"is JSON, but no object","place":"line 2"}
   -: line 2: is JSON, but no object
   {"name":"a","nullable":true,"type":"null"}
   -: line 2: is JSON, but no object
@@ -343,31 +352,38 @@ Why a line is refused
   [2]
 
   $ printf 'PAR1PAR1' | geoarrow_check --json -
+  {"error":"FooterCut","message":"the footer is larger than the file"}
   -: the footer is larger than the file
   [2]
 
   $ printf 'PAR1\000\000\000\000PAR1' | geoarrow_check --json -
+  {"byte":0,"error":"FooterEnd","message":"a value ends past the footer","place":"byte 0 of the footer"}
   -: byte 0 of the footer: a value ends past the footer
   [2]
 
   $ printf 'PAR1    PARE' | geoarrow_check --json -
+  {"error":"FooterEncrypted","message":"the footer is encrypted"}
   -: the footer is encrypted
   [2]
 
   $ printf 'PARE    \004\000\000\000PARE' > "$TMPDIR/encrypted.parquet" && cd "$TMPDIR" && geoarrow_check --json encrypted.parquet; geoarrow_check - < encrypted.parquet
+  {"error":"FooterEncrypted","file":"encrypted.parquet","message":"the footer is encrypted"}
   encrypted.parquet: the footer is encrypted
   -: the footer is encrypted
   [2]
 
   $ printf 'PAR1    ' | geoarrow_check --json -
+  {"error":"FooterMagic","message":"does not end as a Parquet file does"}
   -: does not end as a Parquet file does
   [2]
 
   $ printf '\377\377\377\377\010\000\000\000\004\000\000\000' | geoarrow_check --json -
+  {"byte":8,"error":"IpcEnvelope","message":"no whole message","place":"byte 8 of the message"}
   -: byte 8 of the message: no whole message
   [2]
 
   $ head -c 100 ../crates/geoarrow_check/data/stream.arrows | geoarrow_check --json - 2>&1
+  {"byte":8,"error":"IpcEnvelope","message":"no whole message","place":"byte 8 of the message"}
   -: byte 8 of the message: no whole message
   [2]
 
@@ -390,6 +406,31 @@ The byte of an Arrow file's fault is that of the file, by its path and by standa
   -: byte 518: an unknown type
   -: byte 4614: an unknown type
   [2]
+
+With --json the fault is a line of JSON too, alone, or behind the lines of columns; of a file that the system does not read there is none
+
+  $ cd "$TMPDIR" && head -c 700 "$top/crates/geoarrow_check/data/file.arrow" > cut.arrow && printf 'ab\377\n' > bytes && printf 'PAR1\005\000\000\000PAR1' > cut.parquet && printf '\n{"name":"a","nullable":true,"type":"null"}\n{"name":"b" "nullable":true}\n' > lines
+  > for file in cut.arrow bytes cut.parquet lines nowhere
+  > do
+  >     geoarrow_check --json $file 2> said
+  >     echo $? >> said
+  >     cat said
+  > done
+  {"byte":690,"error":"IpcEnvelope","file":"cut.arrow","message":"no whole message","place":"byte 690"}
+  cut.arrow: byte 690: no whole message
+  2
+  {"byte":3,"error":"LineNotUtf8","file":"bytes","line":1,"message":"is no UTF-8","place":"line 1, byte 3"}
+  bytes: line 1, byte 3: is no UTF-8
+  2
+  {"error":"FooterCut","file":"cut.parquet","message":"the footer is larger than the file"}
+  cut.parquet: the footer is larger than the file
+  2
+  {"column":"a","file":"lines","index":0,"state":"plain","type":"null"}
+  {"byte":13,"error":"LineNotJson","file":"lines","line":3,"message":"is no JSON, or nests more than 127 levels","place":"line 3, byte 13"}
+  lines: line 3, byte 13: is no JSON, or nests more than 127 levels
+  2
+  nowhere: No such file or directory (os error 2)
+  2
 
 The checks of GeoParquet metadata behind the columns: those that do not hold, or all
 

@@ -7,9 +7,7 @@ mod source;
 use crate::report::Report;
 use crate::source::{Failure, report_columns};
 use check_options::{Asked, Said, asked_by};
-use column_files::{Form, ReadFault, fault_of, long_line};
-use column_reports::fault_text;
-use std::alloc::{AllocError, Global};
+use column_files::{ReadFault, fault_of, long_line};
 use std::io::{ErrorKind, Write};
 use std::process::ExitCode;
 use std::{env, io};
@@ -26,24 +24,21 @@ fn check(rt: &HostRuntime, file: &str, asked: &Asked) -> io::Result<u8> {
 
 /// Prints the report of a file, as `check` does.
 fn print_report(rt: &HostRuntime, file: &str, report: &mut Report<'_>) -> io::Result<u8> {
-    let fault = match report_columns(rt, file, report) {
+    match report_columns(rt, file, report) {
         Ok(()) => return report.finish(rt),
         Err(Failure::Output(error)) => return Err(error),
-        Err(Failure::Input(fault)) => fault,
-    };
-    let problem = problem_of(rt.alloc(), report.form(), fault)?;
-    report.write_before(rt)?;
-    report.say(rt, problem.as_str())?;
-    Ok(2)
-}
-
-/// Why a file cannot be read.
-fn problem_of(alloc: Global, form: Form, fault: ReadFault) -> Result<String, AllocError> {
-    match fault {
-        ReadFault::Input(error) => format!(in alloc; "{error}"),
-        ReadFault::LongLine(before) => fault_text(alloc, &long_line(before)),
-        ReadFault::File(fault) => fault_text(alloc, &fault_of(form, fault)),
+        Err(Failure::Input(ReadFault::Input(error))) => {
+            report.write_before(rt)?;
+            report.say(rt, format!(in rt.alloc(); "{error}")?.as_str())?;
+        }
+        Err(Failure::Input(ReadFault::LongLine(before))) => {
+            report.refuse(rt, &long_line(before))?;
+        }
+        Err(Failure::Input(ReadFault::File(fault))) => {
+            report.refuse(rt, &fault_of(report.form(), fault))?;
+        }
     }
+    Ok(2)
 }
 
 /// Does what the words ask. Returns the status.

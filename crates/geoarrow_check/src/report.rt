@@ -4,9 +4,10 @@ use crate::source::Reported;
 use arrow_columns::SchemaColumn;
 use arrow_ipc::{Endianness, Schema, write_schema};
 use check_options::{Asked, Output};
-use column_files::{FileFault, Form, MAX_LINE_BYTES, column_line, write_fault};
+use column_files::{Fault, FileFault, Form, MAX_LINE_BYTES, column_line, write_fault};
 use column_reports::{
-    ColumnReport, Options, Summary, fault_text, has_failed, json_line, report_budget, report_column,
+    ColumnReport, Options, Summary, fault_line, fault_text, has_failed, json_line, report_budget,
+    report_column,
 };
 use geoparquet::GeoFinding;
 use json::Scratch;
@@ -196,6 +197,17 @@ impl<'a> Report<'a> {
             return Ok(());
         }
         self.write(rt)
+    }
+
+    /// Writes what was made before a fault, with `--json` the fault as a line of its own, and says
+    /// it on standard error.
+    pub(crate) fn refuse(&mut self, rt: &HostRuntime, fault: &Fault) -> io::Result<()> {
+        self.write_before(rt)?;
+        if matches!(self.asked.flags.output(), Output::Json) {
+            let line = fault_line(rt.alloc(), self.named_file(), fault)?;
+            println!(rt; "{line}")?;
+        }
+        self.say(rt, fault_text(rt.alloc(), fault)?.as_str())
     }
 
     /// Says something of the file on standard error.
