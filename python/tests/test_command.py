@@ -30,7 +30,8 @@ class Command(unittest.TestCase):
             self.assertEqual(printed(["check", good]), ("column  holds  CRS  edges\nt       utf8\n", "", 0))
             self.assertEqual(printed(["check", good, bad])[2], 1)
             self.assertEqual(printed(["check", none, bad])[1:], (f"{none}: {NO_NAME}\n", 2))
-            self.assertEqual(printed(["check", folder + "/no"]), ("", f"{folder}/no: No such file or directory\n", 2))
+            for options in ([], ["--json"]):
+                self.assertEqual(printed(["check", *options, folder + "/no"]), ("", f"{folder}/no: No such file or directory\n", 2))
 
     def test_the_lines_that_the_program_is_to_print(self):
         words = (DATA.parent / "args").read_text().split()
