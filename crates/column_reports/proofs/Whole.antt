@@ -1,5 +1,5 @@
 -- The report of a file from that of its columns.
-use Rattle.std.proofs.Common.{ℕ, List, length, map, Option, Result, Ok, Err, inl, inr, sym, subst}
+use Rattle.std.proofs.Common.{ℕ, Bool, false, List, length, map, Option, Result, Ok, Err, inl, inr, sym, subst}
 use Rattle.arrow_values.specs.Tree.{Text}
 use Rattle.arrow_values.specs.Texts.{text_of}
 use Rattle.arrow_columns.specs.Column.{ColumnTree, column_tree}
@@ -9,7 +9,7 @@ use Rattle.column_files.specs.declared.columns.FileFault.{FileFault}
 use Rattle.column_reports.specs.declared.report.Options.{Options}
 use Rattle.parquet_columns.specs.Budget.{budget}
 use Rattle.column_reports.specs.Checks.{AreChecked}
-use Rattle.column_reports.specs.FileReport.{ArePast, IsUnreported, IsWithin, IsParquetReport, IsParquetPast, ParquetReports, ReportsOpened, Reports}
+use Rattle.column_reports.specs.FileReport.{ArePast, IsUnreported, IsWithin, IsCheckedReport, IsCheckedPast, CheckedReports, IsParquetReport, IsParquetPast, ParquetReports, ReportsOpened, Reports}
 use Rattle.column_reports.specs.declared.checks.Checked.{Checked}
 use Rattle.column_reports.specs.declared.file.Report.{Report}
 
@@ -18,15 +18,30 @@ pub whole : (file : Option Text) (o : Options) (bytes : List ℕ) (opened : File
 whole file o bytes opened (Ok report) is done = (opened, is, done)
 whole file o bytes opened (Err fault) is done = inr (opened, is, done)
 
--- of a Parquet file with that text of GeoParquet metadata and these columns
-module _ (file : Option Text) (o : Options) (limit : ℕ) (geo : Option Text) (cs : List ColumnTree) where
-  -- the columns that it has by its metadata have no report
-  pub unreported : (checked : Checked) (fault : FileFault) → AreChecked geo cs checked → IsUnreported (ArePast file o limit (map column_tree checked.columns.items)) fault
-      → IsUnreported (IsParquetPast file o limit geo cs) fault
-  unreported checked fault are (inl memory) = inl memory
-  unreported checked fault are (inr (large, past)) = inr (large, inl (checked, are, past))
+-- of columns with the checks of a Parquet file's metadata
+module _ (file : Option Text) (o : Options) (all : Bool) (limit : ℕ) (checked : Checked) where
+  -- the columns have no report
+  pub unreported : (fault : FileFault) → IsUnreported (ArePast file o limit (map column_tree checked.columns.items)) fault
+      → IsUnreported (IsCheckedPast file o all limit checked) fault
+  unreported fault (inl memory) = inl memory
+  unreported fault (inr (large, past)) = inr (large, inl past)
 
   -- the whole report is made, and kept where it is within the limit
-  pub finished : (made : Report) (r : Result Report FileFault) → IsParquetReport file o geo cs made → IsWithin limit made r → ParquetReports file o limit geo cs r
-  finished made (Ok report) is (same, within) = (subst (IsParquetReport file o geo cs) (sym same) is, within)
+  pub finished : (made : Report) (r : Result Report FileFault) → IsCheckedReport file o all checked made → IsWithin limit made r → CheckedReports file o all limit checked r
+  finished made (Ok report) is (same, within) = (subst (IsCheckedReport file o all checked) (sym same) is, within)
   finished made (Err fault) is (large, past) = inr (large, inr (made, is, past))
+
+-- of a Parquet file with that text of GeoParquet metadata and these columns
+module _ (file : Option Text) (o : Options) (limit : ℕ) (geo : Option Text) (cs : List ColumnTree) (checked : Checked) (are : AreChecked geo cs checked) where
+  of_file : (report : Report) → IsCheckedReport file o false checked report → IsParquetReport file o geo cs report
+  of_file report is = record { checked = checked; are = are; of_columns = is.of_columns; said = is.said; adds = is.adds }
+
+  past_of_file : IsCheckedPast file o false limit checked → IsParquetPast file o limit geo cs
+  past_of_file (inl past) = inl (checked, are, past)
+  past_of_file (inr (report, is, past)) = inr (report, of_file report is, past)
+
+  -- the report with the checks that do not hold is that of the file
+  pub parquet : (r : Result Report FileFault) → CheckedReports file o false limit checked r → ParquetReports file o limit geo cs r
+  parquet (Ok report) (is, within) = (of_file report is, within)
+  parquet (Err fault) (inl memory) = inl memory
+  parquet (Err fault) (inr (large, past)) = inr (large, past_of_file past)

@@ -42,8 +42,8 @@ pub record AddsText (text : Text) (has_failed : Bool) (old new : FileReport) : T
 abbrev pub warning_text : Option Text → Bool → Text
 warning_text file has_geometry = if has_geometry then no_geo_text file ++ 10 ∷ [] else []
 
--- the report of a Parquet file from that of its columns: behind the lines of these stand those of the checks that do not hold; or, where the file
--- has no such metadata, the warning
-abbrev pub AddsFindings : Option Text → Option (Vec GeoFinding Global) → FileReport → FileReport → Type 0
-AddsFindings file None old new = AddsText (warning_text file old.summary.has_geometry) false old new
-AddsFindings file (Some findings) old new = AddsText (lines_text file false findings.items) (list_any is_failed findings.items) old new
+-- the report of a Parquet file from that of its columns: behind the lines of these stand those of the checks that do not hold, or of all; or, where the
+-- file has no such metadata, the warning
+abbrev pub AddsFindings : Option Text → Bool → Option (Vec GeoFinding Global) → FileReport → FileReport → Type 0
+AddsFindings file all None old new = AddsText (warning_text file old.summary.has_geometry) false old new
+AddsFindings file all (Some findings) old new = AddsText (lines_text file all findings.items) (list_any is_failed findings.items) old new

@@ -1,5 +1,5 @@
 -- The report of a file: a line of JSON for each of its columns.
-use Rattle.std.specs.Prelude.{◌≡◌, ◌⊎◌, ◌<◌, ◌≤◌, ◌+◌, ◌++◌, ◌||◌, ℕ, ⊤, false, List, [], ◌∷◌, length, map, Option, Result, Ok, Err, string_bytes}
+use Rattle.std.specs.Prelude.{◌≡◌, ◌⊎◌, ◌<◌, ◌≤◌, ◌+◌, ◌++◌, ◌||◌, ℕ, ⊤, Bool, false, List, [], ◌∷◌, length, map, Option, Result, Ok, Err, string_bytes}
 use Rattle.json.specs.Print.{print}
 use Rattle.json.specs.Tree.{json_tokens}
 use Rattle.arrow_values.specs.Tree.{Text}
@@ -60,7 +60,7 @@ pub record IsParquetReport (file : Option Text) (o : Options) (geo : Option Text
   pub are : AreChecked geo cs checked
   pub of_columns : FileReport
   pub said : IsReportOf file o (map column_tree checked.columns.items) of_columns
-  pub adds : AddsFindings file checked.findings of_columns report
+  pub adds : AddsFindings file false checked.findings of_columns report
 
 -- ---- within a limit
 
@@ -90,6 +90,23 @@ ReportsOf file o limit cs (Err fault) = IsUnreported (ArePast file o limit cs) f
 abbrev pub IsWithin : ℕ → FileReport → Result FileReport FileFault → Type 0
 IsWithin limit made (Ok report) = (report ≡ made) × (size report ≤ limit)
 IsWithin limit made (Err fault) = (fault ≡ ReportTooLarge) × (limit < size made)
+
+-- the report of columns with the checks of a Parquet file's metadata, those that do not hold or all
+pub record IsCheckedReport (file : Option Text) (o : Options) (all : Bool) (checked : Checked) (report : FileReport) : Type 0 where
+  pub of_columns : FileReport
+  pub said : IsReportOf file o (map column_tree checked.columns.items) of_columns
+  pub adds : AddsFindings file all checked.findings of_columns report
+
+-- it has more bytes than the limit: the lines of the first columns alone, or all its lines
+abbrev pub IsCheckedPast : Option Text → Options → Bool → ℕ → Checked → Type 0
+IsCheckedPast file o all limit checked =
+    ArePast file o limit (map column_tree checked.columns.items)
+    ⊎ ((report : FileReport) × IsCheckedReport file o all checked report × (limit < size report))
+
+-- what a call answers of columns with those checks
+abbrev pub CheckedReports : Option Text → Options → Bool → ℕ → Checked → Result FileReport FileFault → Type 0
+CheckedReports file o all limit checked (Ok report) = IsCheckedReport file o all checked report × (size report ≤ limit)
+CheckedReports file o all limit checked (Err fault) = IsUnreported (IsCheckedPast file o all limit checked) fault
 
 -- the report of a Parquet file has more bytes than the limit: the lines of its first columns alone, or all its lines
 abbrev pub IsParquetPast : Option Text → Options → ℕ → Option Text → List ColumnTree → Type 0

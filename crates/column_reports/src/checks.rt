@@ -5,7 +5,7 @@ ghost use Rattle.arrow_values.specs.Texts.{text_of};
 ghost use Rattle.arrow_columns.specs.Column.{column_tree};
 ghost use Rattle.geoparquet.specs.Lines.{lines_text};
 ghost use Rattle.column_reports.specs.Checks.{is_failed, has_failed, AreChecked, AddsText, AddsFindings, warning_text};
-ghost use Rattle.column_reports.specs.FileReport.{ParquetReports};
+ghost use Rattle.column_reports.specs.FileReport.{CheckedReports, ParquetReports};
 
 use crate::file::{Report, push_line, report_columns, within};
 use crate::report::Options;
@@ -67,17 +67,19 @@ fn is_one_failed(findings: &[GeoFinding]) -> bool
     findings.iter().any(|finding| !finding.ok)
 }
 
-/// The report with the lines of the checks that do not hold behind its own. Errs only when out of memory.
+/// The report with the lines of the checks that do not hold, or of all, behind its own. Errs only
+/// when out of memory.
 fn with_lines(
     alloc: Global,
     report: Report,
     file: Option<&str>,
     findings: &[GeoFinding],
+    all: bool,
 ) -> Result<Report, AllocError>
-    ensures { IfOk result (AddsText (lines_text (text_of file.entry) false findings.now) (list_any is_failed findings.now) report) }
+    ensures { IfOk result (AddsText (lines_text (text_of file.entry) all findings.now) (list_any is_failed findings.now) report) }
 {
     let mut report = report;
-    let lines = check_lines(alloc, file, findings, false)?;
+    let lines = check_lines(alloc, file, findings, all)?;
     report.lines.push_str(lines.as_str())?;
     report.summary.add_checks(is_one_failed(findings));
     Ok(report)
@@ -109,11 +111,26 @@ pub(crate) fn parquet_report(
     ensures { ParquetReports (text_of file.entry) options limit (text_of geo.entry) (map column_tree columns.items) result }
 {
     let checked = checked_columns(alloc, geo, columns)?;
-    match report_columns(alloc, file, checked.columns, options, limit) {
-        Ok(report) => within(
-            with_findings(alloc, report, file, &checked.findings)?,
-            limit,
-        ),
+    report_checked(alloc, file, checked, options, false, limit)
+}
+
+/// Returns the report of a Parquet file with the columns and checks that `checked_columns` answers,
+/// whose lines have at most that many bytes: behind the lines of the columns stand those of the
+/// checks that do not hold, or with `all` of all; or, where there are no checks and a column holds
+/// geometries, the warning. Errs as `report_columns` does, also for the lines of the checks.
+pub fn report_checked(
+    alloc: Global,
+    file: Option<&str>,
+    checked: Checked,
+    options: Options,
+    all: bool,
+    limit: u128,
+) -> Result<Report, FileFault>
+    ensures { CheckedReports (text_of file.entry) options all limit checked result }
+{
+    let Checked { columns, findings } = checked;
+    match report_columns(alloc, file, columns, options, limit) {
+        Ok(report) => within(with_findings(alloc, report, file, &findings, all)?, limit),
         Err(fault) => Err(fault),
     }
 }
@@ -124,11 +141,12 @@ fn with_findings(
     report: Report,
     file: Option<&str>,
     findings: &Option<Vec<GeoFinding>>,
+    all: bool,
 ) -> Result<Report, AllocError>
-    ensures { IfOk result (AddsFindings (text_of file.entry) findings.now report) }
+    ensures { IfOk result (AddsFindings (text_of file.entry) all findings.now report) }
 {
     match findings {
         None => with_warning(alloc, report, file),
-        Some(findings) => with_lines(alloc, report, file, findings.as_slice()),
+        Some(findings) => with_lines(alloc, report, file, findings.as_slice(), all),
     }
 }

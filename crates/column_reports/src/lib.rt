@@ -17,7 +17,7 @@ mod summary;
 mod warnings;
 mod words;
 
-pub use checks::{Checked, checked_columns, has_failed};
+pub use checks::{Checked, checked_columns, has_failed, report_checked};
 pub use fault::{fault_line, fault_text};
 pub use file::{Report, report_columns, report_file};
 pub use line::json_line;
