@@ -6,3 +6,4 @@ pub mod States
 pub mod Parts
 pub mod Warnings
 pub mod Walk
+pub mod WarningWords

@@ -4,6 +4,7 @@ ghost use Rattle.serde_json.specs.Read.{of_json};
 ghost use Rattle.arrow_values.specs.Texts.{text_of};
 ghost use Rattle.geoarrow_meta.specs.Read.{some_has_float};
 ghost use Rattle.arrow_columns.specs.Column.{column_tree, type_tree};
+ghost use Rattle.column_check.specs.WarningWords.{warning_code, warning_message};
 ghost use Rattle.column_check.specs.Warnings.{said, of_column, is_empty_text, crs_warnings, geometry_warnings, nested_warnings, AreWarnings};
 
 use crate::finding::{Finding, Geometry};
@@ -34,6 +35,38 @@ pub enum WarningCode {
     AxisNames,
     /// A field below the column has one of GeoArrow's eleven extension names.
     NestedGeometry,
+}
+
+impl WarningCode {
+    /// Returns the code, as reports have it (`docs/FORMAT.md`, 2.6).
+    pub fn code(self) -> &'static str
+        ensures { result.now ≡ warning_code self }
+    {
+        match self {
+            WarningCode::MetadataEmpty => "MetadataEmpty",
+            WarningCode::CrsNotWhole => "CrsNotWhole",
+            WarningCode::CrsWithoutType => "CrsWithoutType",
+            WarningCode::CrsNumber => "CrsNumber",
+            WarningCode::CoordinatesNotDouble => "CoordinatesNotDouble",
+            WarningCode::AxisNames => "AxisNames",
+            WarningCode::NestedGeometry => "NestedGeometry",
+        }
+    }
+
+    /// Returns what is doubtful.
+    pub fn message(self) -> &'static str
+        ensures { result.now ≡ warning_message self }
+    {
+        match self {
+            WarningCode::MetadataEmpty => "metadata is an empty text",
+            WarningCode::CrsNotWhole => "CRS has a number that is not whole",
+            WarningCode::CrsWithoutType => "CRS without crs_type",
+            WarningCode::CrsNumber => "CRS is neither an object nor a text",
+            WarningCode::CoordinatesNotDouble => "coordinates are not float64",
+            WarningCode::AxisNames => { "fields are not named after the axes, in their order" }
+            WarningCode::NestedGeometry => "child field has a GeoArrow extension name",
+        }
+    }
 }
 
 /// A warning: what is doubtful of a column, and where.

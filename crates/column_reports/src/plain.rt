@@ -7,7 +7,6 @@ use crate::reasons::{
     CRS_TYPE_MESSAGE, EDGES_MESSAGE, EXTENSION_MESSAGE, NOT_JSON_MESSAGE, NOT_OBJECT_MESSAGE,
     type_message,
 };
-use crate::warnings::code_and_message;
 use column_check::{MetadataFault, Reasons, TypeFault, Warning};
 use std::alloc::{AllocError, Global};
 
@@ -52,7 +51,7 @@ pub fn warning_words(alloc: Global, warnings: &[Warning]) -> Result<Vec<String>,
 {
     let mut words = Vec::new(alloc);
     for warning in warnings {
-        let (_, message) = code_and_message(warning.code);
+        let message = warning.code.message();
         let mut text = words_at(alloc, message, warning.path.as_slice())?;
         push_more(alloc, &mut text, warning.more)?;
         words.push(text)?;

@@ -1,10 +1,10 @@
 -- The derived `==` of kinds and summaries answers true exactly at equal values.
 use Rattle.geoarrow_layout.proofs.Terms.{Bare, sameb, same_true, true_same, Declared, ◌≡◌, Bool, Option, None, Some, refl, ap, Decides-and, Decides-like, Decides, booleans_Decides, unsigned_Decides, signed_Decides, option_eq, Kind, OfNative, OfGeometry, OfRect, OfWkb, OfWkt, Bottom, FixedSizeList, Struct, Union, OtherWidth, Summary}
-use Rattle.geoarrow_layout.specs.contracts.encodings.KindPartialEq.TheImpl as kinds
-use Rattle.geoarrow_layout.specs.contracts.encodings.NativeKind as native_kind
-use Rattle.geoarrow_layout.specs.contracts.encodings.Width as width
-use Rattle.geoarrow_layout.specs.contracts.kinds.CoordType as coord_type
-use Rattle.geoarrow_layout.specs.contracts.kinds.Dimension as dimension
+use Rattle.geoarrow_layout.specs.contracts.native_kinds.KindPartialEq.TheImpl as kinds
+use Rattle.geoarrow_layout.specs.contracts.native_kinds.NativeKind as native_kind
+use Rattle.geoarrow_layout.specs.contracts.native_kinds.Width as width
+use Rattle.geoarrow_layout.specs.contracts.dimensions.CoordType as coord_type
+use Rattle.geoarrow_layout.specs.contracts.dimensions.Dimension as dimension
 use Rattle.geoarrow_layout.specs.contracts.fault.LayoutFault as fault
 use Rattle.geoarrow_layout.specs.contracts.summary.ListWidth as list_width
 use Rattle.geoarrow_layout.specs.contracts.summary.BottomPartialEq.TheImpl as bottoms

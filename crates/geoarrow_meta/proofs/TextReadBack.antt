@@ -3,7 +3,6 @@ use Rattle.std.proofs.Common.{◌≡◌, ℕ, List, [], ◌∷◌, ◌++◌, cod
 use Rattle.std.proofs.lemmas.List.{append-nil}
 use Rattle.json.specs.Token.{Token, begin_object, end_object, key, string}
 use Rattle.json.specs.Lex.{tokens}
-use Rattle.json.specs.Print.{print}
 use Rattle.json.specs.Json.{value, parse_map, if_last}
 use Rattle.json.specs.Tree.{json_tokens}
 use Rattle.json.proofs.Unique.Spelling.{value-json_tokens_back}

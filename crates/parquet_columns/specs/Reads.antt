@@ -95,7 +95,7 @@ footer_in bytes =
     footer_before (take (length bytes - 8) bytes) (length_at (drop (length bytes - 8) bytes))
 
 -- what is read of the bytes of a footer: the columns of its contents; or which rule they break, and where
-abbrev pub IsParsed : List ℕ → Result Contents footers.ElementFault → Result (Vec SchemaColumn Global) SchemaError → Type 0
+abbrev pub IsParsed : List ℕ → Result Contents footers.Fault → Result (Vec SchemaColumn Global) SchemaError → Type 0
 IsParsed bytes (Ok c) r = IsFooterRead (length bytes) c r
 IsParsed bytes (Err fault) (Err OutOfMemory) = ⊤
 IsParsed bytes (Err fault) (Err (Footer (Invalid rule offset))) = (rule ≡ fault.rule) × (offset + fault.left ≡ length bytes)

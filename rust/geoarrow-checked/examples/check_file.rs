@@ -1,13 +1,22 @@
-//! Prints what each column of a file holds, as lines of JSON: cargo run --example check_file FILE
+//! Prints what each column of a file holds, as lines of JSON, or why the file is refused: cargo run --example check_file FILE
+use geoarrow_checked::{check_named, Options};
 use std::error::Error;
+use std::process::ExitCode;
 use std::{env, fs};
 
-fn main() -> Result<(), Box<dyn Error>> {
+fn main() -> Result<ExitCode, Box<dyn Error>> {
     let path = env::args_os().nth(1).ok_or("usage: check_file FILE")?;
-    let options = geoarrow_checked::Options {
+    let name = path.to_string_lossy();
+    let options = Options {
         infer: true,
-        ..Default::default()
+        ..Options::default()
     };
-    print!("{}", geoarrow_checked::check(&fs::read(path)?, options)?);
-    Ok(())
+    match check_named(&name, &fs::read(&path)?, options) {
+        Ok(report) => print!("{report}"),
+        Err(error) => {
+            eprintln!("{name}: {error}");
+            return Ok(ExitCode::FAILURE);
+        }
+    }
+    Ok(ExitCode::SUCCESS)
 }

@@ -8,8 +8,8 @@ use std::fmt::Write;
 ///
 /// # Errors
 ///
-/// [`Error::NoField`] for a field whose line is refused, as where it nests too deep, with its index; [`Error::ReportTooLarge`];
-/// [`Error::OutOfMemory`].
+/// [`Error::Refused`] where the line of a field is refused, as where it nests too deep, at that line, which is 1 for the first field, and where the
+/// report would be too large; [`Error::OutOfMemory`].
 pub fn check_fields<'a>(
     fields: impl IntoIterator<Item = &'a Field>,
     options: Options,

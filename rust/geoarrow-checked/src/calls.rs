@@ -22,8 +22,10 @@ unsafe extern "C" {
         out_len: usize,
         len: *mut usize,
     ) -> u8;
-    fn geoarrow_check(
+    fn geoarrow_report(
         options: u8,
+        name: *const u8,
+        name_len: usize,
         bytes: *const u8,
         bytes_len: usize,
         out: *mut u8,
@@ -44,8 +46,8 @@ pub(crate) fn version() -> u32 {
     unsafe { geoarrow_version() }
 }
 
-// SAFETY, of the four calls below: the pointers and lengths are those of slices and of a `usize` that are borrowed for the call. None is null, and no
-// slice is longer than `isize::MAX`. `out` and `len` are borrowed mutably, so they overlap nothing, and nobody else uses them.
+// SAFETY, of the four calls below: the pointers and lengths are those of slices, of a text and of a `usize` that are borrowed for the call. None is null,
+// also of an empty one, and none of them is longer than `isize::MAX`. `out` and `len` are borrowed mutably, so they overlap nothing, and nobody else uses them.
 
 pub(crate) fn answer(command: u8, line: &[u8]) -> Result<Vec<u8>, Error> {
     filled(line.len(), |out, len| unsafe {
@@ -73,10 +75,12 @@ pub(crate) fn run(command: u8, input: &[u8]) -> Result<Vec<u8>, Error> {
     })
 }
 
-pub(crate) fn check(options: u8, bytes: &[u8]) -> Result<Vec<u8>, Error> {
-    filled(bytes.len(), |out, len| unsafe {
-        geoarrow_check(
+pub(crate) fn report(options: u8, name: &str, bytes: &[u8]) -> Result<Vec<u8>, Error> {
+    filled(bytes.len().saturating_add(name.len()), |out, len| unsafe {
+        geoarrow_report(
             options,
+            name.as_ptr(),
+            name.len(),
             bytes.as_ptr(),
             bytes.len(),
             out.as_mut_ptr(),
@@ -102,7 +106,7 @@ pub(crate) fn write_schema(lines: &[u8]) -> Result<Vec<u8>, Error> {
 const LEAST: usize = 1 << 12;
 const MOST: usize = 1 << 24;
 
-/// What a call writes into room that is large enough: it is called again where the first was not.
+/// What a call writes into room that is large enough: it is called again where the first was not, whether it answers or says why it refuses.
 fn filled(given: usize, call: impl Fn(&mut [u8], &mut usize) -> u8) -> Result<Vec<u8>, Error> {
     let mut size = LEAST + given.saturating_mul(2).min(MOST);
     loop {
@@ -111,13 +115,74 @@ fn filled(given: usize, call: impl Fn(&mut [u8], &mut usize) -> u8) -> Result<Ve
             .map_err(|_| Error::OutOfMemory)?;
         out.resize(size, 0);
         let mut len = 0;
-        match call(&mut out, &mut len) {
-            DONE => {
-                out.truncate(len);
-                return Ok(out);
-            }
-            SHORT => size = len,
-            status => return Err(error_of(status, len)),
+        let status = call(&mut out, &mut len);
+        if status == SHORT && len > size {
+            size = len;
+            continue;
         }
+        out.truncate(len);
+        return match status {
+            DONE => Ok(out),
+            other => Err(error_of(other, &out)),
+        };
+    }
+}
+
+#[cfg(test)]
+mod tests {
+    use super::{filled, DONE, LEAST, SHORT};
+    use crate::Error;
+    use std::cell::Cell;
+
+    /// What is made of a call that has this status and text, and how often it is called.
+    fn made(status: u8, text: &[u8]) -> (Result<Vec<u8>, Error>, usize) {
+        let calls = Cell::new(0);
+        let found = filled(0, |out, len| {
+            calls.set(calls.get() + 1);
+            *len = text.len();
+            match out.get_mut(..text.len()) {
+                Some(front) => front.copy_from_slice(text),
+                None => return SHORT,
+            }
+            status
+        });
+        (found, calls.get())
+    }
+
+    #[test]
+    fn an_answer_that_needs_more_room() {
+        for (size, times) in [(0, 1), (LEAST, 1), (LEAST + 1, 2), (9 * LEAST, 2)] {
+            let text = vec![b'a'; size];
+            assert_eq!(made(DONE, &text), (Ok(text), times));
+        }
+    }
+
+    #[test]
+    fn a_refusal_that_needs_more_room() {
+        for (size, times) in [(1, 1), (LEAST, 2), (9 * LEAST, 2)] {
+            let name = "n".repeat(size);
+            let line = format!(
+                "{{\"error\":\"EmptyFile\",\"file\":\"{name}\",\"message\":\"is empty\"}}\n"
+            );
+            let (Err(Error::Refused(fault)), called) = made(5, line.as_bytes()) else {
+                panic!("not refused");
+            };
+            assert_eq!((fault.file(), called), (Some(&*name), times));
+            assert_eq!(fault.as_json(), line.trim_end());
+        }
+    }
+
+    #[test]
+    fn a_refusal_that_is_not_read() {
+        assert_eq!(made(5, b"is empty\n"), (Err(Error::Other(5)), 1));
+        assert_eq!(made(5, &[0xff; 2 * LEAST]), (Err(Error::Other(5)), 2));
+    }
+
+    #[test]
+    fn other_statuses() {
+        assert_eq!(made(2, b""), (Err(Error::OutOfMemory), 1));
+        assert_eq!(made(4, b""), (Err(Error::Limit), 1));
+        assert_eq!(made(3, b""), (Err(Error::Other(3)), 1));
+        assert_eq!(made(SHORT, b""), (Err(Error::Other(1)), 1)); // (a call that asks for no more than it has)
     }
 }

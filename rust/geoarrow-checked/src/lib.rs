@@ -21,11 +21,14 @@
 
 mod calls;
 mod error;
+mod fault;
+mod members;
 
 #[cfg(feature = "arrow-schema")]
 pub mod arrow;
 
-pub use error::{Error, Rule};
+pub use error::Error;
+pub use fault::Fault;
 
 /// What is asked of a line.
 #[derive(Debug, Clone, Copy, PartialEq, Eq, Hash)]
@@ -73,10 +76,28 @@ pub struct Options {
 ///
 /// # Errors
 ///
-/// [`Error::EmptyFile`], [`Error::NoField`], [`Error::Parquet`], [`Error::Budget`] or [`Error::Broken`] where the bytes are refused;
-/// [`Error::ReportTooLarge`]; [`Error::OutOfMemory`].
+/// [`Error::Refused`], with why and where; [`Error::OutOfMemory`].
 pub fn check(bytes: &[u8], options: Options) -> Result<String, Error> {
-    calls::check(number_of(options), bytes).map(text)
+    check_named("", bytes, options)
+}
+
+/// The same, with the name of the file in each line, and in the [`Fault`] where the file is refused. An empty name is none.
+///
+/// ```
+/// use geoarrow_checked::{check_named, Error, Options};
+///
+/// let found = check_named("roads.jsonl", b"{\"name\":\"a\"}\n", Options::default());
+/// let Err(Error::Refused(fault)) = found else { panic!("the line is a field") };
+/// assert_eq!(fault.to_string(), "line 1: is JSON, but no field: \"nullable\" is neither true nor false");
+/// assert_eq!((fault.code(), fault.line()), ("LineNullable", Some(1)));
+/// assert_eq!(fault.file(), Some("roads.jsonl"));
+/// ```
+///
+/// # Errors
+///
+/// As [`check`].
+pub fn check_named(name: &str, bytes: &[u8], options: Options) -> Result<String, Error> {
+    calls::report(number_of(options), name, bytes).map(text)
 }
 
 /// The number of options (include/geoarrow.h).
@@ -89,13 +110,13 @@ fn number_of(options: Options) -> u8 {
 ///
 /// # Errors
 ///
-/// [`Error::NoField`] where a line is no column, [`Error::Column`] where no message can hold its type, [`Error::TooLarge`];
+/// [`Error::Refused`] where a line is no column, where no message can hold the type of a column, and where the message would be too large;
 /// [`Error::OutOfMemory`].
 pub fn write_schema(lines: &[u8]) -> Result<Vec<u8>, Error> {
     calls::write_schema(lines)
 }
 
-/// The version of the library that is linked, as 10000 for 1.0.0.
+/// The version of the library that is linked, as 20000 for 2.0.0.
 #[must_use]
 pub fn version() -> u32 {
     calls::version()

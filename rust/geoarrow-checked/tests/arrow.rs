@@ -2,7 +2,7 @@
 #![cfg(feature = "arrow-schema")]
 use arrow_schema::{DataType, Field, TimeUnit};
 use geoarrow_checked::arrow::{check_fields, field_line};
-use geoarrow_checked::Options;
+use geoarrow_checked::{Error, Options};
 
 fn field(name: &str, kind: DataType, nullable: bool) -> Field {
     Field::new(name, kind, nullable)
@@ -47,4 +47,21 @@ fn fields_of_a_schema() {
          {\"column\":\"p\",\"edges\":\"planar\",\"extension\":\"geoarrow.point\",\"index\":1,\"state\":\"geometry\",\"type\":\"point separated XY\"}\n\
          {\"column\":\"t\",\"index\":2,\"state\":\"plain\",\"type\":\"timestamp[s]\"}\n"
     );
+}
+
+#[test]
+fn a_field_that_nests_too_deep() {
+    let deep = (0..64).fold(DataType::Null, |inner, _| {
+        DataType::List(field("i", inner, true).into())
+    });
+    let fields = [
+        field("t", DataType::Utf8, true),
+        field("d", deep, true), // (of two levels of JSON for each of its own)
+    ];
+    match check_fields(&fields, Options::default()) {
+        Err(Error::Refused(fault)) => {
+            assert_eq!((fault.code(), fault.line()), ("LineNotJson", Some(2)));
+        }
+        other => panic!("not refused: {other:?}"),
+    }
 }

@@ -1,8 +1,8 @@
 //! The calls, on the repository's rows, files and streams.
 mod common;
 
-use common::{read, rows, rows_of};
-use geoarrow_checked::{answer, run, version, write_schema, Command, Error, Options, Rule};
+use common::{from_hex, read, refused, rows, rows_of};
+use geoarrow_checked::{answer, check_named, run, version, write_schema, Command, Error, Options};
 use std::thread;
 
 const TEXT: &str = r#"{"name":"t","nullable":true,"type":"utf8"}"#;
@@ -133,9 +133,13 @@ fn reports_of_files() {
             notes: args.contains("--notes"),
         };
         let bytes = read(&format!("crates/geoarrow_check/data/{file}"));
+        let named = check_named(file, &bytes, options).unwrap();
         let report = geoarrow_checked::check(&bytes, options).unwrap();
-        for line in report.lines() {
-            assert_eq!(line, without_file(wanted.next().unwrap()));
+        assert_eq!(named.lines().count(), report.lines().count());
+        for (named, line) in named.lines().zip(report.lines()) {
+            let wanted = wanted.next().unwrap();
+            assert_eq!(named, wanted);
+            assert_eq!(line, without_file(wanted));
         }
     }
     assert_eq!(wanted.next(), None);
@@ -171,30 +175,9 @@ fn types_that_are_inferred() {
 }
 
 #[test]
-fn refused_bytes() {
-    assert_eq!(
-        check(format!("{TEXT}\n{{}}\n").as_bytes(), false),
-        Err(Error::NoField(1))
-    );
-    assert_eq!(check(b"PAR1", false), Err(Error::Parquet));
-    assert_eq!(
-        check(b"ARROW1", false),
-        Err(Error::Broken(Rule::Envelope, 0))
-    );
-    let mut stream = write_schema(TEXT.as_bytes()).unwrap();
-    stream[8..12].copy_from_slice(&[0, 0, 0, 128]); // the root offset, which is the first of the message
-    assert_eq!(check(&stream, false), Err(Error::Broken(Rule::Offset, 0)));
-    assert_eq!(Error::NoField(1).to_string(), "line 2 is no field");
-    assert_eq!(
-        Error::Broken(Rule::Offset, 0).to_string(),
-        "byte 0: an offset that leads nowhere"
-    );
-}
-
-#[test]
 fn empty_input() {
     for empty in [&b""[..], b"\n", b" \t\r\n\n  "] {
-        assert_eq!(check(empty, true), Err(Error::EmptyFile));
+        assert_eq!(refused(check(empty, true)).code(), "EmptyFile");
     }
     assert_eq!(
         check(format!("\n{TEXT}\n \n").as_bytes(), false),
@@ -212,7 +195,7 @@ fn a_report_that_is_too_large() {
         [inside; 16].join(",") // each of their warnings has the long name in its path
     );
     let stream = write_schema(line.as_bytes()).unwrap();
-    assert!(check(&stream, false) == Err(Error::ReportTooLarge)); // (the other is long)
+    assert_eq!(refused(check(&stream, false)).code(), "ReportTooLarge");
 }
 
 #[test]
@@ -230,30 +213,22 @@ fn options_and_their_numbers() {
 }
 
 #[test]
-fn an_encrypted_file() {
-    let end = [&[0; 20][..], &20_u32.to_le_bytes(), b"PARE"].concat();
-    assert_eq!(
-        check(&[b"PARE", &end[..]].concat(), false),
-        Err(Error::Parquet)
-    );
-}
-
-#[test]
 fn the_place_in_an_arrow_file() {
     let whole = read("crates/geoarrow_check/data/file.arrow");
     for length in 6..whole.len() {
-        assert_eq!(
-            check(&whole[..length], false),
-            Err(Error::Broken(Rule::Envelope, length.saturating_sub(10)))
-        );
+        let fault = refused(check(&whole[..length], false));
+        assert_eq!(fault.code(), "IpcEnvelope");
+        assert_eq!(fault.byte(), Some(length.saturating_sub(10) as u64));
     }
     let (mut inside, size) = (0, whole.len() - 10);
     let footer = u32::from_le_bytes(whole[size..size + 4].try_into().unwrap()) as usize;
     for at in size - footer..size {
         let mut turned = whole.clone();
         turned[at] ^= 0x81;
-        if let Err(Error::Broken(_, place) | Error::Budget(place)) = check(&turned, false) {
+        if let Err(Error::Refused(fault)) = check(&turned, false) {
+            let place = fault.byte().unwrap() as usize;
             assert!((size - footer..=whole.len()).contains(&place)); // in the footer, where all of it stands
+            assert_eq!(fault.place(), Some(&*format!("byte {place}")));
             inside += 1;
         }
     }
@@ -272,23 +247,11 @@ fn rules_that_samples_break() {
         if !bytes.starts_with(head) {
             continue;
         }
-        let rule = String::from_utf8_lossy(rule.split(|byte| *byte == b' ').next().unwrap())
-            .to_lowercase();
-        match check(&bytes, false) {
-            Err(Error::Broken(found, _)) => assert_eq!(format!("{found:?}").to_lowercase(), rule),
-            Err(Error::Budget(_)) => assert_eq!("budget", rule),
-            other => panic!("{rule}: {other:?}"),
-        }
+        let rule = String::from_utf8_lossy(rule.split(|byte| *byte == b' ').next().unwrap());
+        assert_eq!(refused(check(&bytes, false)).code(), format!("Ipc{rule}"));
         compared += 1;
     }
     assert!(compared > 50);
-}
-
-fn from_hex(digits: &[u8]) -> Vec<u8> {
-    let text = std::str::from_utf8(digits).unwrap();
-    (0..text.len() / 2)
-        .map(|at| u8::from_str_radix(&text[2 * at..2 * at + 2], 16).unwrap())
-        .collect()
 }
 
 #[test]
@@ -316,22 +279,6 @@ fn streams_that_others_read() {
         compared += 1;
     }
     assert!(compared > 6);
-}
-
-#[test]
-fn schemas_that_are_not_written() {
-    assert_eq!(
-        write_schema(format!("{TEXT}\n{{}}").as_bytes()),
-        Err(Error::NoField(1))
-    );
-    assert_eq!(
-        write_schema(format!("{TEXT}\n{TEXT}\n{OTHER}").as_bytes()),
-        Err(Error::Column(2))
-    );
-    assert_eq!(
-        Error::Column(2).to_string(),
-        "column 2 has a type that no message can hold"
-    );
 }
 
 #[test]

@@ -1,5 +1,7 @@
 //! Where the repository's data are, and its rows (docs/TESTS.md).
 #![allow(dead_code)]
+use geoarrow_checked::{Error, Fault};
+use std::fmt::Debug;
 use std::fs;
 use std::path::{Path, PathBuf};
 
@@ -10,6 +12,21 @@ pub fn top() -> PathBuf {
 pub fn read(path: &str) -> Vec<u8> {
     let path = top().join(path);
     fs::read(&path).unwrap_or_else(|error| panic!("{}: {error}", path.display()))
+}
+
+pub fn from_hex(digits: &[u8]) -> Vec<u8> {
+    let text = std::str::from_utf8(digits).unwrap();
+    (0..text.len() / 2)
+        .map(|at| u8::from_str_radix(&text[2 * at..2 * at + 2], 16).unwrap())
+        .collect()
+}
+
+/// Why bytes are refused.
+pub fn refused<T: Debug>(found: Result<T, Error>) -> Fault {
+    match found {
+        Err(Error::Refused(fault)) => fault,
+        other => panic!("not refused: {other:?}"),
+    }
 }
 
 /// A row: the command, its text and the answer.

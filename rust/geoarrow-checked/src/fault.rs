@@ -1,0 +1,201 @@
+//! Why bytes are refused, as the library says it.
+use crate::members::{members, Value};
+use std::fmt::{self, Display, Formatter};
+use std::str;
+
+/// Why bytes are refused: a code, what is wrong, and the place, in the words of `geoarrow_check` (docs/FORMAT.md, 2.8). It is shown as that program
+/// shows it behind the name of a file: the place, if there is one, and what is wrong.
+#[derive(Debug, Clone, PartialEq, Eq, Hash)]
+pub struct Fault(Box<Said>);
+
+#[derive(Debug, Clone, PartialEq, Eq, Hash, Default)]
+struct Said {
+    json: String,
+    code: String,
+    message: String,
+    place: Option<String>,
+    file: Option<String>,
+    line: Option<u64>,
+    byte: Option<u64>,
+    element: Option<u64>,
+    column: Option<u64>,
+}
+
+/// The keys of a line.
+const KEYS: [&str; 8] = [
+    "byte", "column", "element", "error", "file", "line", "message", "place",
+];
+
+impl Fault {
+    /// The fault that a line denotes. A key that is unknown is passed over.
+    pub(crate) fn read(line: &[u8]) -> Option<Fault> {
+        let line = str::from_utf8(line).ok()?;
+        let json = line.strip_suffix('\n').unwrap_or(line);
+        let (mut code, mut message) = (None, None);
+        let mut said = Said::default();
+        for (key, value) in members(json)? {
+            match (key.as_str(), value) {
+                ("byte", Value::Number(number)) => said.byte = Some(number),
+                ("column", Value::Number(number)) => said.column = Some(number),
+                ("element", Value::Number(number)) => said.element = Some(number),
+                ("error", Value::Text(text)) => code = Some(text),
+                ("file", Value::Text(text)) => said.file = Some(text),
+                ("line", Value::Number(number)) => said.line = Some(number),
+                ("message", Value::Text(text)) => message = Some(text),
+                ("place", Value::Text(text)) => said.place = Some(text),
+                (known, _) if KEYS.contains(&known) => return None,
+                _ => {}
+            }
+        }
+        Some(Fault(Box::new(Said {
+            json: json.to_owned(),
+            code: code?,
+            message: message?,
+            ..said
+        })))
+    }
+
+    /// The code, which stands for this message alone, as `EmptyFile`.
+    #[must_use]
+    pub fn code(&self) -> &str {
+        &self.0.code
+    }
+
+    /// What is wrong.
+    #[must_use]
+    pub fn message(&self) -> &str {
+        &self.0.message
+    }
+
+    /// The place in words, as `byte 4 of the footer`; none where it is the file as a whole.
+    #[must_use]
+    pub fn place(&self) -> Option<&str> {
+        self.0.place.as_deref()
+    }
+
+    /// The number of the line, from 1.
+    #[must_use]
+    pub fn line(&self) -> Option<u64> {
+        self.0.line
+    }
+
+    /// The number of the byte: from 1 in a line, otherwise from 0, of what the place says.
+    #[must_use]
+    pub fn byte(&self) -> Option<u64> {
+        self.0.byte
+    }
+
+    /// The number of the element of the schema of a Parquet file, from 0.
+    #[must_use]
+    pub fn element(&self) -> Option<u64> {
+        self.0.element
+    }
+
+    /// The number of the column, from 0.
+    #[must_use]
+    pub fn column(&self) -> Option<u64> {
+        self.0.column
+    }
+
+    /// The name of the file, where one was given.
+    #[must_use]
+    pub fn file(&self) -> Option<&str> {
+        self.0.file.as_deref()
+    }
+
+    /// All of this as the line of JSON that `geoarrow_check --json` prints, without its line feed.
+    #[must_use]
+    pub fn as_json(&self) -> &str {
+        &self.0.json
+    }
+}
+
+impl Display for Fault {
+    fn fmt(&self, f: &mut Formatter<'_>) -> fmt::Result {
+        match self.place() {
+            Some(place) => write!(f, "{place}: {}", self.message()),
+            None => f.write_str(self.message()),
+        }
+    }
+}
+
+#[cfg(test)]
+mod tests {
+    use super::Fault;
+
+    /// With a value of its own at each key.
+    const WHOLE: &str = r#"{"byte":1,"column":2,"element":3,"error":"Four","file":"five","line":6,"message":"seven","place":"eight"}"#;
+    const LEAST: &str = r#"{"error":"EmptyFile","message":"is empty"}"#;
+
+    fn read(line: &str) -> Fault {
+        Fault::read(line.as_bytes()).unwrap()
+    }
+
+    #[test]
+    fn each_key_is_what_it_says() {
+        let fault = read(WHOLE);
+        let numbers = [fault.byte(), fault.column(), fault.element(), fault.line()];
+        assert_eq!(numbers, [1, 2, 3, 6].map(Some));
+        assert_eq!((fault.code(), fault.message()), ("Four", "seven"));
+        assert_eq!((fault.file(), fault.place()), (Some("five"), Some("eight")));
+        assert_eq!(fault.to_string(), "eight: seven");
+        assert_eq!(fault.as_json(), WHOLE);
+    }
+
+    #[test]
+    fn what_is_absent_is_none() {
+        let fault = read(LEAST);
+        let numbers = [fault.byte(), fault.column(), fault.element(), fault.line()];
+        assert_eq!(numbers, [None; 4]);
+        assert_eq!((fault.code(), fault.message()), ("EmptyFile", "is empty"));
+        assert_eq!((fault.file(), fault.place()), (None, None));
+        assert_eq!(fault.to_string(), "is empty");
+    }
+
+    #[test]
+    fn a_line_feed_and_the_order_are_not_looked_at() {
+        assert_eq!(read(&format!("{WHOLE}\n")), read(WHOLE));
+        let fault = read(r#"{"place":"p","message":"m","line":1,"error":"E"}"#);
+        assert_eq!((fault.code(), fault.line()), ("E", Some(1)));
+    }
+
+    #[test]
+    fn unknown_keys_are_passed_over() {
+        let more = r#"{"Error":"no","bytes":9,"error":"E","errors":"no","message":"m","place":"p","row":"\ud83d\uddfa"}"#;
+        let fault = read(more);
+        assert_eq!((fault.code(), fault.byte()), ("E", None));
+        assert_eq!(fault.to_string(), "p: m");
+        assert_eq!(fault.as_json(), more);
+    }
+
+    #[test]
+    fn texts_are_read_with_their_escapes() {
+        let fault = read(
+            r#"{"error":"E","file":"\ud83d\uddfa \"\\\/\u0007.json","message":"\"name\" is no text"}"#,
+        );
+        assert_eq!(fault.file(), Some("🗺 \"\\/\u{7}.json"));
+        assert_eq!(fault.message(), "\"name\" is no text");
+    }
+
+    #[test]
+    fn lines_that_are_none() {
+        for line in [
+            &b""[..],
+            b"\n",
+            b"{}\n",
+            b"is empty",
+            b"{\"error\":\"E\"}",
+            b"{\"message\":\"m\"}",
+            b"{\"error\":\"E\",\"message\":\"m\"}\n\n",
+            b"{\"error\":5,\"message\":\"m\"}",
+            b"{\"error\":\"E\",\"message\":5}",
+            b"{\"byte\":\"1\",\"error\":\"E\",\"message\":\"m\"}",
+            b"{\"error\":\"E\",\"line\":\"1\",\"message\":\"m\"}",
+            b"{\"error\":\"E\",\"file\":1,\"message\":\"m\"}",
+            b"{\"error\":\"E\",\"message\":\"m\",\"place\":1}",
+            b"{\"error\":\"E\",\"message\":\"\xff\"}",
+        ] {
+            assert_eq!(Fault::read(line), None, "{}", String::from_utf8_lossy(line));
+        }
+    }
+}
