@@ -8,7 +8,7 @@ use Rattle.column_check.specs.declared.walk.Sought.TheVariants.{Coordinates, Ext
 use Rattle.column_check.specs.declared.warning.Warning.{Warning}
 use Rattle.column_check.specs.declared.warning.WarningCode.{WarningCode}
 use Rattle.column_check.specs.declared.warning.WarningCode.TheVariants.{NestedGeometry}
-use Rattle.column_check.specs.declared.way.Way.{Way, SchemaColumn, Below'}
+use Rattle.column_check.specs.declared.way.Way.{Way, Column, Below'}
 use Rattle.column_check.specs.declared.way.Rest.{Rest}
 
 -- the code of the warnings of what is looked for
@@ -29,7 +29,7 @@ sought_warnings s t = at_each (code_of s) (sought_ways s t)
 
 -- the names on a way
 abbrev pub names_on : Way → Names
-names_on SchemaColumn = []
+names_on Column = []
 names_on (Below' p way name) = names_on way ++ name.now ∷ []
 
 -- a field itself is looked for

@@ -2,3 +2,4 @@ pub mod Marks
 pub mod Parts
 pub mod Blanks
 pub mod Rows
+pub mod Wanted

@@ -6,4 +6,6 @@ pub mod Shown
 pub mod Names
 pub mod Wants
 pub mod Counted
+pub mod Made
+pub mod Printed
 pub mod Table

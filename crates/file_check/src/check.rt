@@ -1,12 +1,15 @@
 //! The report of a file, by a source of its bytes.
 
+ghost use Rattle.std.specs.Prelude.{◌⊎◌, [], Some, IfOk};
+ghost use Rattle.file_check.specs.Printed.{IsAnswered, IsUnread, IsRead, IsCheckedFrom, IsChecked};
+
 use crate::asked::Asked;
 use crate::lines::check_lines;
 use crate::print::print_made;
 use crate::refusal::refuse;
 use crate::schema::made_of_end;
 use column_files::{
-    FileEnd, Form, LineColumns, ReadFault, form_of, read_head, read_schema_bytes, read_schema_end,
+    Form, LineColumns, ReadFault, form_of, read_head, read_schema_bytes, read_schema_end,
 };
 use std::alloc::Global;
 use std::io;
@@ -34,7 +37,9 @@ pub struct Answer {
 /// assert!(rt; answer.output.as_slice() == line.as_slice());
 /// assert_eq!(rt; answer.status, 2);
 /// ```
-pub fn check_bytes(alloc: Global, asked: &Asked, file: &str, bytes: &[u8]) -> io::Result<Answer> {
+pub fn check_bytes(alloc: Global, asked: &Asked, file: &str, bytes: &[u8]) -> io::Result<Answer>
+    ensures { IfOk result (λ answer. IsChecked asked.now file.now (Some bytes.now) (Some []) (Some answer.output.items) answer.status) }
+{
     let mut output = Vec::new(alloc);
     let mut errors = Vec::new(alloc);
     let status = check_source(alloc, asked, file, bytes, &mut output, &mut errors)?;
@@ -49,6 +54,9 @@ pub fn check_bytes(alloc: Global, asked: &Asked, file: &str, bytes: &[u8]) -> io
 /// message is read, of an Arrow or Parquet file all, and lines one after another. What is asked of
 /// it is printed on `out`, and what is said of it on `err`. Returns the status. Errs where a writer
 /// fails, and when out of memory.
+///
+/// The contract says of a file that has a schema exactly what `--json` prints, and the status
+/// whatever is printed; of lines it says neither.
 pub fn check_source<R: Read + Drop, W: Write, E: Write>(
     alloc: Global,
     asked: &Asked,
@@ -56,22 +64,59 @@ pub fn check_source<R: Read + Drop, W: Write, E: Write>(
     source: R,
     out: &mut W,
     err: &mut E,
-) -> io::Result<u8> {
+) -> io::Result<u8>
+    ensures { IfOk result (IsChecked asked.now file.now (R.remaining source) (W.contents out.old) (W.contents out.new)) }
+{
     let mut source = source;
-    let head = match read_head(alloc, &mut source) {
-        Ok(head) => head,
-        Err(fault) => return refuse(alloc, asked, file, Form::Lines, fault, out, err),
-    };
-    let form = form_of(head.as_slice());
-    if matches!(form, Form::Lines) {
-        let lines = LineColumns::new(alloc, head, source);
-        return check_lines(alloc, asked, file, lines, out, err);
+    match read_head(alloc, &mut source) {
+        Ok(head) => check_head(alloc, asked, file, head, source, out, err),
+        Err(fault) => refuse(alloc, asked, file, Form::Lines, fault, out, err),
     }
-    let read = match read_schema_bytes(form, head, &mut source) {
-        Ok(bytes) => Ok(FileEnd { start: 0, bytes }),
-        Err(fault) => Err(fault),
-    };
-    check_read(alloc, asked, file, form, read, out, err)
+}
+
+/// Reports a file by its first bytes, as `read_head` gives them, and a source of the rest.
+fn check_head<R: Read + Drop, W: Write, E: Write>(
+    alloc: Global,
+    asked: &Asked,
+    file: &str,
+    head: Vec<u8>,
+    source: R,
+    out: &mut W,
+    err: &mut E,
+) -> io::Result<u8>
+    ensures { IfOk result (IsCheckedFrom asked.now file.now head.items (R.remaining source) (W.contents out.old) (W.contents out.new)) }
+{
+    let form = form_of(head.as_slice());
+    match form {
+        Form::Lines => {
+            let lines = LineColumns::new(alloc, head, source);
+            check_lines(alloc, asked, file, lines, out, err)
+        }
+        Form::ArrowFile | Form::ArrowStream | Form::Parquet => {
+            check_schema(alloc, asked, file, form, head, source, out, err)
+        }
+    }
+}
+
+/// Reports a file that has a schema by its first bytes and a source of the rest.
+fn check_schema<R: Read + Drop, W: Write, E: Write>(
+    alloc: Global,
+    asked: &Asked,
+    file: &str,
+    form: Form,
+    head: Vec<u8>,
+    source: R,
+    out: &mut W,
+    err: &mut E,
+) -> io::Result<u8>
+    ensures { IfOk result (λ status. IsUnread asked.now file.now form (W.contents out.old) (W.contents out.new) status
+        ⊎ IsRead asked.now file.now form head.items (R.remaining source) (W.contents out.old) (W.contents out.new) status) }
+{
+    let mut source = source;
+    match read_schema_bytes(form, head, &mut source) {
+        Ok(bytes) => check_end(alloc, asked, file, form, 0, bytes.as_slice(), out, err),
+        Err(fault) => refuse(alloc, asked, file, form, fault, out, err),
+    }
 }
 
 /// Reports a file as [`check_source`] does, but of an Arrow or Parquet file only the end is read,
@@ -94,31 +139,11 @@ pub fn check_file<S: Read + Seek + Drop, W: Write, E: Write>(
         let lines = LineColumns::new(alloc, head, source);
         return check_lines(alloc, asked, file, lines, out, err);
     }
-    let read = read_schema_end(alloc, form, head, &mut source);
-    check_read(alloc, asked, file, form, read, out, err)
-}
-
-/// Reports a file in that format by what is read of it.
-fn check_read<W: Write, E: Write>(
-    alloc: Global,
-    asked: &Asked,
-    file: &str,
-    form: Form,
-    read: Result<FileEnd, ReadFault>,
-    out: &mut W,
-    err: &mut E,
-) -> io::Result<u8> {
-    match read {
-        Ok(end) => check_end(
-            alloc,
-            asked,
-            file,
-            form,
-            end.start,
-            end.bytes.as_slice(),
-            out,
-            err,
-        ),
+    match read_schema_end(alloc, form, head, &mut source) {
+        Ok(end) => {
+            let bytes = end.bytes.as_slice();
+            check_end(alloc, asked, file, form, end.start, bytes, out, err)
+        }
         Err(fault) => refuse(alloc, asked, file, form, fault, out, err),
     }
 }
@@ -133,7 +158,9 @@ fn check_end<W: Write, E: Write>(
     end: &[u8],
     out: &mut W,
     err: &mut E,
-) -> io::Result<u8> {
+) -> io::Result<u8>
+    ensures { IfOk result (IsAnswered asked.now file.now form start end.now (W.contents out.old) (W.contents out.new)) }
+{
     match made_of_end(alloc, asked, file, form, start, end) {
         Ok(made) => print_made(alloc, asked, file, made, out, err),
         Err(fault) => refuse(alloc, asked, file, form, ReadFault::File(fault), out, err),

@@ -1,5 +1,9 @@
 //! What is made of a file, as it is printed and said.
 
+ghost use Rattle.std.specs.Prelude.{◌≡◌, ◌⊎◌, IfOk};
+ghost use Rattle.file_check.specs.Asked.{output_of};
+ghost use Rattle.file_check.specs.Printed.{Prints};
+
 use crate::asked::{Asked, Output};
 use crate::counted::Counted;
 use crate::refusal::say;
@@ -36,7 +40,9 @@ pub(crate) fn print_made<W: Write, E: Write>(
     made: Made,
     out: &mut W,
     err: &mut E,
-) -> io::Result<u8> {
+) -> io::Result<u8>
+    ensures { IfOk result (Prints (output_of asked.now.flags) asked.now made (W.contents out.old) (W.contents out.new)) }
+{
     let Made {
         text,
         columns,
@@ -88,7 +94,9 @@ fn print_stream<W: Write, E: Write>(
     columns: Vec<SchemaColumn>,
     out: &mut W,
     err: &mut E,
-) -> io::Result<u8> {
+) -> io::Result<u8>
+    ensures { IfOk result (λ status. (status ≡ 0) ⊎ (status ≡ 2)) }
+{
     let schema = Schema {
         columns,
         metadata: BTreeMap::new(alloc),

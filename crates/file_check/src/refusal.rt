@@ -1,5 +1,10 @@
 //! Why a file is not reported, as it is printed and said.
 
+ghost use Rattle.std.specs.Prelude.{◌≡◌, IfOk, OnOk};
+ghost use Rattle.file_check.specs.Asked.{output_of};
+ghost use Rattle.file_check.specs.Printed.{PrintsFault, PrintsRefusal, fault_line};
+ghost use Rattle.std.specs.Io.KnownBytes.{Appends};
+
 use crate::asked::{Asked, Output};
 use crate::names::named;
 use crate::text::shown;
@@ -21,7 +26,10 @@ pub fn refuse<W: Write, E: Write>(
     fault: ReadFault,
     out: &mut W,
     err: &mut E,
-) -> io::Result<u8> {
+) -> io::Result<u8>
+    ensures status { IfOk result (λ status. status ≡ 2) }
+    ensures output { OnOk result (PrintsRefusal (output_of asked.now.flags) file.now form fault (W.contents out.old) (W.contents out.new)) }
+{
     match fault {
         ReadFault::Input(error) => {
             let words = format!(in alloc; "{error}")?;
@@ -45,7 +53,10 @@ fn refuse_for<W: Write, E: Write>(
     fault: &Fault,
     out: &mut W,
     err: &mut E,
-) -> io::Result<u8> {
+) -> io::Result<u8>
+    ensures status { IfOk result (λ status. status ≡ 2) }
+    ensures output { OnOk result (PrintsFault (output_of asked.now.flags) file.now fault.now (W.contents out.old) (W.contents out.new)) }
+{
     if matches!(asked.flags.output(), Output::Json) {
         print_fault(alloc, file, fault, out)?;
     }
@@ -55,7 +66,9 @@ fn refuse_for<W: Write, E: Write>(
 }
 
 /// Prints a fault as a line of JSON.
-fn print_fault<W: Write>(alloc: Global, file: &str, fault: &Fault, out: &mut W) -> io::Result<()> {
+fn print_fault<W: Write>(alloc: Global, file: &str, fault: &Fault, out: &mut W) -> io::Result<()>
+    ensures { OnOk result (Appends (W.contents out.old) (W.contents out.new) (fault_line file.now fault.now)) }
+{
     let mut line = fault_line(alloc, named(file), fault)?;
     line.push_str("\n")?;
     out.write_all(line.as_bytes())

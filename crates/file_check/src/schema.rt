@@ -1,7 +1,10 @@
 //! What is made of a file that has a schema, by the bytes that hold it.
-ghost use Rattle.std.specs.Prelude.{◌≡◌, IfOk, map, option_map};
+ghost use Rattle.std.specs.Prelude.{IfOk, IfErr, map};
 ghost use Rattle.arrow_values.specs.Texts.{text_of};
 ghost use Rattle.arrow_columns.specs.Column.{column_tree};
+ghost use Rattle.file_check.specs.Counted.{Counts, IsCounted};
+ghost use Rattle.file_check.specs.Made.{columns_in, failed_in, JsonReports, IsPastTable, MakesOf, Makes, MakesOfEnd};
+ghost use Rattle.file_check.specs.declared.asked.Output.TheVariants.{Json, Table};
 
 use crate::asked::{Asked, Output};
 use crate::checks::checked_text;
@@ -9,9 +12,9 @@ use crate::columns::row_of;
 use crate::counted::{Counted, found_in};
 use crate::names::named;
 use crate::print::{Made, named_table};
-use crate::table::{Row, row_bytes};
+use crate::table::row_bytes;
 use arrow_columns::SchemaColumn;
-use column_check::inspect_column;
+use column_check::inspect_columns;
 use column_files::{File, FileFault, Form, open_end};
 use column_reports::{
     Checked, Report, Summary, checked_columns, has_failed, report_budget, report_checked,
@@ -29,7 +32,9 @@ pub(crate) fn made_of_end(
     form: Form,
     start: u64,
     end: &[u8],
-) -> Result<Made, FileFault> {
+) -> Result<Made, FileFault>
+    ensures { MakesOfEnd asked.now file.now form start end.now result }
+{
     match open_end(alloc, form, start, end) {
         Ok(opened) => made_of(alloc, asked, file, opened, report_budget(end.len())),
         Err(fault) => Err(fault),
@@ -43,13 +48,15 @@ fn made_of(
     file: &str,
     opened: File<'_>,
     limit: u128,
-) -> Result<Made, FileFault> {
+) -> Result<Made, FileFault>
+    ensures { Makes asked.now file.now opened.entry.form limit (text_of opened.entry.geo) (map column_tree opened.entry.columns.items) result }
+{
     let File { form, columns, geo } = opened;
     let checked = checked_columns(alloc, geo, columns)?;
     match asked.flags.output() {
         Output::Json => made_json(alloc, asked, file, form, checked, limit),
         Output::Table => made_table(alloc, asked, file, form, checked, limit),
-        Output::Lines | Output::Ipc | Output::Nothing => made_columns(alloc, asked, checked),
+        Output::Lines | Output::Ipc | Output::Nothing => Ok(made_columns(alloc, asked, checked)?),
     }
 }
 
@@ -61,14 +68,11 @@ fn made_json(
     form: Form,
     checked: Checked,
     limit: u128,
-) -> Result<Made, FileFault> {
-    let infer = asked.flags.infer;
-    let found = found_in(
-        alloc,
-        asked.wants.as_slice(),
-        checked.columns.as_slice(),
-        infer,
-    )?;
+) -> Result<Made, FileFault>
+    ensures { MakesOf Json asked.now file.now form limit checked result }
+{
+    let columns = checked.columns.as_slice();
+    let found = found_in(alloc, asked.wants.as_slice(), columns, asked.flags.infer)?;
     match json_report(alloc, asked, file, form, checked, limit) {
         Ok(report) => Ok(Made {
             text: report.lines,
@@ -90,7 +94,9 @@ fn json_report(
     form: Form,
     checked: Checked,
     limit: u128,
-) -> Result<Report, FileFault> {
+) -> Result<Report, FileFault>
+    ensures { JsonReports asked.now.flags file.now form limit checked result }
+{
     let options = asked.flags.options();
     match form {
         Form::Parquet => {
@@ -103,29 +109,55 @@ fn json_report(
     }
 }
 
-/// What is made with `--lines`, `--ipc` or `--quiet`.
-fn made_columns(alloc: Global, asked: &Asked, checked: Checked) -> Result<Made, FileFault> {
-    let infer = asked.flags.infer;
+/// What is made with `--lines`, `--ipc` or `--quiet`: of these the columns are printed.
+fn made_columns(alloc: Global, asked: &Asked, checked: Checked) -> Result<Made, AllocError>
+    ensures { IfOk result (λ made. IsCounted asked.now (columns_in checked) (failed_in checked) made.counted) }
+{
     let Checked { columns, findings } = checked;
-    let found = found_in(alloc, asked.wants.as_slice(), columns.as_slice(), infer)?;
-    let mut summary = summary_of(alloc, columns.as_slice(), infer)?;
-    summary.add_checks(has_failed(&findings));
+    let counted = counted_of(alloc, asked, columns.as_slice(), has_failed(&findings))?;
     Ok(Made {
         text: String::new(alloc),
         columns,
-        counted: Counted { summary, found },
+        counted,
     })
 }
 
-/// What counts of columns.
-fn summary_of(alloc: Global, columns: &[SchemaColumn], infer: bool) -> Result<Summary, AllocError> {
-    let mut scratch = Scratch::new(alloc);
-    let mut summary = Summary::new();
-    for column in columns {
-        let finding = inspect_column(alloc, &mut scratch, column, infer)?;
-        summary.add(&finding);
-    }
-    Ok(summary)
+/// What counts of columns, and of whether one of their checks does not hold.
+fn counted_of(
+    alloc: Global,
+    asked: &Asked,
+    columns: &[SchemaColumn],
+    has_failed: bool,
+) -> Result<Counted, AllocError>
+    ensures { IfOk result (IsCounted asked.now (map column_tree columns.now) has_failed) }
+{
+    let infer = asked.flags.infer;
+    let found = found_in(alloc, asked.wants.as_slice(), columns, infer)?;
+    let summary = summary_of(alloc, columns, infer, has_failed)?;
+    Ok(Counted { summary, found })
+}
+
+/// The summary of columns, and of whether one of their checks does not hold.
+fn summary_of(
+    alloc: Global,
+    columns: &[SchemaColumn],
+    infer: bool,
+    has_failed: bool,
+) -> Result<Summary, AllocError>
+    ensures { IfOk result (Counts infer (map column_tree columns.now) has_failed) }
+{
+    let findings = inspect_columns(alloc, columns, infer)?;
+    Ok(Summary {
+        has_invalid: findings
+            .as_slice()
+            .iter()
+            .any(|finding| finding.is_invalid()),
+        has_geometry: findings
+            .as_slice()
+            .iter()
+            .any(|finding| finding.is_geometry()),
+        has_failed,
+    })
 }
 
 /// What is made for people.
@@ -136,66 +168,52 @@ fn made_table(
     form: Form,
     checked: Checked,
     limit: u128,
-) -> Result<Made, FileFault> {
+) -> Result<Made, FileFault>
+    ensures { MakesOf Table asked.now file.now form limit checked result }
+{
     let Checked { columns, findings } = checked;
-    let found = found_in(
-        alloc,
-        asked.wants.as_slice(),
-        columns.as_slice(),
-        asked.flags.infer,
-    )?;
-    match rows_of(alloc, asked, columns, limit) {
-        Ok(rows) => {
-            let mut summary = rows.summary;
-            summary.add_checks(has_failed(&findings));
-            let checks = checks_of(alloc, asked, form, &findings, summary.has_geometry)?;
-            let text = bounded_table(alloc, asked, file, &rows, checks.as_str(), limit)?;
-            Ok(Made {
-                text,
-                columns: Vec::new(alloc),
-                counted: Counted { summary, found },
-            })
-        }
+    let counted = counted_of(alloc, asked, columns.as_slice(), has_failed(&findings))?;
+    let has_geometry = counted.summary.has_geometry;
+    let checks = checks_of(alloc, asked, form, &findings, has_geometry)?;
+    match table_of(alloc, asked, file, columns, checks.as_str(), limit) {
+        Ok(text) => Ok(Made {
+            text,
+            columns: Vec::new(alloc),
+            counted,
+        }),
         Err(fault) => Err(fault),
     }
 }
 
-/// The rows of columns.
-#[derive(Drop)]
-struct Rows {
-    rows: Vec<Row>,
-    /// How many bytes their texts have.
-    size: u128,
-    /// What counts of the columns.
-    summary: Summary,
-}
-
-/// The rows of columns, whose texts have at most that many bytes.
-fn rows_of(
+/// The table of columns, with the checks behind it, where both have at most that many bytes.
+fn table_of(
     alloc: Global,
     asked: &Asked,
+    file: &str,
     columns: Vec<SchemaColumn>,
+    checks: &str,
     limit: u128,
-) -> Result<Rows, FileFault> {
+) -> Result<String, FileFault>
+    ensures { IfErr result IsPastTable }
+{
     let mut scratch = Scratch::new(alloc);
     let mut rows = Vec::new(alloc);
     let mut size = 0_u128;
-    let mut summary = Summary::new();
     for column in columns {
         let said = report_column(alloc, &mut scratch, column, asked.flags.options())?;
-        summary.add(&said.finding);
         let row = row_of(alloc, &said)?;
         size = size.saturating_add(row_bytes(&row) as u128);
+        rows.push(row)?;
         if size > limit {
             return Err(FileFault::ReportTooLarge);
         }
-        rows.push(row)?;
     }
-    Ok(Rows {
-        rows,
-        size,
-        summary,
-    })
+    if size.saturating_add(checks.len() as u128) > limit {
+        return Err(FileFault::ReportTooLarge);
+    }
+    let mut text = named_table(alloc, asked, file, rows.as_slice())?;
+    text.push_str(checks)?;
+    Ok(text)
 }
 
 /// The checks of a Parquet file in words.
@@ -210,21 +228,4 @@ fn checks_of(
         Form::Parquet => checked_text(alloc, findings, has_geometry, asked.flags.all_checks),
         Form::ArrowFile | Form::ArrowStream | Form::Lines => Ok(String::new(alloc)),
     }
-}
-
-/// The table of rows, with the checks behind it, where both have at most that many bytes.
-fn bounded_table(
-    alloc: Global,
-    asked: &Asked,
-    file: &str,
-    rows: &Rows,
-    checks: &str,
-    limit: u128,
-) -> Result<String, FileFault> {
-    if rows.size.saturating_add(checks.len() as u128) > limit {
-        return Err(FileFault::ReportTooLarge);
-    }
-    let mut text = named_table(alloc, asked, file, rows.rows.as_slice())?;
-    text.push_str(checks)?;
-    Ok(text)
 }
