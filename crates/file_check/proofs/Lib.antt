@@ -3,3 +3,4 @@ pub mod Parts
 pub mod Blanks
 pub mod Rows
 pub mod Wanted
+pub mod Made

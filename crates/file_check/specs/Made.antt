@@ -57,6 +57,11 @@ abbrev pub IsNotMade : Output → Asked → Text → Form → ℕ → Checked �
 IsNotMade Json asked file form limit checked fault = (fault ≡ OutOfMemory) ⊎ JsonReports asked.flags file form limit checked (Err fault)
 IsNotMade output asked file form limit checked fault = IsPastTable fault
 
+-- what a call answers of columns with their checks where no JSON is printed; for private clauses
+abbrev pub MakesOtherwise : Asked → Checked → Result Made FileFault → Type 0
+MakesOtherwise asked checked (Ok made) = IsCounted asked (columns_in checked) (failed_in checked) made.counted
+MakesOtherwise asked checked (Err fault) = IsPastTable fault
+
 -- what a call answers of columns with their checks
 abbrev pub MakesOf : Output → Asked → Text → Form → ℕ → Checked → Result Made FileFault → Type 0
 MakesOf output asked file form limit checked (Ok made) = IsMade output asked file form limit checked made

@@ -1,7 +1,8 @@
 //! What counts of a file for the status.
 ghost use Rattle.std.specs.Prelude.{◌≡◌, IfOk, map, string_bytes};
+ghost use Rattle.std.specs.List.{list_any};
 ghost use Rattle.arrow_columns.specs.Column.{column_tree};
-ghost use Rattle.file_check.specs.Wants.{IsFoundIn, AreFoundIn};
+ghost use Rattle.file_check.specs.Wants.{is_unmet, IsFoundIn, AreFoundIn};
 ghost use Rattle.file_check.specs.Counted.{misses, status_of};
 
 use crate::asked::{Asked, Want};
@@ -27,8 +28,8 @@ impl Counted {
     fn is_unmet(&self, asked: &Asked) -> bool
         ensures { result ≡ misses asked.now.flags self.now }
     {
-        let is_missed = self.found.as_slice().iter().any(|found| found.is_unmet());
-        is_missed || (asked.flags.require_geometry && !self.summary.has_geometry)
+        is_one_unmet(self.found.as_slice())
+            || (asked.flags.require_geometry && !self.summary.has_geometry)
     }
 
     /// The status of the file, where all of it is reported.
@@ -56,6 +57,13 @@ impl Counted {
         }
         Ok(())
     }
+}
+
+/// Whether one of some expectations is not met.
+fn is_one_unmet(found: &[Found]) -> bool
+    ensures { result ≡ list_any is_unmet found.now }
+{
+    found.iter().any(|found| found.is_unmet())
 }
 
 /// What is found of each expectation in columns.

@@ -175,14 +175,25 @@ impl<'a> LineReport<'a> {
 
     /// What is made of all lines, and not written yet.
     fn made(self) -> Result<Made, AllocError> {
-        let text = match self.asked.flags.output() {
-            Output::Table => named_table(self.alloc, self.asked, self.file, self.rows.as_slice())?,
-            _ => self.text,
+        let LineReport {
+            alloc,
+            asked,
+            file,
+            scratch: _,
+            text,
+            rows,
+            columns,
+            counted,
+            count: _,
+        } = self;
+        let text = match asked.flags.output() {
+            Output::Table => named_table(alloc, asked, file, rows.as_slice())?,
+            Output::Json | Output::Lines | Output::Ipc | Output::Nothing => text,
         };
         Ok(Made {
             text,
-            columns: self.columns,
-            counted: self.counted,
+            columns,
+            counted,
         })
     }
 }

@@ -1,10 +1,12 @@
 //! What is made of a file that has a schema, by the bytes that hold it.
-ghost use Rattle.std.specs.Prelude.{IfOk, IfErr, map};
+ghost use Rattle.std.specs.Prelude.{◌≡◌, IfOk, IfErr, map};
+ghost use Rattle.std.specs.List.{list_any};
 ghost use Rattle.arrow_values.specs.Texts.{text_of};
 ghost use Rattle.arrow_columns.specs.Column.{column_tree};
+ghost use Rattle.column_check.specs.States.{is_invalid, is_geometry};
 ghost use Rattle.file_check.specs.Counted.{Counts, IsCounted};
-ghost use Rattle.file_check.specs.Made.{columns_in, failed_in, JsonReports, IsPastTable, MakesOf, Makes, MakesOfEnd};
-ghost use Rattle.file_check.specs.declared.asked.Output.TheVariants.{Json, Table};
+ghost use Rattle.file_check.specs.Made.{JsonReports, IsPastTable, MakesOf, MakesOtherwise, Makes, MakesOfEnd};
+ghost use Rattle.file_check.specs.declared.asked.Output.TheVariants.{Json};
 
 use crate::asked::{Asked, Output};
 use crate::checks::checked_text;
@@ -14,7 +16,7 @@ use crate::names::named;
 use crate::print::{Made, named_table};
 use crate::table::row_bytes;
 use arrow_columns::SchemaColumn;
-use column_check::inspect_columns;
+use column_check::{Finding, inspect_columns};
 use column_files::{File, FileFault, Form, open_end};
 use column_reports::{
     Checked, Report, Summary, checked_columns, has_failed, report_budget, report_checked,
@@ -35,8 +37,9 @@ pub(crate) fn made_of_end(
 ) -> Result<Made, FileFault>
     ensures { MakesOfEnd asked.now file.now form start end.now result }
 {
+    let limit = report_budget(end.len());
     match open_end(alloc, form, start, end) {
-        Ok(opened) => made_of(alloc, asked, file, opened, report_budget(end.len())),
+        Ok(opened) => made_of(alloc, asked, file, opened, limit),
         Err(fault) => Err(fault),
     }
 }
@@ -53,11 +56,10 @@ fn made_of(
 {
     let File { form, columns, geo } = opened;
     let checked = checked_columns(alloc, geo, columns)?;
-    match asked.flags.output() {
-        Output::Json => made_json(alloc, asked, file, form, checked, limit),
-        Output::Table => made_table(alloc, asked, file, form, checked, limit),
-        Output::Lines | Output::Ipc | Output::Nothing => Ok(made_columns(alloc, asked, checked)?),
+    if asked.flags.is_json() {
+        return made_json(alloc, asked, file, form, checked, limit);
     }
+    made_otherwise(alloc, asked, file, form, checked, limit)
 }
 
 /// What is made with `--json`.
@@ -109,9 +111,28 @@ fn json_report(
     }
 }
 
+/// What is made without `--json`: a table, or the columns that are printed or counted.
+fn made_otherwise(
+    alloc: Global,
+    asked: &Asked,
+    file: &str,
+    form: Form,
+    checked: Checked,
+    limit: u128,
+) -> Result<Made, FileFault>
+    ensures { MakesOtherwise asked.now checked result }
+{
+    match asked.flags.output() {
+        Output::Table => made_table(alloc, asked, file, form, checked, limit),
+        Output::Json | Output::Lines | Output::Ipc | Output::Nothing => {
+            made_columns(alloc, asked, checked)
+        }
+    }
+}
+
 /// What is made with `--lines`, `--ipc` or `--quiet`: of these the columns are printed.
-fn made_columns(alloc: Global, asked: &Asked, checked: Checked) -> Result<Made, AllocError>
-    ensures { IfOk result (λ made. IsCounted asked.now (columns_in checked) (failed_in checked) made.counted) }
+fn made_columns(alloc: Global, asked: &Asked, checked: Checked) -> Result<Made, FileFault>
+    ensures { MakesOtherwise asked.now checked result }
 {
     let Checked { columns, findings } = checked;
     let counted = counted_of(alloc, asked, columns.as_slice(), has_failed(&findings))?;
@@ -147,17 +168,34 @@ fn summary_of(
     ensures { IfOk result (Counts infer (map column_tree columns.now) has_failed) }
 {
     let findings = inspect_columns(alloc, columns, infer)?;
-    Ok(Summary {
-        has_invalid: findings
-            .as_slice()
-            .iter()
-            .any(|finding| finding.is_invalid()),
-        has_geometry: findings
-            .as_slice()
-            .iter()
-            .any(|finding| finding.is_geometry()),
+    Ok(summary_in(findings.as_slice(), has_failed))
+}
+
+/// The summary of what is said of columns, and of whether one of their checks does not hold.
+fn summary_in(findings: &[Finding], has_failed: bool) -> Summary
+    ensures invalid { result.has_invalid ≡ list_any is_invalid findings.now }
+    ensures geometry { result.has_geometry ≡ list_any is_geometry findings.now }
+    ensures failed { result.has_failed ≡ has_failed }
+{
+    Summary {
+        has_invalid: is_one_invalid(findings),
+        has_geometry: is_one_geometry(findings),
         has_failed,
-    })
+    }
+}
+
+/// Whether one of some columns is invalid.
+fn is_one_invalid(findings: &[Finding]) -> bool
+    ensures { result ≡ list_any is_invalid findings.now }
+{
+    findings.iter().any(|finding| finding.is_invalid())
+}
+
+/// Whether one of some columns holds geometries by its extension name.
+fn is_one_geometry(findings: &[Finding]) -> bool
+    ensures { result ≡ list_any is_geometry findings.now }
+{
+    findings.iter().any(|finding| finding.is_geometry())
 }
 
 /// What is made for people.
@@ -169,7 +207,7 @@ fn made_table(
     checked: Checked,
     limit: u128,
 ) -> Result<Made, FileFault>
-    ensures { MakesOf Table asked.now file.now form limit checked result }
+    ensures { MakesOtherwise asked.now checked result }
 {
     let Checked { columns, findings } = checked;
     let counted = counted_of(alloc, asked, columns.as_slice(), has_failed(&findings))?;
