@@ -1,29 +1,10 @@
 //! What the words ask.
 use crate::command::command;
-use crate::flags::Flags;
+use crate::flags::flags_of;
 use clap::error::ErrorKind;
 use clap::{ArgMatches, Error};
+use file_check::{Asked, Want};
 use std::alloc::{AllocError, Global};
-
-/// What is asked.
-#[derive(Debug, Drop)]
-pub struct Asked {
-    /// Which options that stand alone there are.
-    pub flags: Flags,
-    /// What columns are expected to hold.
-    pub wants: Vec<Want>,
-    /// The files, `-` for standard input.
-    pub files: Vec<String>,
-}
-
-/// What a column is expected to hold.
-#[derive(Debug, Drop)]
-pub struct Want {
-    /// The name of the column.
-    pub column: String,
-    /// The parts of what it is to hold, with commas between them.
-    pub want: String,
-}
 
 /// What is said in place of a report.
 #[derive(Debug, Drop)]
@@ -106,7 +87,7 @@ fn asked_of(alloc: Global, matches: &ArgMatches<'_>) -> Result<Result<Asked, Str
     for word in matches.get_strs("FILE").unwrap_or(&[]) {
         files.push(String::from_str(alloc, word)?)?;
     }
-    let flags = Flags::of(matches);
+    let flags = flags_of(matches);
     if flags.ipc && files.len() > 1 {
         return Ok(Err(String::from_str(alloc, "--ipc takes one file")?));
     }

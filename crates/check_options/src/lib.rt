@@ -5,5 +5,4 @@ mod asked;
 mod command;
 mod flags;
 
-pub use asked::{Asked, Said, Want, asked_by};
-pub use flags::{Flags, Output};
+pub use asked::{Said, asked_by};

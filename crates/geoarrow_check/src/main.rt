@@ -1,44 +1,39 @@
 //! The program: says what each column of the files that it is given holds, in a table or as lines of JSON.
 #![tactic(auto)]
 
-mod report;
-mod source;
-
-use crate::report::Report;
-use crate::source::{Failure, report_columns};
-use check_options::{Asked, Said, asked_by};
-use column_files::{ReadFault, fault_of, long_line};
+use check_options::{Said, asked_by};
+use column_files::{Form, ReadFault};
+use file_check::{Asked, check_file, check_source, refuse};
 use std::io::{ErrorKind, Write};
 use std::process::ExitCode;
-use std::{env, io};
+use std::{env, fs, io};
 
 /// The status where nobody reads the output any more, as that of other tools: 128, and the number
 /// of the signal SIGPIPE.
 const UNREAD: u8 = 141;
 
-/// Reports a file on standard output; or says on standard error why it cannot be read. Returns the status.
+/// Reports a file on standard output; or says on standard error why it cannot be read. `-` is
+/// standard input. Returns the status.
 fn check(rt: &HostRuntime, file: &str, asked: &Asked) -> io::Result<u8> {
-    let mut report = Report::new(rt.alloc(), file, asked)?;
-    print_report(rt, file, &mut report)
-}
-
-/// Prints the report of a file, as `check` does.
-fn print_report(rt: &HostRuntime, file: &str, report: &mut Report<'_>) -> io::Result<u8> {
-    match report_columns(rt, file, report) {
-        Ok(()) => return report.finish(rt),
-        Err(Failure::Output(error)) => return Err(error),
-        Err(Failure::Input(ReadFault::Input(error))) => {
-            report.write_before(rt)?;
-            report.say(rt, format!(in rt.alloc(); "{error}")?.as_str())?;
-        }
-        Err(Failure::Input(ReadFault::LongLine(before))) => {
-            report.refuse(rt, &long_line(before))?;
-        }
-        Err(Failure::Input(ReadFault::File(fault))) => {
-            report.refuse(rt, &fault_of(report.form(), fault))?;
+    let (mut out, mut err) = (rt.stdout(), rt.stderr());
+    if file == "-" {
+        return check_source(rt.alloc(), asked, file, rt.stdin(), &mut out, &mut err);
+    }
+    match fs::File::open(rt, file) {
+        Ok(source) => check_file(rt.alloc(), asked, file, source, &mut out, &mut err),
+        Err(error) => {
+            let fault = ReadFault::Input(error);
+            refuse(
+                rt.alloc(),
+                asked,
+                file,
+                Form::Lines,
+                fault,
+                &mut out,
+                &mut err,
+            )
         }
     }
-    Ok(2)
 }
 
 /// Does what the words ask. Returns the status.

@@ -1,0 +1,6 @@
+pub mod Marks
+pub mod Parts
+pub mod Blanks
+pub mod Rows
+pub mod Wanted
+pub mod Made

@@ -1,0 +1,42 @@
+-- What is said of a column, as a row of a table.
+use Rattle.std.specs.Prelude.{List, [], ◌++◌, codes, map, None, Some}
+use Rattle.std.specs.Option.{unwrap_or}
+use Rattle.arrow_values.specs.Tree.{Text}
+use Rattle.arrow_columns.specs.Column.{ColumnTree, column_tree, name_on}
+use Rattle.column_check.specs.declared.finding.Finding.{Finding as ColumnFinding}
+use Rattle.column_check.specs.declared.finding.Finding.TheVariants.{Geometry, Invalid, Extension, Inferred, Plain}
+use Rattle.column_check.specs.States.{geometry_in}
+use Rattle.column_reports.specs.Reasons.{words_of}
+use Rattle.column_reports.specs.Report.{type_word, edges_of}
+use Rattle.column_reports.specs.Warnings.{warning_words}
+use Rattle.column_reports.specs.declared.report.ColumnReport.{ColumnReport}
+use Rattle.file_check.specs.Table.{Line, cut}
+use Rattle.file_check.specs.Crs.{crs_of_geometry}
+use Rattle.file_check.specs.Shown.{shown}
+
+-- the name of a column's extension type, or nothing
+abbrev pub extension_word : ColumnTree → Text
+extension_word c = unwrap_or (name_on c) []
+
+-- what a column holds
+abbrev pub held : ColumnTree → ColumnFinding → Text
+held c (Geometry g) = type_word c (Some g)
+held c (Inferred g) = codes "taken for " ++ type_word c (Some g)
+held c Plain = shown (type_word c None)
+held c (Invalid r) = codes "invalid " ++ shown (extension_word c)
+held c Extension = codes "extension " ++ shown (extension_word c)
+
+-- the reasons of an invalid column
+abbrev pub reasons_in : ColumnFinding → List Text
+reasons_in (Invalid r) = words_of r
+reasons_in f = []
+
+-- the row: the column's name, what it holds, of geometries their CRS and edges, in cells that are cut; and as notes the reasons and the warnings
+abbrev pub row_of : ColumnReport → Line
+row_of r = record {
+  name = cut (shown (column_tree r.column).name);
+  holds = cut (held (column_tree r.column) r.finding);
+  crs = crs_of_geometry (geometry_in r.finding);
+  edges = unwrap_or (edges_of (geometry_in r.finding)) [];
+  notes = map shown (reasons_in r.finding ++ map warning_words r.warnings.items);
+}

@@ -1,0 +1,11 @@
+pub mod Asked
+pub mod Checks
+pub mod Columns
+pub mod Crs
+pub mod Shown
+pub mod Names
+pub mod Wants
+pub mod Counted
+pub mod Made
+pub mod Printed
+pub mod Table

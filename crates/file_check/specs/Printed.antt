@@ -1,0 +1,111 @@
+-- What is printed of a file, and the status.
+use Rattle.std.specs.Prelude.{◌≡◌, ◌⊎◌, ◌+◌, ◌++◌, ℕ, ⊤, List, [], ◌∷◌, Option, Some, None, Result, Ok, Err, codes, string_bytes}
+use Rattle.std.specs.Io.KnownBytes.{Appends}
+use Rattle.json.specs.Print.{print}
+use Rattle.json.specs.Tree.{json_tokens}
+use Rattle.arrow_values.specs.Tree.{Text}
+use Rattle.column_files.specs.Forms.{IsForm}
+use Rattle.column_files.specs.ReadErrors.{IsReadError}
+use Rattle.column_files.specs.Reading.{GivesSchema}
+use Rattle.column_files.specs.Refusals.{fault_code, fault_message, fault_place, long_line_code, long_line_message, behind}
+use Rattle.column_files.specs.Sources.{GivesUpTo}
+use Rattle.column_files.specs.declared.columns.FileFault.{FileFault}
+use Rattle.column_files.specs.declared.fault.ReadFault.{ReadFault}
+use Rattle.column_files.specs.declared.fault.ReadFault.TheVariants.{Input, LongLine, File}
+use Rattle.column_files.specs.declared.form.Form.{Form}
+use Rattle.column_files.specs.declared.form.Form.TheVariants.{Lines}
+use Rattle.column_files.specs.declared.refusal.Fault.{Fault}
+use Rattle.column_files.specs.declared.refusal.Place.TheVariants as places
+use Rattle.column_reports.specs.Faults.{fault_report}
+use Rattle.file_check.specs.Asked.{output_of}
+use Rattle.file_check.specs.Counted.{status_of}
+use Rattle.file_check.specs.Made.{MakesOfEnd}
+use Rattle.file_check.specs.Names.{name_of}
+use Rattle.file_check.specs.declared.asked.Asked.{Asked}
+use Rattle.file_check.specs.declared.asked.Output.{Output}
+use Rattle.file_check.specs.declared.asked.Output.TheVariants.{Json, Ipc}
+use Rattle.file_check.specs.declared.print.Made.{Made}
+
+-- ---- a file that is refused
+
+-- the code, what is wrong and the place of a fault of a file in that format; those of a line that is too long, behind so many
+pub record IsFaultOf (form : Form) (fault : FileFault) (f : Fault) : Type 0 where
+  pub code : f.code.now ≡ fault_code fault
+  pub message : f.message.now ≡ fault_message fault
+  pub place : f.place ≡ fault_place form fault
+
+pub record IsLongLine (before : ℕ) (f : Fault) : Type 0 where
+  pub code : f.code.now ≡ long_line_code
+  pub message : f.message.now ≡ long_line_message
+  pub place : f.place ≡ places.Line (behind before)
+
+-- the line of a fault, with its line feed
+abbrev pub fault_line : Text → Fault → Text
+fault_line file f = print (json_tokens (fault_report (name_of file) f)) ++ codes "\n"
+
+-- what is printed where a file is refused: with --json its fault, unless the system did not give it
+abbrev pub PrintsFault : Output → Text → Fault → Option (List ℕ) → Option (List ℕ) → Type 0
+PrintsFault Json file f old new = Appends old new (fault_line file f)
+PrintsFault output file f old new = ⊤
+
+abbrev pub PrintsRefusal : Output → Text → Form → ReadFault → Option (List ℕ) → Option (List ℕ) → Type 0
+PrintsRefusal output file form (Input error) old new = new ≡ old
+PrintsRefusal output file form (LongLine before) old new = (f : Fault) × IsLongLine before f × PrintsFault output file f old new
+PrintsRefusal output file form (File fault) old new = (f : Fault) × IsFaultOf form fault f × PrintsFault output file f old new
+
+-- ---- a file that is reported
+
+-- what is printed of what is made, and the status: with --json its text, and no more; with --ipc the status is 2 where no message holds the columns
+abbrev pub Prints : Output → Asked → Made → Option (List ℕ) → Option (List ℕ) → ℕ → Type 0
+Prints Json asked made old new status = Appends old new (string_bytes made.text) × (status ≡ status_of asked.flags made.counted)
+Prints Ipc asked made old new status = (status ≡ status_of asked.flags made.counted) ⊎ (status ≡ 2)
+Prints output asked made old new status = status ≡ status_of asked.flags made.counted
+
+-- of the end of a file in that format, before which so many bytes stand: it is reported, or refused
+pub record IsReported (asked : Asked) (file : Text) (form : Form) (start : ℕ) (end : List ℕ) (old new : Option (List ℕ)) (status : ℕ) : Type 0 where
+  pub made : Made
+  pub is : MakesOfEnd asked file form start end (Ok made)
+  pub prints : Prints (output_of asked.flags) asked made old new status
+
+pub record IsRefused (asked : Asked) (file : Text) (form : Form) (start : ℕ) (end : List ℕ) (old new : Option (List ℕ)) (status : ℕ) : Type 0 where
+  pub fault : FileFault
+  pub is : MakesOfEnd asked file form start end (Err fault)
+  pub prints : PrintsRefusal (output_of asked.flags) file form (File fault) old new
+  pub status_is : status ≡ 2
+
+abbrev pub IsAnswered : Asked → Text → Form → ℕ → List ℕ → Option (List ℕ) → Option (List ℕ) → ℕ → Type 0
+IsAnswered asked file form start end old new status = IsReported asked file form start end old new status ⊎ IsRefused asked file form start end old new status
+
+-- ---- a source
+
+-- the source fails before the file is told or read: with --json nothing is printed but that memory is lacking
+pub record IsUnread (asked : Asked) (file : Text) (form : Form) (old new : Option (List ℕ)) (status : ℕ) : Type 0 where
+  pub fault : ReadFault
+  pub is : IsReadError fault
+  pub prints : PrintsRefusal (output_of asked.flags) file form fault old new
+  pub status_is : status ≡ 2
+
+-- behind the first bytes the source gives those that belong to the schema, and what both have is reported or refused
+pub record IsRead (asked : Asked) (file : Text) (form : Form) (head : List ℕ) (rest old new : Option (List ℕ)) (status : ℕ) : Type 0 where
+  pub more : List ℕ
+  pub left : Option (List ℕ)
+  pub gives : GivesSchema form head rest left more
+  pub answered : IsAnswered asked file form 0 (head ++ more) old new status
+
+-- a source with these first bytes, and the rest behind them: of lines nothing is said here
+abbrev pub IsCheckedIn : Form → Asked → Text → List ℕ → Option (List ℕ) → Option (List ℕ) → Option (List ℕ) → ℕ → Type 0
+IsCheckedIn Lines asked file head rest old new status = ⊤
+IsCheckedIn form asked file head rest old new status = IsUnread asked file form old new status ⊎ IsRead asked file form head rest old new status
+
+abbrev pub IsCheckedFrom : Asked → Text → List ℕ → Option (List ℕ) → Option (List ℕ) → Option (List ℕ) → ℕ → Type 0
+IsCheckedFrom asked file head rest old new status = (form : Form) × IsForm head form × IsCheckedIn form asked file head rest old new status
+
+-- a source of these bytes, where they are known: its first eight bytes tell the format
+pub record IsTold (asked : Asked) (file : Text) (bytes old new : Option (List ℕ)) (status : ℕ) : Type 0 where
+  pub head : List ℕ
+  pub rest : Option (List ℕ)
+  pub gives : GivesUpTo 8 bytes rest head
+  pub is : IsCheckedFrom asked file head rest old new status
+
+abbrev pub IsChecked : Asked → Text → Option (List ℕ) → Option (List ℕ) → Option (List ℕ) → ℕ → Type 0
+IsChecked asked file bytes old new status = IsUnread asked file Lines old new status ⊎ IsTold asked file bytes old new status

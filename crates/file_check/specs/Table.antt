@@ -1,0 +1,70 @@
+-- The table of the columns of a file, as text.
+use Rattle.std.specs.Prelude.{ℕ, ◌-◌, max, List, [], ◌∷◌, ◌++◌, length, replicate, take, nat_lt, codes, map, flat_map, string_bytes, if◌then◌else◌}
+use Rattle.std.specs.Str.{chars, encode_utf8_all, trim_end}
+use Rattle.arrow_values.specs.Tree.{Text}
+use Rattle.file_check.specs.declared.table.Row.{Row}
+use Rattle.file_check.specs.declared.table.Rooms.{Rooms}
+
+-- the cells of a line, and the notes below it
+pub record Line : Type 0 where
+  pub name : Text
+  pub holds : Text
+  pub crs : Text
+  pub edges : Text
+  pub notes : List Text
+
+abbrev pub line_of : Row → Line
+line_of row = record {
+  name = string_bytes row.name;
+  holds = string_bytes row.holds;
+  crs = string_bytes row.crs;
+  edges = string_bytes row.edges;
+  notes = map string_bytes row.notes.items;
+}
+
+-- the line at the head
+abbrev pub head : Line
+head = record { name = codes "column"; holds = codes "holds"; crs = codes "CRS"; edges = codes "edges"; notes = [] }
+
+-- how many characters a text has
+abbrev pub width : Text → ℕ
+width text = length (chars text)
+
+-- a text as a cell, which has at most 40 characters: of a longer one the first 38, and two points
+abbrev pub cut : Text → Text
+cut text = if nat_lt 40 (width text) then encode_utf8_all (take 38 (chars text)) ++ codes ".." else text
+
+-- the width of the widest of some cells
+abbrev pub widest : List Text → ℕ
+widest [] = 0
+widest (cell ∷ cells) = max (width cell) (widest cells)
+
+-- how wide the columns of the table are: each as wide as its widest cell
+abbrev pub rooms_of : List Line → Rooms
+rooms_of lines = record {
+  name = widest (map (λ line. line.name) lines);
+  holds = widest (map (λ line. line.holds) lines);
+  crs = widest (map (λ line. line.crs) lines);
+}
+
+-- a cell with blanks behind it: as many as it lacks to the width of its column, and two
+abbrev pub padded : ℕ → Text → Text
+padded room cell = cell ++ (replicate (room - width cell) 32 ++ codes "  ")
+
+-- a line without the blanks at its end
+abbrev pub trimmed : Text → Text
+trimmed text = trim_end text ++ codes "\n"
+
+abbrev pub note_text : Text → Text
+note_text note = codes "    " ++ trimmed note
+
+-- a line: its cells below those of the other lines, and its notes
+abbrev pub cells_text : Rooms → Line → Text
+cells_text rooms line = padded rooms.name line.name ++ (padded rooms.holds line.holds ++ (padded rooms.crs line.crs ++ line.edges))
+
+abbrev pub line_text : Rooms → Line → Text
+line_text rooms line = trimmed (cells_text rooms line) ++ flat_map note_text line.notes
+
+-- the head, and the lines below it
+abbrev pub table_text : List Line → Text
+table_text lines = flat_map (line_text (rooms_of (head ∷ lines))) (head ∷ lines)

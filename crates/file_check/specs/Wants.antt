@@ -1,0 +1,93 @@
+-- What a column is expected to hold, and what is not met of it.
+use Rattle.std.specs.Prelude.{◌≡◌, ◌⊎◌, ◌==◌, ⊤, Bool, true, false, option_map, string_bytes, List, [], ◌∷◌, ◌++◌, length, codes, Option, None, Some, if◌then◌else◌}
+use Rattle.std.specs.List.{All, slice_split}
+use Rattle.arrow_values.specs.Tree.{Text}
+use Rattle.arrow_columns.specs.Column.{ColumnTree}
+use Rattle.geoarrow_layout.specs.declared.native_kinds.Kind.{Kind}
+use Rattle.geoarrow_layout.specs.declared.native_kinds.Kind.TheVariants.{Wkb, Wkt}
+use Rattle.geoarrow_layout.specs.Kinds.{coord_type_of, dimension_of}
+use Rattle.geoarrow_layout.specs.KindWords.{kind_word, coord_type_word, dimension_word}
+use Rattle.column_check.specs.Finding.{IsFinding}
+use Rattle.column_check.specs.States.{geometry_in}
+use Rattle.column_check.specs.declared.finding.Finding.{Finding as ColumnFinding}
+use Rattle.column_check.specs.declared.finding.Geometry.{Geometry as GeometryColumn}
+use Rattle.file_check.specs.declared.asked.Want.{Want}
+use Rattle.column_reports.specs.Report.{kind_text}
+use Rattle.file_check.specs.declared.wants.Found.{Found}
+use Rattle.file_check.specs.declared.wants.Found.TheVariants.{NoColumn, Looked}
+use Rattle.file_check.specs.Crs.{crs_of_geometry}
+use Rattle.file_check.specs.Shown.{shown}
+
+-- the parts of an expectation stand between commas
+abbrev pub parts_of : Text → List Text
+parts_of want = slice_split (λ b. b == 44) want
+
+-- the word of an encoding
+abbrev pub encoding_word : Kind → Text
+encoding_word (Wkb w) = codes "WKB"
+encoding_word (Wkt w) = codes "WKT"
+encoding_word k = codes "native"
+
+-- a part is met by the CRS of geometries, their encoding, their kind, their coordinate type or their dimension
+abbrev pub Meets : GeometryColumn → Text → Type 0
+Meets g part = (part ≡ crs_of_geometry (Some g)) ⊎ ((part ≡ encoding_word g.kind) ⊎ ((part ≡ kind_word g.kind) ⊎ ((part ≡ coord_type_word (coord_type_of g.kind)) ⊎ (part ≡ dimension_word (dimension_of g.kind)))))
+
+-- what is said where a column holds no geometries
+abbrev pub no_geometries : Text → Text
+no_geometries name = codes "column " ++ (shown name ++ codes " holds no geometries")
+
+-- what is said of a part that is not met
+abbrev pub crs_or_none : Text → Text
+crs_or_none crs = if length crs == 0 then codes "no CRS" else crs
+
+abbrev pub unmet : Text → GeometryColumn → Text → Text
+unmet name g part = codes "column " ++ (shown name ++ (codes " is not " ++ (shown part ++ (codes ": " ++ (kind_text g.kind ++ (codes ", " ++ crs_or_none (crs_of_geometry (Some g))))))))
+
+-- what is said of the first part that is not met
+abbrev pub IsUnmet : Text → GeometryColumn → List Text → Option Text → Type 0
+IsUnmet name g [] said = said ≡ None
+IsUnmet name g (part ∷ parts) said = (Meets g part × IsUnmet name g parts said) ⊎ ((Meets g part → ⊥) × (said ≡ Some (unmet name g part)))
+
+-- what is said of a column of that name that is expected to hold this, if it does not
+abbrev pub IsUnmetText : Text → Option GeometryColumn → Text → Option Text → Type 0
+IsUnmetText name None want said = said ≡ Some (no_geometries name)
+IsUnmetText name (Some g) want said = IsUnmet name g (parts_of want) said
+
+-- what was found of a column that was looked at, by what is said of it where types are inferred or not
+abbrev pub IsLooked : Bool → Text → ColumnTree → Found → Type 0
+IsLooked infer want c (Looked said) = (f : ColumnFinding) × IsFinding infer c f × IsUnmetText c.name (geometry_in f) want (option_map string_bytes said)
+IsLooked infer want c NoColumn = ⊥
+
+-- what is found of an expectation once one more column is looked at: only the first column of the name counts; for private clauses
+abbrev pub IsFound : Bool → Text → Text → ColumnTree → Found → Found → Type 0
+IsFound infer name want c (Looked said) new = new ≡ Looked said
+IsFound infer name want c NoColumn new = ((c.name ≡ name → ⊥) × (new ≡ NoColumn)) ⊎ ((c.name ≡ name) × IsLooked infer want c new)
+
+-- the first of the columns that has the name
+pub record IsFirstNamed (name : Text) (cs : List ColumnTree) (c : ColumnTree) : Type 0 where
+  pub before : List ColumnTree
+  pub rest : List ColumnTree
+  pub are : cs ≡ before ++ c ∷ rest
+  pub others : All (λ b. b.name ≡ name → ⊥) before
+  pub name_is : c.name ≡ name
+
+-- what is found of an expectation once all of the columns were looked at
+abbrev pub IsFoundIn : Bool → Text → Text → List ColumnTree → Found → Type 0
+IsFoundIn infer name want cs NoColumn = All (λ c. c.name ≡ name → ⊥) cs
+IsFoundIn infer name want cs (Looked said) = (c : ColumnTree) × IsFirstNamed name cs c × IsLooked infer want c (Looked said)
+
+abbrev pub AreFoundIn : Bool → List Want → List ColumnTree → List Found → Type 0
+AreFoundIn infer [] cs [] = ⊤
+AreFoundIn infer (w ∷ ws) cs (f ∷ fs) = IsFoundIn infer (string_bytes w.column) (string_bytes w.want) cs f × AreFoundIn infer ws cs fs
+AreFoundIn infer ws cs fs = ⊥
+
+-- the expectation is not met: no column has the name, or something is said of the first that has it
+abbrev pub is_unmet : Found → Bool
+is_unmet NoColumn = true
+is_unmet (Looked None) = false
+is_unmet (Looked (Some said)) = true
+
+-- what is said of it once all columns were looked at, if it is not met
+abbrev pub said_of : Text → Found → Option Text
+said_of name NoColumn = Some (codes "no column " ++ shown name)
+said_of name (Looked said) = option_map string_bytes said

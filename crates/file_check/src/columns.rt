@@ -1,0 +1,148 @@
+//! What is said of a column, as a row of a table.
+ghost use Rattle.std.specs.Prelude.{◌≡◌, ◌++◌, [], None, Some, IfOk, OnOk, map, option_map, string_bytes};
+ghost use Rattle.std.specs.Option.{unwrap_or};
+ghost use Rattle.arrow_columns.specs.Column.{column_tree};
+ghost use Rattle.column_check.specs.States.{geometry_in};
+ghost use Rattle.column_reports.specs.Report.{edges_of};
+ghost use Rattle.column_reports.specs.Warnings.{warning_words};
+ghost use Rattle.file_check.specs.Table.{line_of, cut};
+ghost use Rattle.file_check.specs.Columns.{extension_word, held, reasons_in, row_of};
+ghost use Rattle.file_check.specs.Crs.{crs_of_geometry};
+ghost use Rattle.file_check.specs.Shown.{shown};
+
+use crate::cell::cut;
+use crate::crs::crs_name;
+use crate::table::Row;
+use crate::text::shown;
+use arrow_columns::SchemaColumn;
+use column_check::{Finding, Geometry, Warning};
+use column_reports::{ColumnReport, reason_words, type_word, warning_words};
+use std::alloc::{AllocError, Global};
+
+/// Returns the row of a column: its name; the kind, coordinate type and dimension of geometries, or
+/// the type of another column, and `invalid` or `extension` with the extension name; the CRS and the
+/// edges of geometries; and below it the reasons and the warnings (`docs/FORMAT.md`, 2.5 to 2.7).
+/// Cells are cut by [`cut`], and control characters are shown as `?`. Errs only when out of memory.
+pub fn row_of(alloc: Global, report: &ColumnReport) -> Result<Row, AllocError>
+    ensures { IfOk result (λ row. line_of row ≡ row_of report.now) }
+{
+    let finding = &report.finding;
+    Ok(Row {
+        name: name_cell(alloc, &report.column)?,
+        holds: held_cell(alloc, &report.column, finding)?,
+        crs: crs_of(alloc, finding.geometry())?,
+        edges: edges_of(alloc, finding.geometry())?,
+        notes: notes_of(alloc, finding, report.warnings.as_slice())?,
+    })
+}
+
+/// The name of a column, as a cell.
+fn name_cell(alloc: Global, column: &SchemaColumn) -> Result<String, AllocError>
+    ensures { IfOk result (λ cell. string_bytes cell ≡ cut (shown (string_bytes column.now.name))) }
+{
+    let name = shown(alloc, column.name.as_str())?;
+    cut(alloc, name.as_str())
+}
+
+/// What a column holds, as a cell.
+fn held_cell(alloc: Global, column: &SchemaColumn, finding: &Finding) -> Result<String, AllocError>
+    ensures { IfOk result (λ cell. string_bytes cell ≡ cut (held (column_tree column.now) finding.now)) }
+{
+    let held = held(alloc, column, finding)?;
+    cut(alloc, held.as_str())
+}
+
+/// What a column holds.
+fn held(alloc: Global, column: &SchemaColumn, finding: &Finding) -> Result<String, AllocError>
+    ensures { IfOk result (λ text. string_bytes text ≡ held (column_tree column.now) finding.now) }
+{
+    match finding {
+        Finding::Geometry(geometry) => type_word(alloc, column, Some(geometry)),
+        Finding::Inferred(geometry) => {
+            let word = type_word(alloc, column, Some(geometry))?;
+            joined(alloc, "taken for ", word.as_str())
+        }
+        Finding::Plain => {
+            let word = type_word(alloc, column, None)?;
+            shown(alloc, word.as_str())
+        }
+        Finding::Invalid(_) => extension_shown(alloc, "invalid ", column),
+        Finding::Extension => extension_shown(alloc, "extension ", column),
+    }
+}
+
+/// A word, and the extension name of a column.
+fn extension_shown(alloc: Global, word: &str, column: &SchemaColumn) -> Result<String, AllocError>
+    ensures { IfOk result (λ text. string_bytes text ≡ word.now ++ shown (extension_word (column_tree column.now))) }
+{
+    let name = shown(alloc, column.extension_type_name().unwrap_or(""))?;
+    joined(alloc, word, name.as_str())
+}
+
+/// Two texts, one behind the other.
+fn joined(alloc: Global, one: &str, other: &str) -> Result<String, AllocError>
+    ensures { IfOk result (λ text. string_bytes text ≡ one.now ++ other.now) }
+{
+    let mut text = String::from_str(alloc, one)?;
+    text.push_str(other)?;
+    Ok(text)
+}
+
+/// The CRS of geometries.
+pub(crate) fn crs_of(alloc: Global, geometry: Option<&Geometry>) -> Result<String, AllocError>
+    ensures { IfOk result (λ text. string_bytes text ≡ crs_of_geometry (option_map (λ g. g.now) geometry.entry)) }
+{
+    match geometry {
+        Some(geometry) => crs_name(alloc, geometry.metadata.crs.as_ref()),
+        None => Ok(String::new(alloc)),
+    }
+}
+
+/// How the edges of geometries run, which are planar where none are named.
+fn edges_of(alloc: Global, geometry: Option<&Geometry>) -> Result<String, AllocError>
+    ensures { IfOk result (λ text. string_bytes text ≡ unwrap_or (edges_of (option_map (λ g. g.now) geometry.entry)) []) }
+{
+    match geometry {
+        Some(geometry) => match geometry.metadata.edges {
+            Some(edges) => String::from_str(alloc, edges.as_text()),
+            None => String::from_str(alloc, "planar"),
+        },
+        None => Ok(String::new(alloc)),
+    }
+}
+
+/// The reasons of an invalid column.
+fn reasons_in(alloc: Global, finding: &Finding) -> Result<Vec<String>, AllocError>
+    ensures { IfOk result (λ words. map string_bytes words.items ≡ reasons_in finding.now) }
+{
+    match finding {
+        Finding::Invalid(reasons) => reason_words(alloc, reasons),
+        _ => Ok(Vec::new(alloc)),
+    }
+}
+
+/// The reasons and the warnings of a column.
+fn notes_of(
+    alloc: Global,
+    finding: &Finding,
+    warnings: &[Warning],
+) -> Result<Vec<String>, AllocError>
+    ensures { IfOk result (λ notes. map string_bytes notes.items ≡ map shown (reasons_in finding.now ++ map warning_words warnings.now)) }
+{
+    let reasons = reasons_in(alloc, finding)?;
+    let warned = warning_words(alloc, warnings)?;
+    let mut notes = Vec::new(alloc);
+    add_shown(alloc, &mut notes, reasons.as_slice())?;
+    add_shown(alloc, &mut notes, warned.as_slice())?;
+    Ok(notes)
+}
+
+/// Adds texts as they are shown.
+fn add_shown(alloc: Global, notes: &mut Vec<String>, words: &[String]) -> Result<(), AllocError>
+    ensures { OnOk result (map string_bytes notes.new.items ≡ map string_bytes notes.old.items ++ map shown (map string_bytes words.now)) }
+{
+    for word in words {
+        notes.push(shown(alloc, word.as_str())?)?;
+    }
+    Ok(())
+}

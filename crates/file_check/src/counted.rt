@@ -1,0 +1,101 @@
+//! What counts of a file for the status.
+ghost use Rattle.std.specs.Prelude.{◌≡◌, IfOk, map, string_bytes};
+ghost use Rattle.std.specs.List.{list_any};
+ghost use Rattle.arrow_columns.specs.Column.{column_tree};
+ghost use Rattle.file_check.specs.Wants.{is_unmet, IsFoundIn, AreFoundIn};
+ghost use Rattle.file_check.specs.Counted.{misses, status_of};
+
+use crate::asked::{Asked, Want};
+use crate::refusal::say;
+use crate::wants::Found;
+use arrow_columns::SchemaColumn;
+use column_reports::Summary;
+use json::Scratch;
+use std::alloc::{AllocError, Global};
+use std::io;
+use std::io::Write;
+
+/// What counts of a file for the status: of its columns and checks, and what is found of each
+/// expectation.
+#[derive(Debug, Drop)]
+pub(crate) struct Counted {
+    pub(crate) summary: Summary,
+    pub(crate) found: Vec<Found>,
+}
+
+impl Counted {
+    /// Whether what is asked of the file is not met.
+    fn is_unmet(&self, asked: &Asked) -> bool
+        ensures { result ≡ misses asked.now.flags self.now }
+    {
+        is_one_unmet(self.found.as_slice())
+            || (asked.flags.require_geometry && !self.summary.has_geometry)
+    }
+
+    /// The status of the file, where all of it is reported.
+    pub(crate) fn status(&self, asked: &Asked) -> u8
+        ensures { result ≡ status_of asked.now.flags self.now }
+    {
+        self.summary.status(self.is_unmet(asked))
+    }
+
+    /// Says on standard error what is asked of the file and not met.
+    pub(crate) fn say_unmet<E: Write>(
+        &self,
+        alloc: Global,
+        asked: &Asked,
+        file: &str,
+        err: &mut E,
+    ) -> io::Result<()> {
+        for (want, found) in asked.wants.iter().zip(self.found.iter()) {
+            if let Some(said) = found.said(alloc, want.column.as_str())? {
+                say(alloc, file, said.as_str(), err)?;
+            }
+        }
+        if asked.flags.require_geometry && !self.summary.has_geometry {
+            say(alloc, file, "no column of geometries", err)?;
+        }
+        Ok(())
+    }
+}
+
+/// Whether one of some expectations is not met.
+fn is_one_unmet(found: &[Found]) -> bool
+    ensures { result ≡ list_any is_unmet found.now }
+{
+    found.iter().any(|found| found.is_unmet())
+}
+
+/// What is found of each expectation in columns.
+pub(crate) fn found_in(
+    alloc: Global,
+    wants: &[Want],
+    columns: &[SchemaColumn],
+    infer: bool,
+) -> Result<Vec<Found>, AllocError>
+    ensures { IfOk result (λ found. AreFoundIn infer wants.now (map column_tree columns.now) found.items) }
+{
+    let mut scratch = Scratch::new(alloc);
+    let mut found = Vec::new(alloc);
+    for want in wants {
+        found.push(found_of(alloc, &mut scratch, want, columns, infer)?)?;
+    }
+    Ok(found)
+}
+
+/// What is found of an expectation in columns.
+fn found_of(
+    alloc: Global,
+    scratch: &mut Scratch,
+    want: &Want,
+    columns: &[SchemaColumn],
+    infer: bool,
+) -> Result<Found, AllocError>
+    ensures { IfOk result (IsFoundIn infer (string_bytes want.now.column) (string_bytes want.now.want) (map column_tree columns.now)) }
+{
+    let mut found = Found::NoColumn;
+    for column in columns {
+        found.look_at(alloc, scratch, want, column, infer)?;
+    }
+    Ok(found)
+}

@@ -1,0 +1,32 @@
+//! The report of a file as people and programs are given it: [`check_source`] and [`check_file`] print
+//! what its columns hold, as lines of JSON or as a table, say why it is refused or what is asked of it
+//! and not met, and return the status; [`check_bytes`] does so of bytes. Beside them the words: of
+//! columns as rows and as their table, of checks, and of expectations.
+#![tactic(auto)]
+
+mod asked;
+mod cell;
+mod check;
+mod checks;
+mod columns;
+mod counted;
+mod crs;
+mod lines;
+mod names;
+mod print;
+mod refusal;
+mod schema;
+mod table;
+mod text;
+mod wants;
+
+pub use asked::{Asked, Flags, Output, Want};
+pub use cell::cut;
+pub use check::{Answer, check_bytes, check_file, check_source};
+pub use checks::checked_text;
+pub use columns::row_of;
+pub use crs::crs_name;
+pub use refusal::refuse;
+pub use table::{Row, table_text};
+pub use text::shown;
+pub use wants::{Found, unmet_text};

@@ -1,0 +1,199 @@
+//! The report of lines, of which one at a time is kept.
+
+use crate::asked::{Asked, Output};
+use crate::columns::row_of;
+use crate::counted::Counted;
+use crate::names::named;
+use crate::print::{KEPT_BYTES, Made, named_table, print_made, push_line};
+use crate::refusal::refuse;
+use crate::table::{Row, row_bytes};
+use crate::wants::Found;
+use arrow_columns::SchemaColumn;
+use column_check::inspect_column;
+use column_files::{FileFault, Form, LineColumns, MAX_LINE_BYTES, ReadFault, column_line};
+use column_reports::{ColumnReport, Summary, json_line, report_budget, report_column};
+use json::Scratch;
+use std::alloc::{AllocError, Global};
+use std::io;
+use std::io::{Read, Write};
+
+/// What is made of lines so far.
+#[derive(Drop)]
+struct LineReport<'a> {
+    alloc: Global,
+    asked: &'a Asked,
+    /// The name of the file.
+    file: &'a str,
+    scratch: Scratch,
+    /// What is not written yet.
+    text: String,
+    rows: Vec<Row>,
+    /// The columns for a stream.
+    columns: Vec<SchemaColumn>,
+    counted: Counted,
+    /// How many columns there are.
+    count: usize,
+}
+
+/// Reports the lines of a source, of which the first bytes are read. Returns the status.
+pub(crate) fn check_lines<R: Read + Drop, W: Write, E: Write>(
+    alloc: Global,
+    asked: &Asked,
+    file: &str,
+    lines: LineColumns<R>,
+    out: &mut W,
+    err: &mut E,
+) -> io::Result<u8> {
+    let mut report = LineReport::new(alloc, asked, file)?;
+    match report.add_all(lines, out)? {
+        None => print_made(alloc, asked, file, report.made()?, out, err),
+        Some(fault) => {
+            report.write(out)?;
+            refuse(alloc, asked, file, Form::Lines, fault, out, err)
+        }
+    }
+}
+
+impl<'a> LineReport<'a> {
+    /// The report of lines none of which is read yet.
+    fn new(alloc: Global, asked: &'a Asked, file: &'a str) -> Result<Self, AllocError> {
+        let found = asked.wants.iter().map(|_| Found::NoColumn).collect(alloc)?;
+        Ok(LineReport {
+            alloc,
+            asked,
+            file,
+            scratch: Scratch::new(alloc),
+            text: String::new(alloc),
+            rows: Vec::new(alloc),
+            columns: Vec::new(alloc),
+            counted: Counted {
+                summary: Summary::new(),
+                found,
+            },
+            count: 0,
+        })
+    }
+
+    /// Adds the columns of all lines, and writes what is to be printed of them as it grows. Returns
+    /// why the lines are not read to their end.
+    fn add_all<R: Read + Drop, W: Write>(
+        &mut self,
+        lines: LineColumns<R>,
+        out: &mut W,
+    ) -> io::Result<Option<ReadFault>> {
+        let mut lines = lines;
+        for _ in 0..u64::MAX {
+            let column = match lines.next_column() {
+                Ok(Some(column)) => column,
+                Ok(None) => return Ok(None),
+                Err(fault) => return Ok(Some(fault)),
+            };
+            if let Err(fault) = self.add(column) {
+                return Ok(Some(ReadFault::File(fault)));
+            }
+            if self.text.len() >= KEPT_BYTES {
+                self.write(out)?;
+            }
+        }
+        // No source gives so many lines.
+        Ok(Some(ReadFault::File(FileFault::OutOfMemory)))
+    }
+
+    /// Adds a column.
+    fn add(&mut self, column: SchemaColumn) -> Result<(), FileFault> {
+        self.expect(&column)?;
+        match self.asked.flags.output() {
+            Output::Json => self.add_json(column)?,
+            Output::Table => self.add_row(column)?,
+            Output::Lines => {
+                self.inspect(&column)?;
+                let line = column_line(self.alloc, column)?;
+                push_line(&mut self.text, line.as_str())?;
+            }
+            Output::Ipc => {
+                self.inspect(&column)?;
+                self.columns.push(column)?;
+            }
+            Output::Nothing => self.inspect(&column)?,
+        }
+        self.count = self.count.saturating_add(1);
+        Ok(())
+    }
+
+    /// Looks at a column for each expectation.
+    fn expect(&mut self, column: &SchemaColumn) -> Result<(), AllocError> {
+        let infer = self.asked.flags.infer;
+        for (want, found) in self.asked.wants.iter().zip(self.counted.found.iter_mut()) {
+            found.look_at(self.alloc, &mut self.scratch, want, column, infer)?;
+        }
+        Ok(())
+    }
+
+    /// Looks at what a column holds.
+    fn inspect(&mut self, column: &SchemaColumn) -> Result<(), AllocError> {
+        let infer = self.asked.flags.infer;
+        let finding = inspect_column(self.alloc, &mut self.scratch, column, infer)?;
+        self.counted.summary.add(&finding);
+        Ok(())
+    }
+
+    /// Adds the row of a column.
+    fn add_row(&mut self, column: SchemaColumn) -> Result<(), FileFault> {
+        let said = self.report(column)?;
+        let row = row_of(self.alloc, &said)?;
+        if row_bytes(&row) as u128 > report_budget(MAX_LINE_BYTES) {
+            return Err(FileFault::ReportTooLarge);
+        }
+        Ok(self.rows.push(row)?)
+    }
+
+    /// Adds the line of JSON of a column.
+    fn add_json(&mut self, column: SchemaColumn) -> Result<(), FileFault> {
+        let said = self.report(column)?;
+        let file = named(self.file);
+        let line = json_line(self.alloc, &mut self.scratch, file, self.count, &said)?;
+        if line.len() as u128 >= report_budget(MAX_LINE_BYTES) {
+            return Err(FileFault::ReportTooLarge);
+        }
+        Ok(push_line(&mut self.text, line.as_str())?)
+    }
+
+    /// What is said of a column.
+    fn report(&mut self, column: SchemaColumn) -> Result<ColumnReport, AllocError> {
+        let options = self.asked.flags.options();
+        let said = report_column(self.alloc, &mut self.scratch, column, options)?;
+        self.counted.summary.add(&said.finding);
+        Ok(said)
+    }
+
+    /// Writes what is not written yet.
+    fn write<W: Write>(&mut self, out: &mut W) -> io::Result<()> {
+        out.write_all(self.text.as_bytes())?;
+        self.text.clear();
+        Ok(())
+    }
+
+    /// What is made of all lines, and not written yet.
+    fn made(self) -> Result<Made, AllocError> {
+        let LineReport {
+            alloc,
+            asked,
+            file,
+            scratch: _,
+            text,
+            rows,
+            columns,
+            counted,
+            count: _,
+        } = self;
+        let text = match asked.flags.output() {
+            Output::Table => named_table(alloc, asked, file, rows.as_slice())?,
+            Output::Json | Output::Lines | Output::Ipc | Output::Nothing => text,
+        };
+        Ok(Made {
+            text,
+            columns,
+            counted,
+        })
+    }
+}

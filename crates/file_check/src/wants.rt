@@ -1,0 +1,175 @@
+//! What a column is expected to hold.
+ghost use Rattle.std.specs.Prelude.{◌≡◌, ◌↔◌, ◌==◌, IfOk, OnOk, IsTrue, Some, map, option_map, string_bytes};
+ghost use Rattle.std.specs.List.{slice_split};
+ghost use Rattle.column_check.specs.States.{geometry_in};
+ghost use Rattle.file_check.specs.Crs.{crs_of_geometry};
+ghost use Rattle.file_check.specs.Wants.{parts_of, encoding_word, Meets, no_geometries, crs_or_none, unmet, IsUnmet, IsUnmetText, IsFound, is_unmet, said_of};
+ghost use Rattle.arrow_columns.specs.Column.{column_tree};
+
+use crate::asked::Want;
+use crate::columns::crs_of;
+use crate::text::shown;
+use arrow_columns::SchemaColumn;
+use column_check::{Finding, Geometry, inspect_column};
+use column_reports::type_word;
+use geoarrow_layout::{Kind, coord_type_word, dimension_word, kind_word};
+use json::Scratch;
+use std::alloc::{AllocError, Global};
+
+/// What is found of an expectation while the columns of a file are looked at, one after another.
+#[derive(Debug, Drop)]
+pub enum Found {
+    /// No column of the name was looked at.
+    NoColumn,
+    /// The first column of the name was looked at; with what is said where the expectation is not met.
+    Looked(Option<String>),
+}
+
+impl Found {
+    /// Looks at one more column, of which types are inferred where that is asked for: where it is
+    /// the first of the name, at what is expected of it. Errs only when out of memory.
+    pub(crate) fn look_at(
+        &mut self,
+        alloc: Global,
+        scratch: &mut Scratch,
+        want: &Want,
+        column: &SchemaColumn,
+        infer: bool,
+    ) -> Result<(), AllocError>
+        ensures { OnOk result (IsFound infer (string_bytes want.now.column) (string_bytes want.now.want) (column_tree column.now) self.old self.new) }
+    {
+        if matches!(self, Found::NoColumn) && column.name.as_str() == want.column.as_str() {
+            let finding = inspect_column(alloc, scratch, column, infer)?;
+            *self = Found::Looked(unmet_text(alloc, column, &finding, want.want.as_str())?);
+        }
+        Ok(())
+    }
+
+    /// Whether the expectation is not met, once all columns were looked at.
+    pub(crate) fn is_unmet(&self) -> bool
+        ensures { result ≡ is_unmet self.now }
+    {
+        match self {
+            Found::NoColumn | Found::Looked(Some(_)) => true,
+            Found::Looked(None) => false,
+        }
+    }
+
+    /// Returns what is said of the expectation, if it is not met, once all columns were looked at.
+    /// Errs only when out of memory.
+    ///
+    /// ```rust
+    /// let said = Found::NoColumn.said(alloc, "h")?;
+    /// assert!(rt; matches!(said, Some(text) if text.as_str() == "no column h"));
+    /// ```
+    pub fn said(&self, alloc: Global, name: &str) -> Result<Option<String>, AllocError>
+        ensures { IfOk result (λ said. option_map string_bytes said ≡ said_of name.now self.now) }
+    {
+        match self {
+            Found::NoColumn => {
+                let name = shown(alloc, name)?;
+                Ok(Some(format!(in alloc; "no column {name}")?))
+            }
+            Found::Looked(None) => Ok(None),
+            Found::Looked(Some(text)) => Ok(Some(String::from_str(alloc, text.as_str())?)),
+        }
+    }
+}
+
+/// What is said of a column that is expected to hold that, if it does not: that it holds no geometries, or the first part that is not met, and what
+/// the column holds. The parts stand between commas; each is the kind, the coordinate type, the dimension, the encoding (`native`, `WKB` or `WKT`), or
+/// the CRS by `crs_name`. Errs only when out of memory.
+pub fn unmet_text(
+    alloc: Global,
+    column: &SchemaColumn,
+    finding: &Finding,
+    want: &str,
+) -> Result<Option<String>, AllocError>
+    ensures { IfOk result (λ said. IsUnmetText (string_bytes column.now.name) (geometry_in finding.now) want.now (option_map string_bytes said)) }
+{
+    let Some(geometry) = finding.geometry() else {
+        return Ok(Some(no_geometries(alloc, column.name.as_str())?));
+    };
+    let parts = parts_of(alloc, want)?;
+    unmet_part(alloc, column, geometry, parts.as_slice())
+}
+
+/// That a column holds no geometries.
+fn no_geometries(alloc: Global, name: &str) -> Result<String, AllocError>
+    ensures { IfOk result (λ text. string_bytes text ≡ no_geometries name.now) }
+{
+    let name = shown(alloc, name)?;
+    format!(in alloc; "column {name} holds no geometries")
+}
+
+/// The parts of an expectation.
+fn parts_of(alloc: Global, want: &str) -> Result<Vec<&str>, AllocError>
+    ensures { IfOk result (λ parts. map (λ part. part.now) parts.items ≡ parts_of want.entry.now) }
+{
+    want.split(',').collect(alloc)
+}
+
+/// What is said of the first part that is not met.
+fn unmet_part(
+    alloc: Global,
+    column: &SchemaColumn,
+    geometry: &Geometry,
+    parts: &[&str],
+) -> Result<Option<String>, AllocError>
+    ensures { IfOk result (λ said. IsUnmet (string_bytes column.now.name) geometry.now (map (λ part. part.now) parts.entry.now) (option_map string_bytes said)) }
+{
+    let crs = crs_of(alloc, Some(geometry))?;
+    for part in parts {
+        if !meets(geometry, crs.as_str(), part) {
+            return Ok(Some(unmet(alloc, column, geometry, crs.as_str(), part)?));
+        }
+    }
+    Ok(None)
+}
+
+/// Whether a part is met.
+fn meets(geometry: &Geometry, crs: &str, part: &str) -> bool
+    ensures { crs.now ≡ crs_of_geometry (Some geometry.now) → IsTrue result ↔ Meets geometry.now part.now }
+{
+    let kind = geometry.kind;
+    part == crs
+        || part == encoding_word(kind)
+        || part == kind_word(kind)
+        || part == coord_type_word(kind.coord_type())
+        || part == dimension_word(kind.dimension())
+}
+
+/// The word of an encoding.
+fn encoding_word(kind: Kind) -> &'static str
+    ensures { result.now ≡ encoding_word kind }
+{
+    match kind {
+        Kind::Wkb(_) => "WKB",
+        Kind::Wkt(_) => "WKT",
+        Kind::Native(_, _, _) | Kind::Geometry(_) | Kind::Rect(_) => "native",
+    }
+}
+
+/// What is said of a part that is not met.
+fn unmet(
+    alloc: Global,
+    column: &SchemaColumn,
+    geometry: &Geometry,
+    crs: &str,
+    part: &str,
+) -> Result<String, AllocError>
+    ensures { IfOk result (λ text. crs.now ≡ crs_of_geometry (Some geometry.now) → string_bytes text ≡ unmet (string_bytes column.now.name) geometry.now part.now) }
+{
+    let name = shown(alloc, column.name.as_str())?;
+    let part = shown(alloc, part)?;
+    let held = type_word(alloc, column, Some(geometry))?;
+    let crs = crs_or_none(crs);
+    format!(in alloc; "column {name} is not {part}: {held}, {crs}")
+}
+
+/// The name of a CRS, if it has one.
+fn crs_or_none(crs: &str) -> &str
+    ensures { result.now ≡ crs_or_none crs.entry.now }
+{
+    if crs.is_empty() { "no CRS" } else { crs }
+}

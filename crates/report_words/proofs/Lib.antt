@@ -1,4 +1,0 @@
-pub mod Marks
-pub mod Parts
-pub mod Blanks
-pub mod Rows

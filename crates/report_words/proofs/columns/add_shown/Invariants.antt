@@ -1,6 +1,0 @@
-use Rattle.std.proofs.Common.{◌≡◌, ◌++◌, map, take, string_bytes}
-use Rattle.report_words.specs.Shown.{shown}
-use Rattle.report_words.proofs.columns.add_shown.Given as goal
-
-abbrev pub invariant-loop-word : goal.invariant-loop-word
-invariant-loop-word l = map string_bytes l.notes.items ≡ map string_bytes l.initial.notes.items ++ map shown (map string_bytes (take l.word-index l.words))

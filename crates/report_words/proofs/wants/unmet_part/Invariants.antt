@@ -1,6 +1,0 @@
-use Rattle.std.proofs.Common.{string_bytes}
-use Rattle.report_words.proofs.Parts.{AllMetTo}
-use Rattle.report_words.proofs.wants.unmet_part.Given as goal
-
-abbrev pub invariant-loop-part : goal.invariant-loop-part
-invariant-loop-part l = AllMetTo (string_bytes l.column.name) l.geometry l.parts l.part-index
