@@ -28,26 +28,26 @@ module _ (asked : Asked) (file : Text) where
   whole form start end opened (Err fault) is makes = inr (opened, is, makes)
 
   module _ (form : Form) (limit : ℕ) (checked : Checked) where
-    no : {A : Type 0} → false ≡ true → A
-    no bad = cc
+    never : {A : Type 0} → false ≡ true → A
+    never bad = absurd (cc)
 
     of_json : (output : Output) (r : Result Made FileFault) → is_json output ≡ true → MakesOf Json asked file form limit checked r → MakesOf output asked file form limit checked r
-    of_json Json r yes makes = makes
-    of_json Nothing r yes makes = no yes
-    of_json Table r yes makes = no yes
-    of_json Lines r yes makes = no yes
-    of_json Ipc r yes makes = no yes
+    of_json Json r e makes = makes
+    of_json Nothing r e makes = never e
+    of_json Table r e makes = never e
+    of_json Lines r e makes = never e
+    of_json Ipc r e makes = never e
 
     of_other : (output : Output) (r : Result Made FileFault) → is_json output ≡ false → MakesOtherwise asked checked r → MakesOf output asked file form limit checked r
-    of_other Json r not makes = no (sym not)
-    of_other Nothing (Ok made) not makes = makes
-    of_other Nothing (Err fault) not makes = makes
-    of_other Table (Ok made) not makes = makes
-    of_other Table (Err fault) not makes = makes
-    of_other Lines (Ok made) not makes = makes
-    of_other Lines (Err fault) not makes = makes
-    of_other Ipc (Ok made) not makes = makes
-    of_other Ipc (Err fault) not makes = makes
+    of_other Json r e makes = never (sym e)
+    of_other Nothing (Ok made) e makes = makes
+    of_other Nothing (Err fault) e makes = makes
+    of_other Table (Ok made) e makes = makes
+    of_other Table (Err fault) e makes = makes
+    of_other Lines (Ok made) e makes = makes
+    of_other Lines (Err fault) e makes = makes
+    of_other Ipc (Ok made) e makes = makes
+    of_other Ipc (Err fault) e makes = makes
 
     -- of the columns with their checks
     module _ (geo : Option Text) (cs : List ColumnTree) (are : AreChecked geo cs checked) (r : Result Made FileFault) where
@@ -56,10 +56,10 @@ module _ (asked : Asked) (file : Text) where
       of_checked (Err fault) makes = inr (checked, are, makes)
 
       pub made_json : is_json (output_of asked.flags) ≡ true → MakesOf Json asked file form limit checked r → Makes asked file form limit geo cs r
-      made_json yes makes = of_checked r (of_json (output_of asked.flags) r yes makes)
+      made_json e makes = of_checked r (of_json (output_of asked.flags) r e makes)
 
       pub made_other : is_json (output_of asked.flags) ≡ false → MakesOtherwise asked checked r → Makes asked file form limit geo cs r
-      made_other not makes = of_checked r (of_other (output_of asked.flags) r not makes)
+      made_other e makes = of_checked r (of_other (output_of asked.flags) r e makes)
 
   -- it is printed
   pub reported : {E : Type 0} (form : Form) (start : ℕ) (end : List ℕ) (old new : Option (List ℕ)) (made : Made) (r : Result ℕ E) → MakesOfEnd asked file form start end (Ok made)

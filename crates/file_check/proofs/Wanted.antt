@@ -5,7 +5,7 @@ use Rattle.std.proofs.lemmas.List.Elements.{All-push}
 use Rattle.arrow_values.specs.Tree.{Text}
 use Rattle.arrow_columns.specs.Column.{ColumnTree, column_tree}
 use Rattle.arrow_columns.specs.declared.column.SchemaColumn.{SchemaColumn}
-use Rattle.file_check.specs.Wants.{IsLooked, IsFound, IsFirstNamed, IsFoundIn, AreFoundIn}
+use Rattle.file_check.specs.Wants.{IsFound, IsFirstNamed, IsFoundIn, AreFoundIn}
 use Rattle.file_check.specs.declared.asked.Want.{Want}
 use Rattle.file_check.specs.declared.wants.Found.{Found}
 use Rattle.file_check.specs.declared.wants.Found.TheVariants.{NoColumn, Looked}
@@ -16,7 +16,7 @@ module _ (infer : Bool) where
     pub found_more : (cs : List ColumnTree) (c : ColumnTree) (old new : Found) → IsFoundIn infer name want cs old → IsFound infer name want c old new
         → IsFoundIn infer name want (cs ++ c ∷ []) new
     found_more cs c NoColumn new none (inl (other, is)) =
-        subst (IsFoundIn infer name want (cs ++ c ∷ [])) (sym is) (All-push cs c none other)
+        subst (IsFoundIn infer name want (cs ++ c ∷ [])) (sym is) (All-push (λ (t : ColumnTree). t.name ≡ name → ⊥) cs c none other)
     found_more cs c NoColumn NoColumn none (inr (same, looked)) = absurd looked
     found_more cs c NoColumn (Looked said) none (inr (same, looked)) =
         (c, record { before = cs; rest = []; are = refl; others = none; name_is = same }, looked)

@@ -1,14 +1,14 @@
 -- What is printed of a file, and the status.
-use Rattle.std.specs.Prelude.{◌≡◌, ◌⊎◌, ◌+◌, ◌++◌, ℕ, ⊤, List, [], ◌∷◌, Option, Some, None, Result, Ok, Err, codes, string_bytes}
+use Rattle.std.specs.Prelude.{◌≡◌, ◌⊎◌, ◌++◌, ℕ, ⊤, List, Option, Ok, Err, codes, string_bytes}
 use Rattle.std.specs.Io.KnownBytes.{Appends}
 use Rattle.json.specs.Print.{print}
 use Rattle.json.specs.Tree.{json_tokens}
 use Rattle.arrow_values.specs.Tree.{Text}
 use Rattle.column_files.specs.Forms.{IsForm}
-use Rattle.column_files.specs.ReadErrors.{IsReadError}
+use Rattle.column_files.specs.Faults.{IsReadError}
 use Rattle.column_files.specs.Reading.{GivesSchema}
 use Rattle.column_files.specs.Refusals.{fault_code, fault_message, fault_place, long_line_code, long_line_message, behind}
-use Rattle.column_files.specs.Sources.{GivesUpTo}
+use Rattle.line_reader.specs.Sources.{GivesUpTo}
 use Rattle.column_files.specs.declared.columns.FileFault.{FileFault}
 use Rattle.column_files.specs.declared.fault.ReadFault.{ReadFault}
 use Rattle.column_files.specs.declared.fault.ReadFault.TheVariants.{Input, LongLine, File}

@@ -1,6 +1,5 @@
 use Rattle.std.proofs.Common.{subst}
 use Rattle.column_files.specs.Forms.{IsForm}
-use Rattle.column_files.specs.declared.form.Form.TheVariants.{Lines}
 use Rattle.file_check.proofs.Made.{of_lines}
 use Rattle.file_check.proofs.check.check_head.Goals as goal
 

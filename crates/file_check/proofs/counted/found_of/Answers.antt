@@ -12,7 +12,7 @@ loop-column-preserved c =
     let column = c.column-item.result in
     let taken : take (l.column-index + 1) columns ≡ take l.column-index columns ++ column ∷ [] =
     take_more columns l.column-index _ c.loop-column-test.true ∙ ap (λ x. take l.column-index columns ++ x ∷ []) (sym c.column-item.is) in
-    found_next c.args.infer (string_bytes c.args.want.now.column) (string_bytes c.args.want.now.want) columns l.column-index column l.found c.look_at.new.found taken l.invariant
+    found_next c.args.infer (string_bytes c.args.want.now.column) (string_bytes c.args.want.now.want) columns l.column-index column l.found c.look_at.new.self taken l.invariant
     c.in_ok-look_at.ensures
 
 pub returns : goal.returns

@@ -7,12 +7,12 @@ use Rattle.file_check.proofs.schema.made_of.Goals as goal
 
 pub returns-then-is_json : goal.returns-then-is_json
 returns-then-is_json c =
-    let yes : is_json (output_of c.args.asked.now.flags) ≡ true = cc in
+    let here : is_json (output_of c.args.asked.now.flags) ≡ true = cc in
     made_json c.args.asked.now c.args.file.now c.args.opened.form c.args.limit c.in_ok-checked.checked (text_of c.args.opened.geo) (map column_tree c.args.opened.columns.items)
-    c.in_ok-checked.ensures c.made_json.result yes c.made_json.ensures
+    c.in_ok-checked.ensures c.made_json.result here c.made_json.ensures
 
 pub returns : goal.returns
 returns c =
-    let not : is_json (output_of c.args.asked.now.flags) ≡ false = cc in
+    let other : is_json (output_of c.args.asked.now.flags) ≡ false = cc in
     made_other c.args.asked.now c.args.file.now c.args.opened.form c.args.limit c.in_ok-checked.checked (text_of c.args.opened.geo) (map column_tree c.args.opened.columns.items)
-    c.in_ok-checked.ensures c.made_otherwise.result not c.made_otherwise.ensures
+    c.in_ok-checked.ensures c.made_otherwise.result other c.made_otherwise.ensures
