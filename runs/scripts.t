@@ -371,7 +371,7 @@ The library of C, of a crate that has a second word in crates.txt
   native: built
   libgeoarrow_c.a
   libgeoarrow_c.so
-  libgeoarrow_c.so.1
+  libgeoarrow_c.so.2
   native: built
 
 A first build by the kit itself, of three small crates: a program, and a library of C behind it; what a proof refuses is not built, and what is there does not run
