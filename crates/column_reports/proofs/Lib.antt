@@ -1,3 +1,4 @@
+mod Appending
 mod Adding
 mod Places
 pub mod Lines

@@ -5,5 +5,7 @@ pub mod Report
 pub mod Summary
 pub mod Warnings
 pub mod Checks
+pub mod GeoLines
+pub mod GeoWarning
 pub mod FileReport
 pub mod Faults

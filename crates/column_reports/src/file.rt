@@ -1,148 +1,140 @@
-//! The report of a file.
-ghost use Rattle.std.specs.Prelude.{◌≡◌, ◌<◌, ◌≤◌, ◌++◌, [], ◌∷◌, length, Ok, Err, OnOk, MatchBool, MatchResult, map, string_bytes};
+//! The report of a file, as one value.
+ghost use Rattle.std.specs.Prelude.{◌≡◌, IfOk, map};
+ghost use Rattle.std.specs.List.{list_any};
 ghost use Rattle.arrow_values.specs.Texts.{text_of};
 ghost use Rattle.arrow_columns.specs.Column.{column_tree};
-ghost use Rattle.column_reports.specs.FileReport.{line_feed, AddsColumn, IsWithin, ReportsOf, ReportsOpened, Reports};
+ghost use Rattle.column_check.specs.States.{is_invalid, is_geometry};
+ghost use Rattle.column_reports.specs.FileReport.{AreReported, IsReport, Reports};
 
-use crate::checks::parquet_report;
-use crate::line::json_line;
+use crate::checks::{checked_columns, has_failed};
+use crate::lines::json_lines;
 use crate::report::{ColumnReport, Options, report_column};
 use crate::summary::Summary;
 use arrow_columns::SchemaColumn;
 use column_files::{File, FileFault, Form, open};
+use geoparquet::GeoFinding;
 use json::Scratch;
 use parquet_columns::report_budget;
 use std::alloc::{AllocError, Global};
 
-/// The report of a file.
+/// What is said of a file. Its lines of JSON, its table and its status are made of this.
 #[derive(Debug, Drop)]
-pub struct Report {
-    /// A line of JSON for each column (docs/FORMAT.md, 2.5), and behind them one for each check of GeoParquet metadata that does not hold, or one for the
-    /// warning (docs/FORMAT.md, 5.1), each with its line feed.
-    pub lines: String,
+pub struct FileReport {
+    /// The format of the file.
+    pub form: Form,
+    /// Its columns, by its GeoParquet metadata (docs/FORMAT.md, 5.2), each with what is said of it.
+    pub columns: Vec<ColumnReport>,
+    /// What the rules of GeoParquet say of its metadata (docs/FORMAT.md, 5); none where it has no
+    /// text at the key `geo`.
+    pub findings: Option<Vec<GeoFinding>>,
     /// What counts of the columns and of the checks.
     pub summary: Summary,
 }
 
-/// Returns the report of a file, from its bytes: what each of its columns holds and what is
-/// doubtful of it, a line of JSON for each. A Parquet file has its columns by its GeoParquet
-/// metadata, as `checked_columns` answers them, and behind their lines a line for each check that
-/// does not hold; or, where it has no such metadata and a column holds geometries, the line of a
-/// warning. `file` is the name that the lines give the file, if any.
+/// Returns the report of a file that was opened: what each of its columns holds and what is doubtful
+/// of it, where the columns are those by its GeoParquet metadata; and what the rules of GeoParquet
+/// say of these. Errs only when out of memory.
 ///
-/// Errs as `open` of `column_files` does; and with `ReportTooLarge` where the lines have more
-/// bytes than `report_budget` of the length of the file (docs/FORMAT.md, 2.5), as soon as those of
-/// the first columns have.
+/// ```rust
+/// let bytes = br#"{"name":"id","nullable":true,"type":"int64"}"#;
+/// let Ok(opened) = open(alloc, bytes) else { return Ok(()); };
+/// let report = report_of(alloc, opened, Options { infer: false, notes: false })?;
+/// assert_eq!(rt; report.columns.len(), 1);
+/// assert!(rt; !report.summary.has_invalid);
+/// ```
+pub fn report_of(
+    alloc: Global,
+    opened: File<'_>,
+    options: Options,
+) -> Result<FileReport, AllocError>
+    ensures { IfOk result (IsReport options opened.entry.form (text_of opened.entry.geo) (map column_tree opened.entry.columns.items)) }
+{
+    let File { form, columns, geo } = opened;
+    let checked = checked_columns(alloc, geo, columns)?;
+    let columns = report_columns(alloc, checked.columns, options)?;
+    let failed = has_failed(&checked.findings);
+    let summary = summary_of(columns.as_slice(), failed);
+    Ok(FileReport {
+        form,
+        columns,
+        findings: checked.findings,
+        summary,
+    })
+}
+
+/// Returns the reports of columns, in order. Errs only when out of memory.
+fn report_columns(
+    alloc: Global,
+    columns: Vec<SchemaColumn>,
+    options: Options,
+) -> Result<Vec<ColumnReport>, AllocError>
+    ensures { IfOk result (λ reported. AreReported options (map column_tree columns.items) reported.items) }
+{
+    let mut scratch = Scratch::new(alloc);
+    let mut reported = Vec::new(alloc);
+    for column in columns {
+        let said = report_column(alloc, &mut scratch, column, options)?;
+        reported.push(said)?;
+    }
+    Ok(reported)
+}
+
+/// Returns what counts of columns, and of whether one of their checks does not hold.
+fn summary_of(columns: &[ColumnReport], has_failed: bool) -> Summary
+    ensures invalid { result.has_invalid ≡ list_any (λ r. is_invalid r.finding) columns.now }
+    ensures geometry { result.has_geometry ≡ list_any (λ r. is_geometry r.finding) columns.now }
+    ensures failed { result.has_failed ≡ has_failed }
+{
+    Summary {
+        has_invalid: is_one_invalid(columns),
+        has_geometry: is_one_geometry(columns),
+        has_failed,
+    }
+}
+
+/// Whether one of some columns is invalid.
+fn is_one_invalid(columns: &[ColumnReport]) -> bool
+    ensures { result ≡ list_any (λ r. is_invalid r.finding) columns.now }
+{
+    columns.iter().any(|said| said.finding.is_invalid())
+}
+
+/// Whether one of some columns holds geometries by its extension name.
+fn is_one_geometry(columns: &[ColumnReport]) -> bool
+    ensures { result ≡ list_any (λ r. is_geometry r.finding) columns.now }
+{
+    columns.iter().any(|said| said.finding.is_geometry())
+}
+
+/// Returns the report of a file, from its bytes, as lines of JSON: what each of its columns holds and
+/// what is doubtful of it; and behind these lines one for each check of GeoParquet metadata that does
+/// not hold, or, where a Parquet file has no such metadata and a column holds geometries, the line of
+/// a warning (docs/FORMAT.md, 2.5 and 5.1). `file` is the name that the lines give the file, if any.
+///
+/// Errs as `open` of `column_files` does; with `ReportTooLarge` where the lines have more bytes than
+/// `report_budget` of the length of the file (docs/FORMAT.md, 2.5); and when out of memory.
 ///
 /// ```rust
 /// let options = Options { infer: false, notes: false };
-/// let report = report_file(alloc, None, br#"{"name":"id","nullable":true,"type":"int64"}"#, options);
-/// let Ok(report) = report else { return Ok(()); };
+/// let lines = report_file(alloc, None, br#"{"name":"id","nullable":true,"type":"int64"}"#, options);
+/// let Ok(lines) = lines else { return Ok(()); };
 /// let line = "{\"column\":\"id\",\"index\":0,\"state\":\"plain\",\"type\":\"int64\"}\n";
-/// assert_eq!(rt; report.lines.as_str(), line);
-/// assert!(rt; !report.summary.has_invalid);
+/// assert_eq!(rt; lines.as_str(), line);
 /// ```
 pub fn report_file(
     alloc: Global,
     file: Option<&str>,
     bytes: &[u8],
     options: Options,
-) -> Result<Report, FileFault>
+) -> Result<String, FileFault>
     ensures { Reports (text_of file.entry) options bytes.now result }
 {
     let limit = report_budget(bytes.len());
     match open(alloc, bytes) {
-        Ok(opened) => report_opened(alloc, file, opened, options, limit),
+        Ok(opened) => {
+            let report = report_of(alloc, opened, options)?;
+            json_lines(alloc, file, &report, false, limit)
+        }
         Err(fault) => Err(fault),
     }
-}
-
-/// The report of a file that was opened, within a limit of its bytes.
-fn report_opened(
-    alloc: Global,
-    file: Option<&str>,
-    opened: File<'_>,
-    options: Options,
-    limit: u128,
-) -> Result<Report, FileFault>
-    ensures { ReportsOpened (text_of file.entry) options limit opened.entry.form (text_of opened.entry.geo) (map column_tree opened.entry.columns.items) result }
-{
-    let File { form, columns, geo } = opened;
-    match form {
-        Form::Parquet => parquet_report(alloc, file, geo, columns, options, limit),
-        Form::ArrowFile | Form::ArrowStream | Form::Lines => {
-            report_columns(alloc, file, columns, options, limit)
-        }
-    }
-}
-
-/// Returns the report of columns, as that of a file that is no Parquet file, whose lines have at
-/// most that many bytes. Errs with `ReportTooLarge` where they have more, as soon as those of the
-/// first columns have; and when out of memory.
-pub fn report_columns(
-    alloc: Global,
-    file: Option<&str>,
-    columns: Vec<SchemaColumn>,
-    options: Options,
-    limit: u128,
-) -> Result<Report, FileFault>
-    ensures { ReportsOf (text_of file.entry) options limit (map column_tree columns.items) result }
-{
-    let mut report = Report {
-        lines: String::new(alloc),
-        summary: Summary::new(),
-    };
-    let mut scratch = Scratch::new(alloc);
-    let mut index = 0_usize;
-    for column in columns {
-        let said = report_column(alloc, &mut scratch, column, options)?;
-        add_column(alloc, &mut scratch, &mut report, file, index, &said)?;
-        if is_past(&report, limit) {
-            return Err(FileFault::ReportTooLarge);
-        }
-        index += 1;
-    }
-    Ok(report)
-}
-
-/// Whether the lines of a report have more bytes than that.
-fn is_past(report: &Report, limit: u128) -> bool
-    ensures { MatchBool result (limit < length (string_bytes report.now.lines)) (length (string_bytes report.now.lines) ≤ limit) }
-{
-    report.lines.len() as u128 > limit
-}
-
-/// The report, where its lines have at most that many bytes.
-pub(crate) fn within(report: Report, limit: u128) -> Result<Report, FileFault>
-    ensures { IsWithin limit report result }
-{
-    if is_past(&report, limit) {
-        return Err(FileFault::ReportTooLarge);
-    }
-    Ok(report)
-}
-
-/// Adds the line of a column, and what counts of it.
-fn add_column(
-    alloc: Global,
-    scratch: &mut Scratch,
-    report: &mut Report,
-    file: Option<&str>,
-    index: usize,
-    said: &ColumnReport,
-) -> Result<(), AllocError>
-    ensures { OnOk result (AddsColumn (text_of file.entry) index said.now report.old report.new) }
-{
-    let line = json_line(alloc, scratch, file, index, said)?;
-    push_line(&mut report.lines, line.as_str())?;
-    report.summary.add(&said.finding);
-    Ok(())
-}
-
-/// Adds a line, with its line feed.
-pub(crate) fn push_line(text: &mut String, line: &str) -> Result<(), AllocError>
-    ensures { OnOk result (string_bytes text.new ≡ string_bytes text.old ++ (line.now ++ (line_feed ∷ []))) }
-{
-    text.push_str(line)?;
-    text.push_str("\n")
 }

@@ -1,5 +1,5 @@
 -- What is asked of files.
-use Rattle.std.specs.Prelude.{Bool, true, false, if◌then◌else◌}
+use Rattle.std.specs.Prelude.{if◌then◌else◌}
 use Rattle.column_reports.specs.declared.report.Options.{Options}
 use Rattle.file_check.specs.declared.asked.Flags.{Flags}
 use Rattle.file_check.specs.declared.asked.Output.{Output}
@@ -8,10 +8,6 @@ use Rattle.file_check.specs.declared.asked.Output.TheVariants.{Nothing, Table, J
 -- what is printed of columns: of several the first of these; else a table
 abbrev pub output_of : Flags → Output
 output_of f = if f.lines then Lines else (if f.ipc then Ipc else (if f.quiet then Nothing else (if f.json then Json else Table)))
-
-abbrev pub is_json : Output → Bool
-is_json Json = true
-is_json output = false
 
 -- what is asked of the report of a column
 abbrev pub options_of : Flags → Options

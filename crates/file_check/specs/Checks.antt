@@ -3,7 +3,7 @@ use Rattle.std.specs.Prelude.{◌||◌, not, Bool, List, [], ◌++◌, codes, fl
 use Rattle.arrow_values.specs.Tree.{Text}
 use Rattle.geoparquet.specs.Words.{code_of, message_of}
 use Rattle.geoparquet.specs.declared.finding.GeoFinding.{GeoFinding}
-use Rattle.geoparquet.specs.Warnings.{no_geo_code, no_geo_message}
+use Rattle.column_reports.specs.GeoWarning.{no_geo_code, no_geo_message}
 use Rattle.file_check.specs.Shown.{shown}
 
 -- the column that a check is of, if it is not of all the metadata

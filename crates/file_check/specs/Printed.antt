@@ -6,14 +6,14 @@ use Rattle.json.specs.Tree.{json_tokens}
 use Rattle.arrow_values.specs.Tree.{Text}
 use Rattle.column_files.specs.Forms.{IsForm}
 use Rattle.column_files.specs.Faults.{IsReadError}
-use Rattle.column_files.specs.Reading.{GivesSchema}
+use Rattle.column_files.specs.Reading.{GivesSchema, GivesEnd, IsEnd}
 use Rattle.column_files.specs.Refusals.{fault_code, fault_message, fault_place, long_line_code, long_line_message, behind}
 use Rattle.line_reader.specs.Sources.{GivesUpTo}
 use Rattle.column_files.specs.declared.columns.FileFault.{FileFault}
 use Rattle.column_files.specs.declared.fault.ReadFault.{ReadFault}
 use Rattle.column_files.specs.declared.fault.ReadFault.TheVariants.{Input, LongLine, File}
 use Rattle.column_files.specs.declared.form.Form.{Form}
-use Rattle.column_files.specs.declared.form.Form.TheVariants.{Lines}
+use Rattle.column_files.specs.declared.form.Form.TheVariants as forms
 use Rattle.column_files.specs.declared.refusal.Fault.{Fault}
 use Rattle.column_files.specs.declared.refusal.Place.TheVariants as places
 use Rattle.column_reports.specs.Faults.{fault_report}
@@ -23,7 +23,7 @@ use Rattle.file_check.specs.Made.{MakesOfEnd}
 use Rattle.file_check.specs.Names.{name_of}
 use Rattle.file_check.specs.declared.asked.Asked.{Asked}
 use Rattle.file_check.specs.declared.asked.Output.{Output}
-use Rattle.file_check.specs.declared.asked.Output.TheVariants.{Json, Ipc}
+use Rattle.file_check.specs.declared.asked.Output.TheVariants.{Json, Lines, Ipc}
 use Rattle.file_check.specs.declared.print.Made.{Made}
 
 -- ---- a file that is refused
@@ -55,11 +55,12 @@ PrintsRefusal output file form (File fault) old new = (f : Fault) × IsFaultOf f
 
 -- ---- a file that is reported
 
--- what is printed of what is made, and the status: with --json its text, and no more; with --ipc the status is 2 where no message holds the columns
+-- what is printed of what is made, and the status: its text, and no more but with --lines and --ipc the columns behind it, of which nothing is said here;
+-- with --ipc the status is 2 where no message holds the columns
 abbrev pub Prints : Output → Asked → Made → Option (List ℕ) → Option (List ℕ) → ℕ → Type 0
-Prints Json asked made old new status = Appends old new (string_bytes made.text) × (status ≡ status_of asked.flags made.counted)
+Prints Lines asked made old new status = status ≡ status_of asked.flags made.counted
 Prints Ipc asked made old new status = (status ≡ status_of asked.flags made.counted) ⊎ (status ≡ 2)
-Prints output asked made old new status = status ≡ status_of asked.flags made.counted
+Prints output asked made old new status = Appends old new (string_bytes made.text) × (status ≡ status_of asked.flags made.counted)
 
 -- of the end of a file in that format, before which so many bytes stand: it is reported, or refused
 pub record IsReported (asked : Asked) (file : Text) (form : Form) (start : ℕ) (end : List ℕ) (old new : Option (List ℕ)) (status : ℕ) : Type 0 where
@@ -94,7 +95,7 @@ pub record IsRead (asked : Asked) (file : Text) (form : Form) (head : List ℕ) 
 
 -- a source with these first bytes, and the rest behind them: of lines nothing is said here
 abbrev pub IsCheckedIn : Form → Asked → Text → List ℕ → Option (List ℕ) → Option (List ℕ) → Option (List ℕ) → ℕ → Type 0
-IsCheckedIn Lines asked file head rest old new status = ⊤
+IsCheckedIn forms.Lines asked file head rest old new status = ⊤
 IsCheckedIn form asked file head rest old new status = IsUnread asked file form old new status ⊎ IsRead asked file form head rest old new status
 
 abbrev pub IsCheckedFrom : Asked → Text → List ℕ → Option (List ℕ) → Option (List ℕ) → Option (List ℕ) → ℕ → Type 0
@@ -108,4 +109,41 @@ pub record IsTold (asked : Asked) (file : Text) (bytes old new : Option (List �
   pub is : IsCheckedFrom asked file head rest old new status
 
 abbrev pub IsChecked : Asked → Text → Option (List ℕ) → Option (List ℕ) → Option (List ℕ) → ℕ → Type 0
-IsChecked asked file bytes old new status = IsUnread asked file Lines old new status ⊎ IsTold asked file bytes old new status
+IsChecked asked file bytes old new status = IsUnread asked file forms.Lines old new status ⊎ IsTold asked file bytes old new status
+
+-- ---- a source that may seek
+
+-- the source gives the end of the file, before which so many bytes stand, and what it has is reported or refused
+pub record IsEndRead (asked : Asked) (file : Text) (form : Form) (head : List ℕ) (rest old new : Option (List ℕ)) (status : ℕ) : Type 0 where
+  pub start : ℕ
+  pub end : List ℕ
+  pub left : Option (List ℕ)
+  pub gives : GivesEnd form head rest left end
+  pub is : IsEnd form start end
+  pub answered : IsAnswered asked file form start end old new status
+
+abbrev pub IsFileIn : Form → Asked → Text → List ℕ → Option (List ℕ) → Option (List ℕ) → Option (List ℕ) → ℕ → Type 0
+IsFileIn forms.Lines asked file head rest old new status = ⊤
+IsFileIn form asked file head rest old new status = IsUnread asked file form old new status ⊎ IsEndRead asked file form head rest old new status
+
+abbrev pub IsFileFrom : Asked → Text → List ℕ → Option (List ℕ) → Option (List ℕ) → Option (List ℕ) → ℕ → Type 0
+IsFileFrom asked file head rest old new status = (form : Form) × IsForm head form × IsFileIn form asked file head rest old new status
+
+pub record IsFileTold (asked : Asked) (file : Text) (bytes old new : Option (List ℕ)) (status : ℕ) : Type 0 where
+  pub head : List ℕ
+  pub rest : Option (List ℕ)
+  pub gives : GivesUpTo 8 bytes rest head
+  pub is : IsFileFrom asked file head rest old new status
+
+abbrev pub IsFileChecked : Asked → Text → Option (List ℕ) → Option (List ℕ) → Option (List ℕ) → ℕ → Type 0
+IsFileChecked asked file bytes old new status = IsUnread asked file forms.Lines old new status ⊎ IsFileTold asked file bytes old new status
+
+-- ---- bytes that are all there
+
+-- of lines nothing is said here
+abbrev pub IsWholeIn : Form → Asked → Text → List ℕ → Option (List ℕ) → Option (List ℕ) → ℕ → Type 0
+IsWholeIn forms.Lines asked file bytes old new status = ⊤
+IsWholeIn form asked file bytes old new status = IsAnswered asked file form 0 bytes old new status
+
+abbrev pub IsWhole : Asked → Text → List ℕ → Option (List ℕ) → Option (List ℕ) → ℕ → Type 0
+IsWhole asked file bytes old new status = (form : Form) × IsForm bytes form × IsWholeIn form asked file bytes old new status

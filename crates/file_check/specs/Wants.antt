@@ -2,17 +2,15 @@
 use Rattle.std.specs.Prelude.{◌≡◌, ◌⊎◌, ◌==◌, ⊤, Bool, true, false, option_map, string_bytes, List, [], ◌∷◌, ◌++◌, length, codes, Option, None, Some, if◌then◌else◌}
 use Rattle.std.specs.List.{All, slice_split}
 use Rattle.arrow_values.specs.Tree.{Text}
-use Rattle.arrow_columns.specs.Column.{ColumnTree}
 use Rattle.geoarrow_layout.specs.declared.native_kinds.Kind.{Kind}
 use Rattle.geoarrow_layout.specs.declared.native_kinds.Kind.TheVariants.{Wkb, Wkt}
 use Rattle.geoarrow_layout.specs.Kinds.{coord_type_of, dimension_of}
 use Rattle.geoarrow_layout.specs.KindWords.{kind_word, coord_type_word, dimension_word}
-use Rattle.column_check.specs.Finding.{IsFinding}
 use Rattle.column_check.specs.States.{geometry_in}
-use Rattle.column_check.specs.declared.finding.Finding.{Finding as ColumnFinding}
 use Rattle.column_check.specs.declared.finding.Geometry.{Geometry as GeometryColumn}
 use Rattle.file_check.specs.declared.asked.Want.{Want}
 use Rattle.column_reports.specs.Report.{kind_text}
+use Rattle.column_reports.specs.declared.report.ColumnReport.{ColumnReport}
 use Rattle.file_check.specs.declared.wants.Found.{Found}
 use Rattle.file_check.specs.declared.wants.Found.TheVariants.{NoColumn, Looked}
 use Rattle.file_check.specs.Crs.{crs_of_geometry}
@@ -53,33 +51,33 @@ abbrev pub IsUnmetText : Text → Option GeometryColumn → Text → Option Text
 IsUnmetText name None want said = said ≡ Some (no_geometries name)
 IsUnmetText name (Some g) want said = IsUnmet name g (parts_of want) said
 
--- what was found of a column that was looked at, by what is said of it where types are inferred or not
-abbrev pub IsLooked : Bool → Text → ColumnTree → Found → Type 0
-IsLooked infer want c (Looked said) = (f : ColumnFinding) × IsFinding infer c f × IsUnmetText c.name (geometry_in f) want (option_map string_bytes said)
-IsLooked infer want c NoColumn = ⊥
+-- what was found of a column that was looked at
+abbrev pub IsLooked : Text → ColumnReport → Found → Type 0
+IsLooked want r (Looked said) = IsUnmetText (string_bytes r.column.name) (geometry_in r.finding) want (option_map string_bytes said)
+IsLooked want r NoColumn = ⊥
 
--- what is found of an expectation once one more column is looked at: only the first column of the name counts; for private clauses
-abbrev pub IsFound : Bool → Text → Text → ColumnTree → Found → Found → Type 0
-IsFound infer name want c (Looked said) new = new ≡ Looked said
-IsFound infer name want c NoColumn new = ((c.name ≡ name → ⊥) × (new ≡ NoColumn)) ⊎ ((c.name ≡ name) × IsLooked infer want c new)
+-- what is found of an expectation once one more column is looked at: only the first column of the name counts; for private contracts
+abbrev pub IsFound : Text → Text → ColumnReport → Found → Found → Type 0
+IsFound name want r (Looked said) new = new ≡ Looked said
+IsFound name want r NoColumn new = ((string_bytes r.column.name ≡ name → ⊥) × (new ≡ NoColumn)) ⊎ ((string_bytes r.column.name ≡ name) × IsLooked want r new)
 
 -- the first of the columns that has the name
-pub record IsFirstNamed (name : Text) (cs : List ColumnTree) (c : ColumnTree) : Type 0 where
-  pub before : List ColumnTree
-  pub rest : List ColumnTree
-  pub are : cs ≡ before ++ c ∷ rest
-  pub others : All (λ b. b.name ≡ name → ⊥) before
-  pub name_is : c.name ≡ name
+pub record IsFirstNamed (name : Text) (rs : List ColumnReport) (r : ColumnReport) : Type 0 where
+  pub before : List ColumnReport
+  pub rest : List ColumnReport
+  pub are : rs ≡ before ++ r ∷ rest
+  pub others : All (λ b. string_bytes b.column.name ≡ name → ⊥) before
+  pub name_is : string_bytes r.column.name ≡ name
 
 -- what is found of an expectation once all of the columns were looked at
-abbrev pub IsFoundIn : Bool → Text → Text → List ColumnTree → Found → Type 0
-IsFoundIn infer name want cs NoColumn = All (λ c. c.name ≡ name → ⊥) cs
-IsFoundIn infer name want cs (Looked said) = (c : ColumnTree) × IsFirstNamed name cs c × IsLooked infer want c (Looked said)
+abbrev pub IsFoundIn : Text → Text → List ColumnReport → Found → Type 0
+IsFoundIn name want rs NoColumn = All (λ r. string_bytes r.column.name ≡ name → ⊥) rs
+IsFoundIn name want rs (Looked said) = (r : ColumnReport) × IsFirstNamed name rs r × IsLooked want r (Looked said)
 
-abbrev pub AreFoundIn : Bool → List Want → List ColumnTree → List Found → Type 0
-AreFoundIn infer [] cs [] = ⊤
-AreFoundIn infer (w ∷ ws) cs (f ∷ fs) = IsFoundIn infer (string_bytes w.column) (string_bytes w.want) cs f × AreFoundIn infer ws cs fs
-AreFoundIn infer ws cs fs = ⊥
+abbrev pub AreFoundIn : List Want → List ColumnReport → List Found → Type 0
+AreFoundIn [] rs [] = ⊤
+AreFoundIn (w ∷ ws) rs (f ∷ fs) = IsFoundIn (string_bytes w.column) (string_bytes w.want) rs f × AreFoundIn ws rs fs
+AreFoundIn ws rs fs = ⊥
 
 -- the expectation is not met: no column has the name, or something is said of the first that has it
 abbrev pub is_unmet : Found → Bool

@@ -1,6 +1,6 @@
 //! What is asked of files.
 ghost use Rattle.std.specs.Prelude.{◌≡◌};
-ghost use Rattle.file_check.specs.Asked.{output_of, is_json, options_of};
+ghost use Rattle.file_check.specs.Asked.{output_of, options_of};
 
 use column_reports::Options;
 
@@ -77,13 +77,6 @@ impl Flags {
         } else {
             Output::Table
         }
-    }
-
-    /// Whether lines of JSON are printed of columns.
-    pub(crate) fn is_json(&self) -> bool
-        ensures { result ≡ is_json (output_of self.now) }
-    {
-        matches!(self.output(), Output::Json)
     }
 
     /// What is asked of the report of a column.

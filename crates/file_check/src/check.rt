@@ -1,7 +1,7 @@
 //! The report of a file, by a source of its bytes.
 
 ghost use Rattle.std.specs.Prelude.{◌⊎◌, [], Some, IfOk};
-ghost use Rattle.file_check.specs.Printed.{IsAnswered, IsUnread, IsRead, IsCheckedFrom, IsChecked};
+ghost use Rattle.file_check.specs.Printed.{IsAnswered, IsUnread, IsRead, IsCheckedFrom, IsChecked, IsEndRead, IsFileFrom, IsFileChecked, IsWhole};
 
 use crate::asked::Asked;
 use crate::lines::check_lines;
@@ -11,7 +11,7 @@ use crate::schema::made_of_end;
 use column_files::{
     Form, LineColumns, ReadFault, form_of, read_head, read_schema_bytes, read_schema_end,
 };
-use std::alloc::Global;
+use std::alloc::{AllocError, Global};
 use std::io;
 use std::io::{Read, Seek, Write};
 
@@ -26,28 +26,61 @@ pub struct Answer {
     pub status: u8,
 }
 
-/// Returns what is printed and said of a file of these bytes, and the status. Errs when out of
+/// Returns what is printed and said of a file of these bytes, and the status. Errs only when out of
 /// memory.
+///
+/// The contract says of a file that has a schema exactly what stands on standard output with
+/// `--json`, and the status whatever is printed; of lines it says neither.
 ///
 /// ```rust
 /// let flags = Flags { json: true, lines: false, ipc: false, infer: false, notes: false, all_checks: false, quiet: false, require_geometry: false };
 /// let asked = Asked { flags, wants: Vec::new(alloc), files: Vec::new(alloc) };
-/// let answer = check_bytes(alloc, &asked, "-", b"[]").map_err(|_| AllocError)?;
+/// let answer = check_bytes(alloc, &asked, "-", b"[]")?;
 /// let line = b"{\"error\":\"LineNotObject\",\"line\":1,\"message\":\"is JSON, but no object\",\"place\":\"line 1\"}\n";
 /// assert!(rt; answer.output.as_slice() == line.as_slice());
 /// assert_eq!(rt; answer.status, 2);
 /// ```
-pub fn check_bytes(alloc: Global, asked: &Asked, file: &str, bytes: &[u8]) -> io::Result<Answer>
-    ensures { IfOk result (λ answer. IsChecked asked.now file.now (Some bytes.now) (Some []) (Some answer.output.items) answer.status) }
+pub fn check_bytes(
+    alloc: Global,
+    asked: &Asked,
+    file: &str,
+    bytes: &[u8],
+) -> Result<Answer, AllocError>
+    ensures { IfOk result (λ answer. IsWhole asked.now file.now bytes.now (Some []) (Some answer.output.items) answer.status) }
 {
     let mut output = Vec::new(alloc);
     let mut errors = Vec::new(alloc);
-    let status = check_source(alloc, asked, file, bytes, &mut output, &mut errors)?;
-    Ok(Answer {
-        output,
-        errors,
-        status,
-    })
+    match check_whole(alloc, asked, file, bytes, &mut output, &mut errors) {
+        Ok(status) => Ok(Answer {
+            output,
+            errors,
+            status,
+        }),
+        Err(_) => Err(AllocError),
+    }
+}
+
+/// Reports a file of these bytes.
+fn check_whole<W: Write, E: Write>(
+    alloc: Global,
+    asked: &Asked,
+    file: &str,
+    bytes: &[u8],
+    out: &mut W,
+    err: &mut E,
+) -> io::Result<u8>
+    ensures { IfOk result (IsWhole asked.now file.now bytes.now (W.contents out.old) (W.contents out.new)) }
+{
+    let form = form_of(bytes);
+    match form {
+        Form::Lines => {
+            let lines = LineColumns::new(alloc, Vec::new(alloc), bytes);
+            check_lines(alloc, asked, file, lines, out, err)
+        }
+        Form::ArrowFile | Form::ArrowStream | Form::Parquet => {
+            check_end(alloc, asked, file, form, 0, bytes, out, err)
+        }
+    }
 }
 
 /// Reports a file by a source of all its bytes, as standard input is: of an Arrow stream its first
@@ -128,17 +161,55 @@ pub fn check_file<S: Read + Seek + Drop, W: Write, E: Write>(
     source: S,
     out: &mut W,
     err: &mut E,
-) -> io::Result<u8> {
+) -> io::Result<u8>
+    ensures { IfOk result (IsFileChecked asked.now file.now (S.remaining source) (W.contents out.old) (W.contents out.new)) }
+{
     let mut source = source;
-    let head = match read_head(alloc, &mut source) {
-        Ok(head) => head,
-        Err(fault) => return refuse(alloc, asked, file, Form::Lines, fault, out, err),
-    };
-    let form = form_of(head.as_slice());
-    if matches!(form, Form::Lines) {
-        let lines = LineColumns::new(alloc, head, source);
-        return check_lines(alloc, asked, file, lines, out, err);
+    match read_head(alloc, &mut source) {
+        Ok(head) => check_file_head(alloc, asked, file, head, source, out, err),
+        Err(fault) => refuse(alloc, asked, file, Form::Lines, fault, out, err),
     }
+}
+
+/// Reports a file by its first bytes, as `read_head` gives them, and a source that may seek.
+fn check_file_head<S: Read + Seek + Drop, W: Write, E: Write>(
+    alloc: Global,
+    asked: &Asked,
+    file: &str,
+    head: Vec<u8>,
+    source: S,
+    out: &mut W,
+    err: &mut E,
+) -> io::Result<u8>
+    ensures { IfOk result (IsFileFrom asked.now file.now head.items (S.remaining source) (W.contents out.old) (W.contents out.new)) }
+{
+    let form = form_of(head.as_slice());
+    match form {
+        Form::Lines => {
+            let lines = LineColumns::new(alloc, head, source);
+            check_lines(alloc, asked, file, lines, out, err)
+        }
+        Form::ArrowFile | Form::ArrowStream | Form::Parquet => {
+            check_file_end(alloc, asked, file, form, head, source, out, err)
+        }
+    }
+}
+
+/// Reports a file that has a schema by its first bytes and a source that may seek.
+fn check_file_end<S: Read + Seek + Drop, W: Write, E: Write>(
+    alloc: Global,
+    asked: &Asked,
+    file: &str,
+    form: Form,
+    head: Vec<u8>,
+    source: S,
+    out: &mut W,
+    err: &mut E,
+) -> io::Result<u8>
+    ensures { IfOk result (λ status. IsUnread asked.now file.now form (W.contents out.old) (W.contents out.new) status
+        ⊎ IsEndRead asked.now file.now form head.items (S.remaining source) (W.contents out.old) (W.contents out.new) status) }
+{
+    let mut source = source;
     match read_schema_end(alloc, form, head, &mut source) {
         Ok(end) => {
             let bytes = end.bytes.as_slice();

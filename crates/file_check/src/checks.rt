@@ -3,7 +3,8 @@ ghost use Rattle.std.specs.Prelude.{◌≡◌, ◌++◌, false, None, IfOk, OnOk
 ghost use Rattle.file_check.specs.Checks.{of_column, check_text, check_line, checks_text, checked_text};
 
 use crate::text::shown;
-use geoparquet::{GeoFinding, no_geo_code, no_geo_message};
+use column_reports::{no_geo_code, no_geo_message};
+use geoparquet::GeoFinding;
 use std::alloc::{AllocError, Global};
 
 /// What is said of the GeoParquet metadata of a Parquet file: of the checks that do not hold, or with `all` of all, a line for each, with the code of the

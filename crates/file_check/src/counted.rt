@@ -1,16 +1,13 @@
 //! What counts of a file for the status.
-ghost use Rattle.std.specs.Prelude.{◌≡◌, IfOk, map, string_bytes};
+ghost use Rattle.std.specs.Prelude.{◌≡◌, IfOk, string_bytes};
 ghost use Rattle.std.specs.List.{list_any};
-ghost use Rattle.arrow_columns.specs.Column.{column_tree};
 ghost use Rattle.file_check.specs.Wants.{is_unmet, IsFoundIn, AreFoundIn};
 ghost use Rattle.file_check.specs.Counted.{misses, status_of};
 
 use crate::asked::{Asked, Want};
 use crate::refusal::say;
 use crate::wants::Found;
-use arrow_columns::SchemaColumn;
-use column_reports::Summary;
-use json::Scratch;
+use column_reports::{ColumnReport, Summary};
 use std::alloc::{AllocError, Global};
 use std::io;
 use std::io::Write;
@@ -70,32 +67,24 @@ fn is_one_unmet(found: &[Found]) -> bool
 pub(crate) fn found_in(
     alloc: Global,
     wants: &[Want],
-    columns: &[SchemaColumn],
-    infer: bool,
+    columns: &[ColumnReport],
 ) -> Result<Vec<Found>, AllocError>
-    ensures { IfOk result (λ found. AreFoundIn infer wants.now (map column_tree columns.now) found.items) }
+    ensures { IfOk result (λ found. AreFoundIn wants.now columns.now found.items) }
 {
-    let mut scratch = Scratch::new(alloc);
     let mut found = Vec::new(alloc);
     for want in wants {
-        found.push(found_of(alloc, &mut scratch, want, columns, infer)?)?;
+        found.push(found_of(alloc, want, columns)?)?;
     }
     Ok(found)
 }
 
 /// What is found of an expectation in columns.
-fn found_of(
-    alloc: Global,
-    scratch: &mut Scratch,
-    want: &Want,
-    columns: &[SchemaColumn],
-    infer: bool,
-) -> Result<Found, AllocError>
-    ensures { IfOk result (IsFoundIn infer (string_bytes want.now.column) (string_bytes want.now.want) (map column_tree columns.now)) }
+fn found_of(alloc: Global, want: &Want, columns: &[ColumnReport]) -> Result<Found, AllocError>
+    ensures { IfOk result (IsFoundIn (string_bytes want.now.column) (string_bytes want.now.want) columns.now) }
 {
     let mut found = Found::NoColumn;
-    for column in columns {
-        found.look_at(alloc, scratch, want, column, infer)?;
+    for said in columns {
+        found.look_at(alloc, want, said)?;
     }
     Ok(found)
 }

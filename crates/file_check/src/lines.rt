@@ -9,7 +9,6 @@ use crate::refusal::refuse;
 use crate::table::{Row, row_bytes};
 use crate::wants::Found;
 use arrow_columns::SchemaColumn;
-use column_check::inspect_column;
 use column_files::{FileFault, Form, LineColumns, MAX_LINE_BYTES, ReadFault, column_line};
 use column_reports::{ColumnReport, Summary, json_line, report_budget, report_column};
 use json::Scratch;
@@ -101,46 +100,35 @@ impl<'a> LineReport<'a> {
 
     /// Adds a column.
     fn add(&mut self, column: SchemaColumn) -> Result<(), FileFault> {
-        self.expect(&column)?;
+        let options = self.asked.flags.options();
+        let said = report_column(self.alloc, &mut self.scratch, column, options)?;
+        self.counted.summary.add(&said.finding);
+        self.expect(&said)?;
         match self.asked.flags.output() {
-            Output::Json => self.add_json(column)?,
-            Output::Table => self.add_row(column)?,
+            Output::Json => self.add_json(&said)?,
+            Output::Table => self.add_row(&said)?,
             Output::Lines => {
-                self.inspect(&column)?;
-                let line = column_line(self.alloc, column)?;
+                let line = column_line(self.alloc, said.column)?;
                 push_line(&mut self.text, line.as_str())?;
             }
-            Output::Ipc => {
-                self.inspect(&column)?;
-                self.columns.push(column)?;
-            }
-            Output::Nothing => self.inspect(&column)?,
+            Output::Ipc => self.columns.push(said.column)?,
+            Output::Nothing => {}
         }
         self.count = self.count.saturating_add(1);
         Ok(())
     }
 
     /// Looks at a column for each expectation.
-    fn expect(&mut self, column: &SchemaColumn) -> Result<(), AllocError> {
-        let infer = self.asked.flags.infer;
+    fn expect(&mut self, said: &ColumnReport) -> Result<(), AllocError> {
         for (want, found) in self.asked.wants.iter().zip(self.counted.found.iter_mut()) {
-            found.look_at(self.alloc, &mut self.scratch, want, column, infer)?;
+            found.look_at(self.alloc, want, said)?;
         }
         Ok(())
     }
 
-    /// Looks at what a column holds.
-    fn inspect(&mut self, column: &SchemaColumn) -> Result<(), AllocError> {
-        let infer = self.asked.flags.infer;
-        let finding = inspect_column(self.alloc, &mut self.scratch, column, infer)?;
-        self.counted.summary.add(&finding);
-        Ok(())
-    }
-
     /// Adds the row of a column.
-    fn add_row(&mut self, column: SchemaColumn) -> Result<(), FileFault> {
-        let said = self.report(column)?;
-        let row = row_of(self.alloc, &said)?;
+    fn add_row(&mut self, said: &ColumnReport) -> Result<(), FileFault> {
+        let row = row_of(self.alloc, said)?;
         if row_bytes(&row) as u128 > report_budget(MAX_LINE_BYTES) {
             return Err(FileFault::ReportTooLarge);
         }
@@ -148,22 +136,13 @@ impl<'a> LineReport<'a> {
     }
 
     /// Adds the line of JSON of a column.
-    fn add_json(&mut self, column: SchemaColumn) -> Result<(), FileFault> {
-        let said = self.report(column)?;
+    fn add_json(&mut self, said: &ColumnReport) -> Result<(), FileFault> {
         let file = named(self.file);
-        let line = json_line(self.alloc, &mut self.scratch, file, self.count, &said)?;
+        let line = json_line(self.alloc, &mut self.scratch, file, self.count, said)?;
         if line.len() as u128 >= report_budget(MAX_LINE_BYTES) {
             return Err(FileFault::ReportTooLarge);
         }
         Ok(push_line(&mut self.text, line.as_str())?)
-    }
-
-    /// What is said of a column.
-    fn report(&mut self, column: SchemaColumn) -> Result<ColumnReport, AllocError> {
-        let options = self.asked.flags.options();
-        let said = report_column(self.alloc, &mut self.scratch, column, options)?;
-        self.counted.summary.add(&said.finding);
-        Ok(said)
     }
 
     /// Writes what is not written yet.

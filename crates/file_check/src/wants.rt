@@ -4,16 +4,14 @@ ghost use Rattle.std.specs.List.{slice_split};
 ghost use Rattle.column_check.specs.States.{geometry_in};
 ghost use Rattle.file_check.specs.Crs.{crs_of_geometry};
 ghost use Rattle.file_check.specs.Wants.{parts_of, encoding_word, Meets, no_geometries, crs_or_none, unmet, IsUnmet, IsUnmetText, IsFound, is_unmet, said_of};
-ghost use Rattle.arrow_columns.specs.Column.{column_tree};
 
 use crate::asked::Want;
 use crate::columns::crs_of;
 use crate::text::shown;
 use arrow_columns::SchemaColumn;
-use column_check::{Finding, Geometry, inspect_column};
-use column_reports::type_word;
+use column_check::{Finding, Geometry};
+use column_reports::{ColumnReport, type_word};
 use geoarrow_layout::{Kind, coord_type_word, dimension_word, kind_word};
-use json::Scratch;
 use std::alloc::{AllocError, Global};
 
 /// What is found of an expectation while the columns of a file are looked at, one after another.
@@ -26,21 +24,19 @@ pub enum Found {
 }
 
 impl Found {
-    /// Looks at one more column, of which types are inferred where that is asked for: where it is
-    /// the first of the name, at what is expected of it. Errs only when out of memory.
+    /// Looks at one more column: where it is the first of the name, at what is expected of it. Errs
+    /// only when out of memory.
     pub(crate) fn look_at(
         &mut self,
         alloc: Global,
-        scratch: &mut Scratch,
         want: &Want,
-        column: &SchemaColumn,
-        infer: bool,
+        said: &ColumnReport,
     ) -> Result<(), AllocError>
-        ensures { OnOk result (IsFound infer (string_bytes want.now.column) (string_bytes want.now.want) (column_tree column.now) self.old self.new) }
+        ensures { OnOk result (IsFound (string_bytes want.now.column) (string_bytes want.now.want) said.now self.old self.new) }
     {
-        if matches!(self, Found::NoColumn) && column.name.as_str() == want.column.as_str() {
-            let finding = inspect_column(alloc, scratch, column, infer)?;
-            *self = Found::Looked(unmet_text(alloc, column, &finding, want.want.as_str())?);
+        if matches!(self, Found::NoColumn) && said.column.name.as_str() == want.column.as_str() {
+            let unmet = unmet_text(alloc, &said.column, &said.finding, want.want.as_str())?;
+            *self = Found::Looked(unmet);
         }
         Ok(())
     }

@@ -44,7 +44,7 @@ fn size(it: &mut Asked<'_>, bytes: &[u8]) {
         notes: false,
     };
     match report_file(it.alloc, None, bytes, options) {
-        Ok(report) => it.said.shown(&report.lines.len()),
+        Ok(lines) => it.said.shown(&lines.len()),
         Err(fault) => say_fault(it, &fault),
     }
 }
@@ -79,8 +79,8 @@ fn crs(it: &mut Asked<'_>) {
 /// Says the report of a file, with ` & ` between its lines.
 fn report(it: &mut Asked<'_>, bytes: &[u8], infer: bool, notes: bool) {
     match report_file(it.alloc, None, bytes, Options { infer, notes }) {
-        Ok(report) => {
-            for (place, line) in report.lines.as_str().lines().enumerate() {
+        Ok(lines) => {
+            for (place, line) in lines.as_str().lines().enumerate() {
                 if place > 0 {
                     it.said.push(" & ");
                 }

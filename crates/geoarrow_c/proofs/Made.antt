@@ -16,7 +16,6 @@ use Rattle.column_files.specs.declared.columns.FileFault.{FileFault}
 use Rattle.column_files.specs.declared.form.Form.{Form}
 use Rattle.column_reports.specs.FileReport.{Reports}
 use Rattle.column_reports.specs.declared.report.Options.{Options}
-use Rattle.column_reports.specs.declared.file.Report.{Report as FileReport}
 use Rattle.geoarrow_fields.specs.Lines.{Bytes}
 use Rattle.geoarrow_c.specs.Buffer.{Makes}
 use Rattle.geoarrow_c.specs.Refusals.{IsLineOfFile, IsLineOfSchema}
@@ -32,8 +31,8 @@ pub makes_as : {P Q Done : Bytes → Type 0} {len : ℕ} → ((text : Bytes) →
 makes_as follows made = record { text = made.text; is = follows made.text made.is; len_is = made.len_is; done = made.done }
 
 -- the lines of a report
-pub is_report : {number : ℕ} {name bytes lines : Bytes} {file : Option Text} {options : Options} (report : FileReport) → number ≡ options_number options → file ≡ name_if name
-    → Reports file options bytes (Ok report) → lines ≡ string_bytes report.lines → IsReport number name bytes lines
+pub is_report : {number : ℕ} {name bytes lines : Bytes} {file : Option Text} {options : Options} (report : String Global) → number ≡ options_number options → file ≡ name_if name
+    → Reports file options bytes (Ok report) → lines ≡ string_bytes report → IsReport number name bytes lines
 is_report {bytes = bytes} {options = options} report number_is named reports is = record {
   options = options;
   report = report;

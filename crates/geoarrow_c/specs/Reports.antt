@@ -1,12 +1,12 @@
 -- What the call that reports a file means by its options and by its name, and what it writes.
-use Rattle.std.specs.Prelude.{◌≡◌, ℕ, ◌+◌, [], ◌∷◌, Option, None, Some, Ok, Err, string_bytes, if◌then◌else◌}
+use Rattle.std.specs.Prelude.{◌≡◌, ℕ, ◌+◌, [], ◌∷◌, Option, None, Some, Ok, Err, String, string_bytes, if◌then◌else◌}
+use Rattle.std.specs.Global.{Global}
 use Rattle.arrow_values.specs.Tree.{Text}
 use Rattle.column_files.specs.Forms.{IsForm}
 use Rattle.column_files.specs.declared.columns.FileFault.{FileFault}
 use Rattle.column_files.specs.declared.form.Form.{Form}
 use Rattle.column_reports.specs.FileReport.{Reports}
 use Rattle.column_reports.specs.declared.report.Options.{Options}
-use Rattle.column_reports.specs.declared.file.Report.{Report as FileReport}
 use Rattle.geoarrow_fields.specs.Lines.{Bytes}
 use Rattle.geoarrow_c.specs.Refusals.{IsLineOfFile}
 
@@ -22,10 +22,10 @@ name_if (b ∷ bs) = Some (b ∷ bs)
 -- the lines are the report of a file of that name under the options of the number
 pub record IsReport (number : ℕ) (name bytes lines : Bytes) : Type 0 where
   pub options : Options
-  pub report : FileReport
+  pub report : String Global
   pub number_is : number ≡ options_number options
   pub reports : Reports (name_if name) options bytes (Ok report)
-  pub is : lines ≡ string_bytes report.lines
+  pub is : lines ≡ string_bytes report
 
 -- the line says why a file of that name has no report under the options of the number
 pub record IsRefusal (number : ℕ) (name bytes line : Bytes) : Type 0 where

@@ -73,7 +73,7 @@ pub extern "C" fn geoarrow_report(
     };
     let file = name_if(name);
     match report_file(alloc, file, bytes, asked) {
-        Ok(report) => fill(report.lines.as_bytes(), out, len),
+        Ok(report) => fill(report.as_bytes(), out, len),
         Err(fault) => refuse_file(alloc, file, form_of(bytes), fault, out, len),
     }
 }

@@ -5,4 +5,3 @@ pub mod Naming
 pub mod Soundness
 pub mod Members
 pub mod Marking
-mod Appending

@@ -10,5 +10,3 @@ pub mod Words
 pub mod Sound
 pub mod Extensions
 pub mod GeoColumns
-pub mod Lines
-pub mod Warnings

@@ -1,7 +1,9 @@
 use Rattle.arrow_values.specs.Texts.{text_of}
-use Rattle.column_reports.proofs.Whole.{whole}
+use Rattle.column_reports.proofs.Whole.{of_bytes}
 use Rattle.column_reports.proofs.file.report_file.Goals as goal
 
 pub returns-in-Ok : goal.returns-in-Ok
 returns-in-Ok c =
-    whole (text_of c.args.file) c.args.options c.args.bytes.now c.in-Ok.opened c.report_opened.result c.in-Ok.ensures (rw c.report_budget-limit.ensures at c.report_opened.ensures)
+    of_bytes (text_of c.args.file) c.args.options c.args.bytes.now c.in_ok-report.report c.json_lines.result
+    (record { opened = c.in-Ok.opened; is = c.in-Ok.ensures; said = c.in_ok-report.ensures })
+    (rw c.report_budget-limit.ensures at c.json_lines.ensures)

@@ -3,4 +3,6 @@ use Rattle.file_check.proofs.schema.made_of_end.Goals as goal
 
 pub returns-in-Ok : goal.returns-in-Ok
 returns-in-Ok c =
-    whole c.args.asked.now c.args.file.now c.args.form c.args.start c.args.end.now c.in-Ok.opened c.made_of.result c.in-Ok.ensures (rw c.report_budget-limit.ensures at c.made_of.ensures)
+    whole c.args.asked.now c.args.file.now c.args.form c.args.start c.args.end.now c.in_ok-report.report c.made_of.result
+    (record { opened = c.in-Ok.opened; is = c.in-Ok.ensures; said = rw c.options.ensures at c.in_ok-report.ensures })
+    (rw c.report_budget-limit.ensures at c.made_of.ensures)

@@ -6,7 +6,7 @@ use Rattle.geoarrow_c.proofs.report.geoarrow_report.Goals as goal
 
 pub returns-in-Ok-report_file-clause-done : goal.returns-in-Ok-report_file-clause-done
 returns-in-Ok-report_file-clause-done c =
-    let lines : c.as_bytes.result.now ≡ string_bytes c.in-Ok-report_file.report.lines = search rules in
+    let lines : c.as_bytes.result.now ≡ string_bytes c.in-Ok-report_file.report = search rules in
     let named : text_of c.name_if-file.result ≡ name_if c.args.name.now = search rules in
     λ done. makes _ c.fill.ensures.len
     (is_report c.in-Ok-report_file.report c.in-Some.ensures.0 named c.in-Ok-report_file.ensures lines)
@@ -14,7 +14,7 @@ returns-in-Ok-report_file-clause-done c =
 
 pub returns-in-Ok-report_file-clause-short : goal.returns-in-Ok-report_file-clause-short
 returns-in-Ok-report_file-clause-short c =
-    let lines : c.as_bytes.result.now ≡ string_bytes c.in-Ok-report_file.report.lines = search rules in
+    let lines : c.as_bytes.result.now ≡ string_bytes c.in-Ok-report_file.report = search rules in
     let named : text_of c.name_if-file.result ≡ name_if c.args.name.now = search rules in
     λ short. makes _ c.fill.ensures.len
     (inl (is_report c.in-Ok-report_file.report c.in-Some.ensures.0 named c.in-Ok-report_file.ensures lines))

@@ -1,0 +1,12 @@
+use Rattle.std.proofs.Common.{refl, map}
+use Rattle.arrow_columns.specs.Column.{column_tree}
+use Rattle.column_reports.proofs.file.report_of.Goals as goal
+
+pub returns : goal.returns
+returns c = record {
+  form_is = refl;
+  by = map column_tree c.in_ok-checked.checked.columns.items;
+  are = c.in_ok-checked.ensures;
+  columns = c.in_ok-columns.ensures;
+  summary = record { invalid = c.summary_of-summary.ensures.invalid; geometry = c.summary_of-summary.ensures.geometry; failed = c.summary_of-summary.ensures.failed };
+}

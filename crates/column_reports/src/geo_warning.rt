@@ -1,0 +1,55 @@
+//! The warning of a file that has columns of geometries, and no metadata of GeoParquet.
+ghost use Rattle.std.specs.Prelude.{◌≡◌, ◌≢◌, All, IfOk, OnOk, string_bytes};
+ghost use Rattle.arrow_values.specs.Texts.{text_of};
+ghost use Rattle.value_tokens.specs.Adds.{Adds};
+ghost use Rattle.column_reports.specs.GeoWarning.{no_geo_code, no_geo_message, no_geo_tokens, no_geo_text};
+
+use crate::geo_line::put_text;
+use json::Writer;
+use std::alloc::{AllocError, Global};
+use value_tokens::text_of;
+
+/// Returns the code of the warning that a file has columns of geometries, and no metadata of
+/// GeoParquet (docs/FORMAT.md, 5.1).
+pub fn no_geo_code() -> &'static str
+    ensures { result.now ≡ no_geo_code }
+{
+    "NoGeoMetadata"
+}
+
+/// Returns what that warning says, in words.
+pub fn no_geo_message() -> &'static str
+    ensures { result.now ≡ no_geo_message }
+{
+    "the file has columns of geometries, but no metadata of GeoParquet"
+}
+
+/// Returns the line of that warning: a JSON object with the keys `file`, `message` and `warning`, in
+/// this order and without blanks (docs/FORMAT.md, 5.1), and without a line feed. `file` is left out
+/// where none is named. Errs only when out of memory.
+///
+/// ```rust
+/// let line = no_geo_line(alloc, Some("a.parquet"))?;
+/// let message = no_geo_message();
+/// let text = format!(in alloc; "{{\"file\":\"a.parquet\",\"message\":\"{message}\",\"warning\":\"NoGeoMetadata\"}}")?;
+/// assert_eq!(rt; line.as_str(), text.as_str());
+/// ```
+pub fn no_geo_line(alloc: Global, file: Option<&str>) -> Result<String, AllocError>
+    ensures text { IfOk result (λ line. string_bytes line ≡ no_geo_text (text_of file.entry)) }
+    ensures one_line { IfOk result (λ line. All (λ b. b ≢ 10) (string_bytes line)) }
+{
+    let mut out = Writer::new(Vec::new(alloc));
+    put_warning(&mut out, file)?;
+    Ok(text_of(out))
+}
+
+/// Writes the object of the warning.
+fn put_warning(out: &mut Writer, file: Option<&str>) -> Result<(), AllocError>
+    ensures { OnOk result (Adds (no_geo_tokens (text_of file.entry)) out.old out.new) }
+{
+    out.begin_object()?;
+    put_text(out, "file", file)?;
+    put_text(out, "message", Some(no_geo_message()))?;
+    put_text(out, "warning", Some(no_geo_code()))?;
+    out.end_object()
+}
