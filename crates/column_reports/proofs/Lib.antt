@@ -1,5 +1,5 @@
 mod Appending
 mod Adding
 mod Places
-pub mod Lines
+pub mod Reported
 pub mod Whole

@@ -11,7 +11,6 @@ mod file;
 mod geo_line;
 mod geo_lines;
 mod geo_warning;
-
 mod line;
 mod lines;
 mod plain;
@@ -27,7 +26,6 @@ pub use file::{FileReport, report_file, report_of};
 pub use geo_line::check_line;
 pub use geo_lines::check_lines;
 pub use geo_warning::{no_geo_code, no_geo_line, no_geo_message};
-
 pub use line::json_line;
 pub use lines::json_lines;
 pub use parquet_columns::report_budget;

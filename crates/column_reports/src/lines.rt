@@ -112,11 +112,7 @@ fn lines_behind(
 
 /// The line of the warning, where a Parquet file has columns of geometries, and no GeoParquet
 /// metadata; else no text.
-fn warning_of(
-    alloc: Global,
-    file: Option<&str>,
-    report: &FileReport,
-) -> Result<String, AllocError>
+fn warning_of(alloc: Global, file: Option<&str>, report: &FileReport) -> Result<String, AllocError>
     ensures { IfOk result (λ text. string_bytes text ≡ warning_in (text_of file.entry) report.now.form report.now.summary.has_geometry) }
 {
     if !matches!(report.form, Form::Parquet) || !report.summary.has_geometry {

@@ -68,9 +68,7 @@ fn text_of_report(
     ensures { MakesText asked.now file.now limit report.now result }
 {
     match asked.flags.output() {
-        Output::Json => {
-            json_lines(alloc, named(file), report, asked.flags.all_checks, limit)
-        }
+        Output::Json => { json_lines(alloc, named(file), report, asked.flags.all_checks, limit) }
         Output::Table => table_of(alloc, asked, file, report, limit),
         Output::Lines | Output::Ipc | Output::Nothing => Ok(String::new(alloc)),
     }
@@ -122,7 +120,12 @@ fn checks_of(alloc: Global, asked: &Asked, report: &FileReport) -> Result<String
     match report.form {
         Form::Parquet => {
             let has_geometry = report.summary.has_geometry;
-            checked_text(alloc, &report.findings, has_geometry, asked.flags.all_checks)
+            checked_text(
+                alloc,
+                &report.findings,
+                has_geometry,
+                asked.flags.all_checks,
+            )
         }
         Form::ArrowFile | Form::ArrowStream | Form::Lines => Ok(String::new(alloc)),
     }

@@ -1,5 +1,5 @@
 use Rattle.std.proofs.Common.{rules}
-use Rattle.column_reports.proofs.Lines.{reported_next}
+use Rattle.column_reports.proofs.Reported.{reported_next}
 use Rattle.column_reports.proofs.file.report_columns.Goals as goal
 
 pub loop-column-preserved : goal.loop-column-preserved

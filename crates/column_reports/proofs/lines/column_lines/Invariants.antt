@@ -1,6 +1,6 @@
 use Rattle.std.proofs.Common.{◌≡◌, ◌≤◌, length, string_bytes}
 use Rattle.arrow_values.specs.Texts.{text_of}
-use Rattle.column_reports.proofs.Lines.{ColumnsFrom}
+use Rattle.column_reports.proofs.Reported.{ColumnsFrom}
 use Rattle.column_reports.proofs.lines.column_lines.Given as goal
 
 abbrev pub invariant-loop-said : goal.invariant-loop-said
