@@ -1,4 +1,4 @@
-use Rattle.std.proofs.Common.{refl, map}
+use Rattle.std.proofs.Common.{refl, map, rules}
 use Rattle.arrow_columns.specs.Column.{column_tree}
 use Rattle.column_reports.proofs.file.report_of.Goals as goal
 
@@ -8,5 +8,5 @@ returns c = record {
   by = map column_tree c.in_ok-checked.checked.columns.items;
   are = c.in_ok-checked.ensures;
   columns = c.in_ok-columns.ensures;
-  summary = record { invalid = c.summary_of-summary.ensures.invalid; geometry = c.summary_of-summary.ensures.geometry; failed = c.summary_of-summary.ensures.failed };
+  summary = record { invalid = search rules; geometry = search rules; failed = search rules };
 }

@@ -1,4 +1,4 @@
-use Rattle.std.proofs.Common.{◌≡◌, ◌++◌, refl, inr, string_bytes, ap, ◌∙◌, arith}
+use Rattle.std.proofs.Common.{◌≡◌, ◌≤◌, ◌++◌, length, refl, inr, string_bytes, ap, ◌∙◌, subst, arith}
 use Rattle.arrow_values.specs.Texts.{text_of}
 use Rattle.column_reports.specs.FileReport.{line_of}
 use Rattle.column_reports.proofs.Reported.{goes_on, ends, is_part}
@@ -10,10 +10,9 @@ loop-said-preserved c =
     let file = text_of c.args.file in
     let next = string_bytes c.add_line.new.text in
     let adds : next ≡ string_bytes l.text ++ line_of file l.said-index c.said-item.result =
-    c.in_ok-add_line.ensures ∙ ap (λ i. string_bytes l.text ++ line_of file i c.said-item.result) l.invariant.1.0 in (
-      goes_on file c.args.columns.now l.said-index (string_bytes l.text) l.invariant.0 c.said-item.result c.loop-said-test.true c.said-item.is next adds,
-      (omega (arith, l.invariant.1.0), c.if-is_past.ensures),
-    )
+    c.in_ok-add_line.ensures ∙ ap (λ i. string_bytes l.text ++ line_of file i c.said-item.result) l.invariant.1 in
+    let on = goes_on file c.args.columns.now l.said-index (string_bytes l.text) l.invariant.0 c.said-item.result c.loop-said-test.true c.said-item.is next adds in
+    (on, omega (arith, l.invariant.1), c.if-is_past.ensures)
 
 pub returns-then-is_past : goal.returns-then-is_past
 returns-then-is_past c =
@@ -21,11 +20,12 @@ returns-then-is_past c =
     let file = text_of c.args.file in
     let next = string_bytes c.add_line.new.text in
     let adds : next ≡ string_bytes l.text ++ line_of file l.said-index c.said-item.result =
-    c.in_ok-add_line.ensures ∙ ap (λ i. string_bytes l.text ++ line_of file i c.said-item.result) l.invariant.1.0 in
+    c.in_ok-add_line.ensures ∙ ap (λ i. string_bytes l.text ++ line_of file i c.said-item.result) l.invariant.1 in
     let on = goes_on file c.args.columns.now l.said-index (string_bytes l.text) l.invariant.0 c.said-item.result c.loop-said-test.true c.said-item.is next adds in
     inr (refl, omega (arith, c.if-is_past.ensures, is_part file c.args.columns.now _ next on))
 
 pub returns : goal.returns
 returns c =
     let l = c.loop-said in
-    (ends (text_of c.args.file) c.args.columns.now l.said-index (string_bytes l.text) l.invariant.0 (omega arith), l.invariant.1.1)
+    let all = ends (text_of c.args.file) c.args.columns.now l.said-index (string_bytes l.text) l.invariant.0 (omega arith) in
+    (all, subst (λ t. length t ≤ c.args.limit) all l.invariant.2)
