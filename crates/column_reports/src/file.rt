@@ -70,7 +70,7 @@ fn report_opened(
     let File { form, columns, geo } = opened;
     match form {
         Form::Parquet => parquet_report(alloc, file, geo, columns, options, limit),
-        Form::ArrowFile | Form::ArrowStream | Form::Lines => {
+        Form::ArrowFile | Form::ArrowStream | Form::Lines | Form::Foreign(_) => {
             report_columns(alloc, file, columns, options, limit)
         }
     }

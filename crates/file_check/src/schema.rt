@@ -105,7 +105,7 @@ fn json_report(
             let all = asked.flags.all_checks;
             report_checked(alloc, named(file), checked, options, all, limit)
         }
-        Form::ArrowFile | Form::ArrowStream | Form::Lines => {
+        Form::ArrowFile | Form::ArrowStream | Form::Lines | Form::Foreign(_) => {
             report_columns(alloc, named(file), checked.columns, options, limit)
         }
     }
@@ -264,6 +264,8 @@ fn checks_of(
 ) -> Result<String, AllocError> {
     match form {
         Form::Parquet => checked_text(alloc, findings, has_geometry, asked.flags.all_checks),
-        Form::ArrowFile | Form::ArrowStream | Form::Lines => Ok(String::new(alloc)),
+        Form::ArrowFile | Form::ArrowStream | Form::Lines | Form::Foreign(_) => {
+            Ok(String::new(alloc))
+        }
     }
 }
