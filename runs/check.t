@@ -339,7 +339,7 @@ Why a line is refused
   >     printf '{"name":"a","nullable":true,"type":"null"}\n%s\n' "$line" | geoarrow_check -
   > done
   -: line 2, byte 13: is no JSON, or nests more than 127 levels
-  -: line 2, byte 1: is no JSON, or nests more than 127 levels
+  -: line 2, byte 1: is no JSON, or nests more than 127 levels. One object on each line: try jq -c . FILE
   -: line 2: is JSON, but no field: "name" is no text
   -: line 2: is JSON, but no field: "nullable" is neither true nor false
   -: line 2: is JSON, but no field: "metadata" is no object of texts
@@ -347,8 +347,43 @@ Why a line is refused
   -: line 2: is JSON, but no field: "type" is unknown
   [2]
 
-  $ printf 'ab\377\n' | geoarrow_check -
+  $ printf '{"\377\n' | geoarrow_check -
   -: line 1, byte 3: is no UTF-8
+  [2]
+
+JSON that is pretty-printed, or an array; and lines behind a byte order mark, which is passed over
+
+  $ printf '{\n  "name": "a"\n}\n' | geoarrow_check --json -
+  {"byte":1,"error":"LineNotJson","help":"One object on each line: try jq -c . FILE","line":1,"message":"is no JSON, or nests more than 127 levels","place":"line 1, byte 1"}
+  -: line 1, byte 1: is no JSON, or nests more than 127 levels. One object on each line: try jq -c . FILE
+  [2]
+
+  $ printf '[\n  {"name": "a"}\n]\n' | geoarrow_check --json -
+  {"error":"ForeignFormat","found":"a JSON array","help":"Try jq -c '.[]' FILE | geoarrow_check -","message":"is of a format that is not read"}
+  -: is of a format that is not read: a JSON array. Try jq -c '.[]' FILE | geoarrow_check -
+  [2]
+
+  $ printf '\357\273\277{"name":"a","nullable":true,"type":"null"}\n' | geoarrow_check --json -
+  {"column":"a","index":0,"state":"plain","type":"null"}
+
+A file of a format that is not read is named, with what to try, whatever is printed; its first bytes alone are read
+
+  $ cd "$TMPDIR" && { printf 'SQLite format 3\000'; head -c 100 /dev/zero; } > a.gpkg
+  > for words in --json --lines --ipc --quiet --infer
+  > do
+  >     geoarrow_check $words a.gpkg
+  > done
+  {"error":"ForeignFormat","file":"a.gpkg","found":"a GeoPackage or SQLite database","help":"Try ogr2ogr out.parquet FILE","message":"is of a format that is not read"}
+  a.gpkg: is of a format that is not read: a GeoPackage or SQLite database. Try ogr2ogr out.parquet FILE
+  a.gpkg: is of a format that is not read: a GeoPackage or SQLite database. Try ogr2ogr out.parquet FILE
+  a.gpkg: is of a format that is not read: a GeoPackage or SQLite database. Try ogr2ogr out.parquet FILE
+  a.gpkg: is of a format that is not read: a GeoPackage or SQLite database. Try ogr2ogr out.parquet FILE
+  a.gpkg: is of a format that is not read: a GeoPackage or SQLite database. Try ogr2ogr out.parquet FILE
+  [2]
+
+  $ cd "$TMPDIR" && (printf 'PK\003\004'; yes) | geoarrow_check a.gpkg -
+  a.gpkg: is of a format that is not read: a GeoPackage or SQLite database. Try ogr2ogr out.parquet FILE
+  -: is of a format that is not read: a zip archive. Unzip it, and check what is in it
   [2]
 
   $ printf 'PAR1PAR1' | geoarrow_check --json -
@@ -409,7 +444,7 @@ The byte of an Arrow file's fault is that of the file, by its path and by standa
 
 With --json the fault is a line of JSON too, alone, or behind the lines of columns; of a file that the system does not read there is none
 
-  $ cd "$TMPDIR" && head -c 700 "$top/crates/geoarrow_check/data/file.arrow" > cut.arrow && printf 'ab\377\n' > bytes && printf 'PAR1\005\000\000\000PAR1' > cut.parquet && printf '\n{"name":"a","nullable":true,"type":"null"}\n{"name":"b" "nullable":true}\n' > lines
+  $ cd "$TMPDIR" && head -c 700 "$top/crates/geoarrow_check/data/file.arrow" > cut.arrow && printf '{"\377\n' > bytes && printf 'PAR1\005\000\000\000PAR1' > cut.parquet && printf '\n{"name":"a","nullable":true,"type":"null"}\n{"name":"b" "nullable":true}\n' > lines
   > for file in cut.arrow bytes cut.parquet lines nowhere
   > do
   >     geoarrow_check --json $file 2> said

@@ -9,8 +9,8 @@ class RefusedSource(ValueError):
     """A source that is not read, or a schema that is not written, as the line of the library says it (docs/FORMAT.md, 2.8): `json`.
 
     `code` says why, and `message` what is wrong. `place` says where, in words, as `byte 4 of the footer`; it is None where the source is at fault as a
-    whole. Of its numbers, `line`, `byte`, `element` and `column`, those that it does not have are None. `file` is the name of the file, where the source
-    is a path.
+    whole. Of its numbers, `line`, `byte`, `element` and `column`, those that it does not have are None. `found` says what stands there, as
+    `a zip archive`, and `help` what to try; each is None where nothing is said. `file` is the name of the file, where the source is a path.
     """
 
     def __init__(self, line: str) -> None:
@@ -24,10 +24,13 @@ class RefusedSource(ValueError):
         self.byte: Optional[int] = said.get("byte")
         self.element: Optional[int] = said.get("element")
         self.column: Optional[int] = said.get("column")
+        self.found: Optional[str] = said.get("found")
+        self.help: Optional[str] = said.get("help")
         self.file: Optional[str] = said.get("file")
 
     def __str__(self) -> str:
-        return self.message if self.place is None else f"{self.place}: {self.message}"
+        said = ": ".join(part for part in (self.place, self.message, self.found) if part is not None)
+        return said if self.help is None else f"{said}. {self.help}"
 
 
 def moved(line: str, bytes_before: int) -> str:

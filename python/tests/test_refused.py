@@ -14,7 +14,7 @@ from geoarrow_fields import InvalidColumns, RefusedSource, check, files, write_s
 from .shared import BROKEN, DATA, OTHER, POINT, TEXT, TOP, printed
 
 NUMBERS = ("line", "byte", "element", "column")
-KEYS = {"code": "error", "message": "message", "place": "place", "file": "file", **{name: name for name in NUMBERS}}
+KEYS = {"code": "error", **{name: name for name in ("message", "place", "found", "help", "file", *NUMBERS)}}
 MAGICS = (b"ARROW1", b"\xff\xff\xff\xff", b"PAR1", b"PARE")
 
 
@@ -36,7 +36,8 @@ def lines_of(content):
 
 def words_of(said):
     """What the program prints behind the name of a file."""
-    return ": ".join(said[key] for key in ("place", "message") if key in said)
+    words = ": ".join(said[key] for key in ("place", "message", "found") if key in said)
+    return f"{words}. {said['help']}" if "help" in said else words
 
 
 def line_of(said):
@@ -92,7 +93,7 @@ class Shared(InAFolder):
             with self.subTest(content[:80], said=said):
                 self.judge_each(content, said)
             keys |= said.keys()
-        self.assertTrue({"error", "message", "place", "line", "byte", "element"} <= keys, keys)
+        self.assertTrue({"error", "message", "place", "found", "help", "line", "byte", "element"} <= keys, keys)
 
     def test_the_words_of_the_command_and_of_many_files(self):
         for content, said in cases():
@@ -124,7 +125,7 @@ class Refused(InAFolder):
         for content, said in (
                 (f"{TEXT}\n{{}}\n", self.said("LineName", 'is JSON, but no field: "name" is no text', "line 2", line=2)),
                 (f"\n{TEXT}\n\n[]", self.said("LineNotObject", "is JSON, but no object", "line 4", line=4)),
-                ("{", self.said("LineNotJson", "is no JSON, or nests more than 127 levels", "line 1, byte 1", line=1, byte=1))):
+                ("{]", self.said("LineNotJson", "is no JSON, or nests more than 127 levels", "line 1, byte 2", line=1, byte=2))):
             self.judge_each(content.encode(), said)
         self.judge(self.refused(check, [TEXT, "\ud800"]), self.said("LineNotUtf8", "is no UTF-8", "line 2, byte 1", line=2, byte=1))
 
@@ -204,11 +205,14 @@ class Errors(InAFolder):
 
     def test_each_key(self):
         self.judge(RefusedSource('{"error":"E","message":"m"}'), {"error": "E", "message": "m"})
-        said = {"byte": 1, "column": 2, "element": 3, "error": "E", "file": "f\u00e9", "line": 4, "message": "m", "place": "p 9"}
+        said = {"byte": 1, "column": 2, "element": 3, "error": "E", "file": "f\u00e9", "found": "a", "help": "H", "line": 4, "message": "m", "place": "p 9"}
         self.judge(RefusedSource(line_of(said)), said)
         for key in ("byte", "column", "element", "line"):
             some = {"error": "E", key: 0, "message": "m"}
             self.judge(RefusedSource(line_of(some)), some)
+        for some in ({"found": "a"}, {"help": "H"}, {"found": "a", "help": "H"}):
+            said = {"error": "E", "message": "m", **some}
+            self.judge(RefusedSource(line_of(said)), said)
 
     def test_the_example_of_the_readme(self):
         (call, wanted), = re.findall(r"(?m)^    >>> (check\(b.*\))\n    Traceback .*\n    \.\.\.\n    (.*)$", (TOP / "python/README.md").read_text())

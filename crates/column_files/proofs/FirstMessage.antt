@@ -1,5 +1,5 @@
 -- The first message of a stream is all that is read of it, and of another format all bytes.
-use Rattle.std.proofs.Common.{◌≡◌, ◌⊎◌, inl, inr, ℕ, ◌+◌, ◌<◌, ◌≤◌, true, ◌&&◌, nat_lt, nat_le, List, [], ◌∷◌, ◌++◌, length, take, drop, if◌then◌else◌, Option, Some, None, IfSome, Ok, refl, sym, ap, ◌∙◌, subst, append-nil, arith}
+use Rattle.std.proofs.Common.{◌≡◌, ◌⊎◌, inl, inr, ℕ, ◌+◌, ◌-◌, ◌<◌, ◌≤◌, true, ◌&&◌, nat_lt, nat_le, List, [], ◌∷◌, ◌++◌, length, take, drop, if◌then◌else◌, Option, Some, None, IfSome, Ok, refl, sym, ap, ◌∙◌, subst, append-nil, append_assoc, arith}
 use Rattle.std.specs.Int.{w32, from_le_bytes}
 use Rattle.std.specs.Io.KnownBytes.{IsAtEnd}
 use Rattle.std.proofs.lemmas.Bool.{cases_lt, le-leb}
@@ -8,14 +8,16 @@ use Rattle.arrow_ipc.specs.Fault.{breaks}
 use Rattle.arrow_ipc.specs.declared.fault.IpcRule.TheVariants.{Envelope}
 use Rattle.arrow_ipc.specs.Schema.{message_in, cut, schema_of_message}
 use Rattle.arrow_ipc.specs.Wire.{integer_at}
-use Rattle.column_files.specs.Forms.{IsForm}
+use Rattle.column_files.specs.Forms.{IsForm, head_form}
 use Rattle.column_files.specs.Files.{size_in, IsSchemaRead, IsFileRead}
 use Rattle.column_files.specs.Reading.{GivesSchema, IsHead, ReadAs}
 use Rattle.line_reader.specs.Sources.{GivesUpTo}
+use Rattle.column_files.proofs.Streams.{stream_begins}
+use Rattle.column_files.specs.declared.foreign.Foreign.{Foreign as Format}
 use Rattle.column_files.specs.declared.form.Form.{Form}
-use Rattle.column_files.specs.declared.form.Form.TheVariants.{ArrowFile, ArrowStream, Parquet, Lines}
+use Rattle.column_files.specs.declared.form.Form.TheVariants.{ArrowFile, ArrowStream, Parquet, Lines, Foreign}
 
--- the first eight bytes of a stream, and what comes behind them
+-- a stream: its marker, the size of its first message, and what comes behind them
 abbrev stream : ℕ → ℕ → ℕ → ℕ → List ℕ → List ℕ
 stream a b c d rest = 255 ∷ 255 ∷ 255 ∷ 255 ∷ a ∷ b ∷ c ∷ d ∷ rest
 
@@ -36,16 +38,15 @@ cut_is a b c d size rest fits =
     ap (λ t. if nat_lt 0 size && t then Ok (take size rest) else breaks Envelope 8) (one ∙ sym other)
     ∙ ap (λ l. if nat_lt 0 size && nat_le (8 + size) (length (stream a b c d (take size rest))) then Ok l else breaks Envelope 8) (sym (take_all size (take size rest) (omega (arith, len))))
 
-same_message : (a b c d : ℕ) (more ys : List ℕ) → length more ≤ from_le_bytes w32 (a ∷ b ∷ c ∷ d ∷ []) → (length more < from_le_bytes w32 (a ∷ b ∷ c ∷ d ∷ []) → ys ≡ [])
-    → message_in (stream a b c d more) ≡ message_in (stream a b c d (more ++ ys))
-same_message a b c d more ys most end =
+same_message : (a b c d : ℕ) (more ys : List ℕ) → (length more < from_le_bytes w32 (a ∷ b ∷ c ∷ d ∷ []) → ys ≡ []) → message_in (stream a b c d more) ≡ message_in (stream a b c d (more ++ ys))
+same_message a b c d more ys end =
     let size = from_le_bytes w32 (a ∷ b ∷ c ∷ d ∷ []) in
     elim (cases_lt (length more) size) [
       | inl short ↦ ap (λ l. message_in (stream a b c d l)) (sym (ap (λ l. more ++ l) (end short) ∙ append-nil more))
       | inr full ↦
-          let whole : take size (more ++ ys) ≡ more = take-append-le size more ys full ∙ take_all size more most in
-          message_is a b c d more ∙ ap (λ l. cut (stream a b c d l) 8 size) (sym whole) ∙ sym (cut_is a b c d size (more ++ ys) (omega (arith, full, length-append more ys)))
-          ∙ sym (message_is a b c d (more ++ ys))
+          let same : take size (more ++ ys) ≡ take size more = take-append-le size more ys full in
+          message_is a b c d more ∙ cut_is a b c d size more full ∙ ap (λ l. cut (stream a b c d l) 8 size) (sym same)
+          ∙ sym (cut_is a b c d size (more ++ ys) (omega (arith, full, length-append more ys))) ∙ sym (message_is a b c d (more ++ ys))
     ]
 
 -- ---- what is read of these bytes is what is read of all
@@ -56,17 +57,20 @@ same_bytes form bytes all same = λ r. (λ is. subst (λ l. IsFileRead form l r)
 same_found : (bytes all : List ℕ) → message_in bytes ≡ message_in all → ReadAs ArrowStream bytes all
 same_found bytes all same = λ r. (λ is. subst (λ f. IsSchemaRead f (schema_of_message 61) r) same is, λ is. subst (λ f. IsSchemaRead f (schema_of_message 61) r) (sym same) is)
 
-of_stream : (head four more ys : List ℕ) → head ≡ 255 ∷ 255 ∷ 255 ∷ 255 ∷ four → length head ≡ 8 → GivesUpTo (size_in (drop 4 head)) (Some (more ++ ys)) (Some ys) more → ReadAs ArrowStream (head ++ more) (head ++ (more ++ ys))
+of_stream : (head four more ys : List ℕ) → head ≡ 255 ∷ 255 ∷ 255 ∷ 255 ∷ four → 8 ≤ length head → GivesUpTo (8 + size_in (drop 4 head) - length head) (Some (more ++ ys)) (Some ys) more
+    → ReadAs ArrowStream (head ++ more) (head ++ (more ++ ys))
 of_stream head [] more ys is long given = absurd (omega (arith, long, ap length is))
 of_stream head (a ∷ []) more ys is long given = absurd (omega (arith, long, ap length is))
 of_stream head (a ∷ b ∷ []) more ys is long given = absurd (omega (arith, long, ap length is))
 of_stream head (a ∷ b ∷ c ∷ []) more ys is long given = absurd (omega (arith, long, ap length is))
-of_stream head (a ∷ b ∷ c ∷ d ∷ e ∷ more_four) more ys is long given = absurd (omega (arith, long, ap length is))
-of_stream head (a ∷ b ∷ c ∷ d ∷ []) more ys is long given =
-    let size_is : size_in (drop 4 head) ≡ from_le_bytes w32 (a ∷ b ∷ c ∷ d ∷ []) = ap (λ h. size_in (drop 4 h)) is in
-    let most = subst (λ n. length more ≤ n) size_is given.1 in
-    let end = subst (λ n. length more < n → ys ≡ []) size_is given.2 in
-    subst (λ h. ReadAs ArrowStream (h ++ more) (h ++ (more ++ ys))) (sym is) (same_found (stream a b c d more) (stream a b c d (more ++ ys)) (same_message a b c d more ys most end))
+of_stream head (a ∷ b ∷ c ∷ d ∷ first) more ys is long given =
+    let size = from_le_bytes w32 (a ∷ b ∷ c ∷ d ∷ []) in
+    let size_is : size_in (drop 4 head) ≡ size = ap (λ h. size_in (drop 4 h)) is in
+    let len : length head ≡ 8 + length first = ap length is in
+    let end : length (first ++ more) < size → ys ≡ [] = λ short. given.2 (omega (arith, short, size_is, len, length-append first more)) in
+    let same : message_in (stream a b c d (first ++ more)) ≡ message_in (stream a b c d (first ++ (more ++ ys))) =
+    same_message a b c d (first ++ more) ys end ∙ ap (λ l. message_in (stream a b c d l)) (append_assoc first more ys) in
+    subst (λ h. ReadAs ArrowStream (h ++ more) (h ++ (more ++ ys))) (sym is) (same_found (stream a b c d (first ++ more)) (stream a b c d (first ++ (more ++ ys))) same)
 
 nothing_more : (more ys : List ℕ) → more ++ ys ≡ [] → more ≡ more ++ ys
 nothing_more [] [] is = refl
@@ -85,9 +89,12 @@ of_form : (form : Form) (head bytes rest ys : List ℕ) → Given form head byte
 of_form ArrowFile head bytes rest ys (more, is, given) begins whole = of_all ArrowFile head bytes more rest ys is given.0 given.1
 of_form Parquet head bytes rest ys (more, is, given) begins whole = of_all Parquet head bytes more rest ys is given.0 given.1
 of_form Lines head bytes rest ys (more, is, given) begins whole = of_all Lines head bytes more rest ys is given.0 given.1
+of_form (Foreign foreign) head bytes rest ys given begins whole = λ r. (λ is. is, λ is. is)
 of_form ArrowStream head bytes rest ys (more, is, given) begins (inl long) =
+    let all : take 64 head ≡ head = take_all 64 head (omega (arith, long)) in
+    let marked : head ≡ 255 ∷ 255 ∷ 255 ∷ 255 ∷ drop 4 head = stream_begins head (subst (λ l. ArrowStream ≡ head_form l) all begins) in
     subst (λ l. ReadAs ArrowStream bytes (head ++ l)) (sym given.0)
-    (subst (λ l. ReadAs ArrowStream l (head ++ (more ++ ys))) (sym is) (of_stream head begins.0 more ys begins.1 long (refl, given.1, given.2)))
+    (subst (λ l. ReadAs ArrowStream l (head ++ (more ++ ys))) (sym is) (of_stream head (drop 4 head) more ys marked (omega (arith, long)) (refl, given.1, given.2)))
 of_form ArrowStream head bytes rest ys (more, is, given) begins (inr none) =
     same_bytes ArrowStream bytes (head ++ rest) (is ∙ ap (λ l. head ++ l) (nothing_more more ys (sym given.0 ∙ none) ∙ sym given.0))
 
@@ -97,15 +104,20 @@ enough ArrowFile head bytes (Some rest) None given = absurd given.2.0
 enough ArrowStream head bytes (Some rest) None given = absurd given.2.0
 enough Parquet head bytes (Some rest) None given = absurd given.2.0
 enough Lines head bytes (Some rest) None given = absurd given.2.0
+enough (Foreign foreign) head bytes (Some rest) None given = absurd given.2.0
 enough form head bytes (Some rest) (Some ys) given = of_form form head bytes rest ys given
 
 -- what is given of a stream by the size in its head, and of another format without a limit
 abbrev pub GivenUpTo : ℕ → List ℕ → List ℕ → Option (List ℕ) → Option (List ℕ) → Type 0
 GivenUpTo n head bytes old new = (more : List ℕ) × (bytes ≡ head ++ more) × GivesUpTo n old new more
 
-pub by_size : (form : Form) (head bytes : List ℕ) (old new : Option (List ℕ)) (n : ℕ) → form ≡ ArrowStream → n ≡ size_in (drop 4 head) → GivenUpTo n head bytes old new → Given form head bytes old new
+pub by_size : (form : Form) (head bytes : List ℕ) (old new : Option (List ℕ)) (n : ℕ) → form ≡ ArrowStream → n ≡ 8 + size_in (drop 4 head) - length head → GivenUpTo n head bytes old new → Given form head bytes old new
 by_size form head bytes old new n form_is size_is (more, is, given) =
     (more, is, subst (λ f. GivesSchema f head old new more) (sym form_is) (subst (λ n. GivesUpTo n old new more) size_is given))
+
+pub by_none : (form : Form) (foreign : Format) (head bytes : List ℕ) (old new : Option (List ℕ)) (n : ℕ) → form ≡ Foreign foreign → n ≡ 0 → GivenUpTo n head bytes old new → Given form head bytes old new
+by_none form foreign head bytes old new n form_is none (more, is, given) =
+    (more, is, subst (λ f. GivesSchema f head old new more) (sym form_is) (subst (λ n. GivesUpTo n old new more) none given))
 
 pub by_rest : (form : Form) (head bytes : List ℕ) (old new : Option (List ℕ)) (n : ℕ) → (form ≡ ArrowFile) ⊎ ((form ≡ Parquet) ⊎ (form ≡ Lines)) → length bytes < n → GivenUpTo n head bytes old new → Given form head bytes old new
 by_rest form head bytes old new n form_is small (more, is, given) =

@@ -17,7 +17,7 @@ use Rattle.arrow_ipc.specs.declared.fault.IpcRule.TheVariants.{Envelope}
 use Rattle.arrow_ipc.specs.declared.schema.Schema.{Schema}
 use Rattle.column_files.specs.Files.{size_in, HasFooter, IsFooterRead, further, footer_begin}
 use Rattle.column_files.specs.declared.columns.FileFault.{FileFault}
-use Rattle.column_files.specs.declared.columns.FileFault.TheVariants.{NoField, Empty, ReportTooLarge, Ipc, Parquet, OutOfMemory as OutOfMemoryFault}
+use Rattle.column_files.specs.declared.columns.FileFault.TheVariants.{NoField, Empty, Foreign, ReportTooLarge, Ipc, Parquet, OutOfMemory as OutOfMemoryFault}
 
 -- ---- what is found
 
@@ -200,6 +200,7 @@ of_whole front end fits r is = by_result r is
         subst (λ f. Refuses (front ++ end) f error) (sym found) (of_refusal front end (footer_in end) refl error inner meets is)
     by_result (Err (NoField k fault)) is = absurd is
     by_result (Err Empty) is = absurd is
+    by_result (Err (Foreign foreign)) is = absurd is
     by_result (Err ReportTooLarge) is = absurd is
     by_result (Err (Parquet error)) is = absurd is
     by_result (Err OutOfMemoryFault) is = absurd is

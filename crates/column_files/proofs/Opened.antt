@@ -6,7 +6,7 @@ use Rattle.column_files.specs.Forms.{IsForm}
 use Rattle.column_files.specs.Files.{IsFileRead, IsEndRead, HasGeo, IsOpened, IsEndOpened}
 use Rattle.column_files.specs.declared.columns.FileFault.{FileFault}
 use Rattle.column_files.specs.declared.form.Form.{Form}
-use Rattle.column_files.specs.declared.form.Form.TheVariants.{ArrowFile, ArrowStream, Parquet, Lines}
+use Rattle.column_files.specs.declared.form.Form.TheVariants.{ArrowFile, ArrowStream, Parquet, Lines, Foreign}
 use Rattle.column_files.specs.declared.opening.File.{File}
 
 -- the columns of a file that has no text at the key `geo`
@@ -21,6 +21,7 @@ whole ArrowFile bytes r is = is [] refl (inr refl)
 whole ArrowStream bytes r is = is
 whole Parquet bytes r is = is
 whole Lines bytes r is = is
+whole (Foreign foreign) bytes r is = is
 
 pub opened : (bytes : List ℕ) (form : Form) (r : Result File FileFault) → IsForm bytes form → IsEndOpened form 0 bytes r → IsOpened bytes r
 opened bytes form (Ok file) is (same, read, geo) = (

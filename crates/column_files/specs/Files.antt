@@ -12,13 +12,13 @@ use Rattle.arrow_ipc.specs.declared.fault.IpcError.TheVariants.{Broken, Budget, 
 use Rattle.arrow_ipc.specs.declared.schema.Schema.{Schema}
 use Rattle.std.specs.declared.vec.Vec.{Vec}
 use Rattle.std.specs.declared.alloc.Global.{Global}
-use Rattle.column_files.specs.Forms.{IsForm}
+use Rattle.column_files.specs.Forms.{IsForm, unmarked}
 use Rattle.column_files.specs.Lines.{LinesTo, Denote}
 use Rattle.column_files.specs.LineFaults.{DenotesNone}
 use Rattle.column_files.specs.declared.form.Form.{Form}
-use Rattle.column_files.specs.declared.form.Form.TheVariants.{ArrowFile, ArrowStream, Parquet, Lines}
+use Rattle.column_files.specs.declared.form.Form.TheVariants.{ArrowFile, ArrowStream, Parquet, Lines, Foreign}
 use Rattle.column_files.specs.declared.columns.FileFault.{FileFault}
-use Rattle.column_files.specs.declared.columns.FileFault.TheVariants.{NoField, Empty, Ipc, Parquet as ParquetFault, OutOfMemory}
+use Rattle.column_files.specs.declared.columns.FileFault.TheVariants.{NoField, Empty, Foreign as ForeignFault, Ipc, Parquet as ParquetFault, OutOfMemory}
 use Rattle.column_files.specs.declared.opening.File.{File}
 use Rattle.parquet_columns.specs.Reads as parquet
 use Rattle.parquet_columns.specs.declared.error.SchemaError.{SchemaError}
@@ -26,17 +26,21 @@ use Rattle.parquet_columns.specs.declared.error.SchemaError.{SchemaError}
 -- ---- lines
 
 -- what is read of lines: the columns that they denote; or how many lines stand before the first that is not blank and denotes none, and why
-abbrev pub AreLinesRead : List ℕ → Result (Vec SchemaColumn Global) FileFault → Type 0
-AreLinesRead text (Ok columns) = (lines : List (List ℕ)) × LinesTo text lines [] × Denote lines (map column_tree columns.items)
-AreLinesRead text (Err (NoField n fault)) =
+abbrev pub AreUnmarkedRead : List ℕ → Result (Vec SchemaColumn Global) FileFault → Type 0
+AreUnmarkedRead text (Ok columns) = (lines : List (List ℕ)) × LinesTo text lines [] × Denote lines (map column_tree columns.items)
+AreUnmarkedRead text (Err (NoField n fault)) =
     (before : List (List ℕ)) × (cs : List ColumnTree) × (rest : List ℕ) × (length before ≡ n) × LinesTo text before rest × Denote before cs × DenotesNone rest fault
-AreLinesRead text (Err OutOfMemory) = ⊤
-AreLinesRead text (Err fault) = ⊥
+AreUnmarkedRead text (Err OutOfMemory) = ⊤
+AreUnmarkedRead text (Err fault) = ⊥
+
+-- the byte order mark before them is passed over
+abbrev pub AreLinesRead : List ℕ → Result (Vec SchemaColumn Global) FileFault → Type 0
+AreLinesRead text r = AreUnmarkedRead (unmarked text) r
 
 -- what is read of a file of lines: the same; but that it is empty, where its lines denote no column
 abbrev pub AreLinesInFile : List ℕ → Result (Vec SchemaColumn Global) FileFault → Type 0
 AreLinesInFile text (Ok columns) = AreLinesRead text (Ok columns) × (columns.items ≢ [])
-AreLinesInFile text (Err Empty) = (lines : List (List ℕ)) × LinesTo text lines [] × Denote lines []
+AreLinesInFile text (Err Empty) = (lines : List (List ℕ)) × LinesTo (unmarked text) lines [] × Denote lines []
 AreLinesInFile text (Err fault) = AreLinesRead text (Err fault)
 
 -- ---- schemas
@@ -78,6 +82,7 @@ IsFileRead ArrowFile bytes r = IsFooterRead 0 bytes r
 IsFileRead ArrowStream bytes r = IsSchemaRead (message_in bytes) (schema_of_message 61) r
 IsFileRead Parquet bytes r = IsParquetRead (parquet.footer_in bytes) r
 IsFileRead Lines bytes r = AreLinesInFile bytes r
+IsFileRead (Foreign foreign) bytes r = r ≡ Err (ForeignFault foreign)
 
 -- the number in the first four bytes, the lowest first; 0 where there are fewer
 abbrev pub size_in : List ℕ → ℕ

@@ -1,3 +1,4 @@
+pub mod Foreigns
 pub mod Forms
 pub mod Lines
 pub mod LineFaults

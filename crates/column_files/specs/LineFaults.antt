@@ -1,5 +1,5 @@
 -- Why a line denotes no column.
-use Rattle.std.specs.Prelude.{◌≡◌, ℕ, false, List, [], ◌∷◌, ◌++◌, map, Option, Some, None, Result, Ok, Err, IsSome, codes}
+use Rattle.std.specs.Prelude.{◌≡◌, ◌==◌, ◌&&◌, ℕ, Bool, true, false, List, [], ◌∷◌, ◌++◌, map, Option, Some, None, Result, Ok, Err, IsSome, codes}
 use Rattle.std.specs.Str.{IsUtf8}
 use Rattle.std.specs.Str.Lossy.{utf8_valid_len}
 use Rattle.serde_json.specs.Data.{Data, object, Members}
@@ -10,9 +10,10 @@ use Rattle.arrow_columns.specs.Column.{column_tree}
 use Rattle.arrow_columns.specs.declared.column.SchemaColumn.{SchemaColumn}
 use Rattle.field_lines.specs.FieldOfValue.{under, type_in, metadata_of_value}
 use Rattle.field_lines.specs.ColumnOfValue.{other_of_value, value_of_line, column_of_line}
+use Rattle.column_files.specs.Forms.{behind_blanks}
 use Rattle.column_files.specs.Lines.{is_blank, FirstLine, Denote}
 use Rattle.column_files.specs.declared.line.LineFault.{LineFault}
-use Rattle.column_files.specs.declared.line.LineFault.TheVariants.{NotUtf8, NotJson, NotObject, Name, Nullable, Metadata, TypeUnknown}
+use Rattle.column_files.specs.declared.line.LineFault.TheVariants.{NotUtf8, NotJson, OpenObject, OpenArray, NotObject, Name, Nullable, Metadata, TypeUnknown}
 
 -- what the members have that a field must have
 abbrev pub HasName : Members → Type 0
@@ -40,10 +41,27 @@ abbrev pub IsValueFault : Data → LineFault → Type 0
 IsValueFault d NotObject = as_object d ≡ None
 IsValueFault d fault = (ms : Members) × (d ≡ object ms) × IsKeyFault ms fault
 
+-- a line has this byte alone, with blanks around it
+abbrev pub is_byte_alone : ℕ → List ℕ → Bool
+is_byte_alone byte [] = false
+is_byte_alone byte (code ∷ rest) = (code == byte) && is_blank rest
+
+abbrev pub is_lone : ℕ → List ℕ → Bool
+is_lone byte line = is_byte_alone byte (behind_blanks line)
+
+-- why a line is no JSON: it is `{` or `[` alone, or neither
+abbrev pub IsJsonFault : Text → LineFault → Type 0
+IsJsonFault line (OpenObject at) = is_lone 123 line ≡ true
+IsJsonFault line (OpenArray at) = is_lone 91 line ≡ true
+IsJsonFault line (NotJson at) = (is_lone 123 line ≡ false) × (is_lone 91 line ≡ false)
+IsJsonFault line fault = ⊥
+
 -- why a line denotes no column: it is not UTF-8, not JSON, or its value denotes none
 abbrev pub IsLineFault : Text → LineFault → Type 0
 IsLineFault line (NotUtf8 at) = ¬ IsUtf8 line × (at ≡ utf8_valid_len line)
-IsLineFault line (NotJson at) = IsUtf8 line × (read line ≡ None)
+IsLineFault line (NotJson at) = IsUtf8 line × (read line ≡ None) × IsJsonFault line (NotJson at)
+IsLineFault line (OpenObject at) = IsUtf8 line × (read line ≡ None) × IsJsonFault line (OpenObject at)
+IsLineFault line (OpenArray at) = IsUtf8 line × (read line ≡ None) × IsJsonFault line (OpenArray at)
 IsLineFault line fault = (d : Data) × (value_of_line line ≡ Some d) × IsValueFault d fault
 
 -- what is read of a line: the column that it denotes, or why it denotes none

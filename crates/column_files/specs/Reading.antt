@@ -1,5 +1,5 @@
 -- What is read of a source: its lines one after another, and the bytes that hold its schema.
-use Rattle.std.specs.Prelude.{◌≡◌, ◌≢◌, ℕ, ◌+◌, ◌≤◌, ◌⊎◌, ◌↔◌, min, Bool, true, false, List, [], ◌∷◌, ◌++◌, length, take, drop, Option, Some, None, IfSome, Result, Ok, Err, ⊤}
+use Rattle.std.specs.Prelude.{◌≡◌, ◌≢◌, ℕ, ◌+◌, ◌-◌, ◌≤◌, ◌⊎◌, ◌↔◌, min, Bool, true, false, List, [], ◌∷◌, ◌++◌, length, take, drop, Option, Some, None, IfSome, Result, Ok, Err, ⊤}
 use Rattle.std.specs.List.{All}
 use Rattle.std.specs.Io.KnownBytes.{Consumes, IsAtEnd, prepend_known}
 use Rattle.std.specs.IoError.{error_kind}
@@ -10,11 +10,12 @@ use Rattle.std.specs.declared.vec.Vec.{Vec}
 use Rattle.std.specs.declared.alloc.Global.{Global}
 use Rattle.arrow_columns.specs.Column.{ColumnTree, column_tree}
 use Rattle.arrow_columns.specs.declared.column.SchemaColumn.{SchemaColumn}
+use Rattle.column_files.specs.Forms.{head_bytes}
 use Rattle.column_files.specs.Lines.{LinesTo, Denote}
 use Rattle.column_files.specs.LineFaults.{DenotesNone}
 use Rattle.column_files.specs.Files.{IsFileRead, size_in, HasFooter}
 use Rattle.column_files.specs.declared.form.Form.{Form}
-use Rattle.column_files.specs.declared.form.Form.TheVariants.{ArrowFile, ArrowStream, Parquet}
+use Rattle.column_files.specs.declared.form.Form.TheVariants.{ArrowFile, ArrowStream, Parquet, Foreign}
 use Rattle.column_files.specs.declared.columns.FileFault.{FileFault}
 use Rattle.column_files.specs.declared.columns.FileFault.TheVariants.{NoField, Empty, OutOfMemory}
 use Rattle.column_files.specs.declared.fault.ReadFault.{ReadFault}
@@ -78,9 +79,11 @@ is_column r = false
 abbrev pub GivesAll : Option (List ℕ) → Option (List ℕ) → List ℕ → Type 0
 GivesAll old new bytes = Consumes old new bytes × IsAtEnd new
 
--- the source gives, behind the first bytes, those that belong to its schema: of a stream the first message, whose size stands behind its marker; else all
+-- the source gives, behind the first bytes, those that belong to its schema: of a stream what the first message has beyond these, whose size stands
+-- behind its marker; of a format that is not read none; else all
 abbrev pub GivesSchema : Form → List ℕ → Option (List ℕ) → Option (List ℕ) → List ℕ → Type 0
-GivesSchema ArrowStream head old new more = GivesUpTo (size_in (drop 4 head)) old new more
+GivesSchema ArrowStream head old new more = GivesUpTo (8 + size_in (drop 4 head) - length head) old new more
+GivesSchema (Foreign foreign) head old new more = GivesUpTo 0 old new more
 GivesSchema form head old new more = GivesAll old new more
 
 -- the source gives these bytes, the first among them; of an Arrow or Parquet file, whose end alone may be read, it is at its end
@@ -97,7 +100,7 @@ IsEnd form start end = start ≡ 0
 
 -- what `read_head` gives of a source, which has the rest left
 abbrev pub IsHead : List ℕ → List ℕ → Type 0
-IsHead head rest = (length head ≡ 8) ⊎ (rest ≡ [])
+IsHead head rest = (length head ≡ head_bytes) ⊎ (rest ≡ [])
 
 -- what is read of these bytes in that format is what is read of all
 abbrev pub ReadAs : Form → List ℕ → List ℕ → Type 0

@@ -5,6 +5,7 @@ ghost use Rattle.arrow_ipc.specs.declared.fault.IpcFault.{IpcFault};
 ghost use Rattle.column_files.specs.Files.{IsFooterRead, IsSchemaRead, AreLinesRead, AreLinesInFile};
 ghost use Rattle.column_files.specs.Files.{further, footer_begin};
 
+use crate::foreign::Foreign;
 use crate::line::LineFault;
 use arrow_columns::SchemaColumn;
 use arrow_ipc::{IpcError, IpcFault, Schema};
@@ -19,6 +20,8 @@ pub enum FileFault {
     NoField(usize, LineFault),
     /// The file has no bytes, or blank lines alone.
     Empty,
+    /// The file is of a format that is not read.
+    Foreign(Foreign),
     /// The report of the file would be greater than its budget. Reading columns never errs so;
     /// reporting them may.
     ReportTooLarge,

@@ -1,8 +1,9 @@
-//! The columns of a file, whichever of the formats it is in: an Arrow file or stream, or lines of fields.
+//! The columns of a file, whichever of the formats it is in: an Arrow or Parquet file, an Arrow stream, or lines of fields.
 #![tactic(auto)]
 
 mod columns;
 mod fault;
+mod foreign;
 mod form;
 pub mod laws;
 mod line;
@@ -14,6 +15,7 @@ mod schema_bytes;
 
 pub use columns::FileFault;
 pub use fault::ReadFault;
+pub use foreign::Foreign;
 pub use form::{Form, form_of};
 pub use line::{LineFault, column_line, parse_column_line};
 pub use line_reader::MAX_LINE_BYTES;

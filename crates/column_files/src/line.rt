@@ -7,8 +7,10 @@ ghost use Rattle.arrow_columns.specs.Column.{column_tree};
 ghost use Rattle.field_lines.specs.FieldOfValue.{texts_in, metadata_of_value};
 ghost use Rattle.field_lines.specs.ColumnOfValue.{column_of_value, column_of_line};
 ghost use Rattle.column_files.specs.ColumnLines.{line_of_column, FitsLine};
-ghost use Rattle.column_files.specs.LineFaults.{IsLineRead, IsLineFault, IsValueFault, IsKeyFault};
+ghost use Rattle.column_files.specs.LineFaults.{IsLineRead, IsLineFault, IsJsonFault, is_lone, IsValueFault, IsKeyFault};
 
+use crate::form::behind_blanks;
+use crate::lines::is_blank;
 use arrow_columns::{AnyType, SchemaColumn};
 use arrow_values::Field;
 use field_lines::laws::{field_is_column, written_other_is_read};
@@ -22,8 +24,14 @@ use std::alloc::{AllocError, Global};
 pub enum LineFault {
     /// The line is not UTF-8 from this byte on, counted from 0.
     NotUtf8(usize),
-    /// The line is not JSON, nested at most 127 deep; with the byte at which that shows, counted from 1.
+    /// The line is not JSON, nested at most 127 deep, nor one of the next two; with the byte at which that shows, counted from 1.
     NotJson(usize),
+    /// The line is `{` alone, with which an object on several lines begins: no JSON; with the byte
+    /// at which that shows, counted from 1.
+    OpenObject(usize),
+    /// The line is `[` alone, with which an array on several lines begins: no JSON; with the byte
+    /// at which that shows, counted from 1.
+    OpenArray(usize),
     /// The line is JSON, but no object.
     NotObject,
     /// There is no text at the key `name`.
@@ -107,7 +115,7 @@ fn line_fault(alloc: Global, line: &[u8]) -> Result<LineFault, AllocError>
 }
 
 /// Why a text denotes no column.
-#[tactic(auto, using(crate::proofs::LineReads::no_column, crate::proofs::LineReads::line_fault_of))]
+#[tactic(auto, using(crate::proofs::LineReads::no_column, crate::proofs::LineReads::line_fault_of, crate::proofs::LineReads::json_fault_of))]
 fn text_fault(alloc: Global, text: &str) -> Result<LineFault, AllocError>
     requires { column_of_line text.now ≡ None }
     ensures { IfOk result (IsLineFault text.now) }
@@ -118,8 +126,31 @@ fn text_fault(alloc: Global, text: &str) -> Result<LineFault, AllocError>
             if error.is_memory() {
                 return Err(AllocError);
             }
-            Ok(LineFault::NotJson(error.column()))
+            Ok(json_fault(text.as_bytes(), error.column()))
         }
+    }
+}
+
+/// Why a line is no JSON, which shows at that byte.
+fn json_fault(line: &[u8], at: usize) -> LineFault
+    ensures { IsJsonFault line.now result }
+{
+    if is_lone(b'{', line) {
+        return LineFault::OpenObject(at);
+    }
+    if is_lone(b'[', line) {
+        return LineFault::OpenArray(at);
+    }
+    LineFault::NotJson(at)
+}
+
+/// Whether a line has this byte alone, with blanks around it.
+fn is_lone(byte: u8, line: &[u8]) -> bool
+    ensures { result ≡ is_lone byte line.now }
+{
+    match behind_blanks(line) {
+        [first, rest @ ..] => *first == byte && is_blank(rest),
+        [] => false,
     }
 }
 

@@ -2,9 +2,10 @@
 ghost use Rattle.std.specs.Prelude.{◌≡◌, ◌≢◌, [], ◌<◌, length, IfOk};
 ghost use Rattle.column_files.specs.Lines.{FirstLine, is_blank};
 ghost use Rattle.column_files.specs.LineFaults.{IsLineAdded};
-ghost use Rattle.column_files.specs.Files.{AreLinesRead};
+ghost use Rattle.column_files.specs.Files.{AreLinesRead, AreUnmarkedRead};
 
 use crate::columns::FileFault;
+use crate::form::unmarked;
 use crate::line::{LineFault, parse_column_line};
 use arrow_columns::SchemaColumn;
 use json::Scratch;
@@ -12,7 +13,7 @@ use memchr::memchr;
 use std::alloc::{AllocError, Global};
 
 /// Returns the columns that the lines of a text denote (docs/FORMAT.md, 2.7); no columns where
-/// there are no lines, or blank ones alone. Errs with `NoField` at the first line that is not blank
+/// there are no lines, or blank ones alone. A byte order mark before them is passed over. Errs with `NoField` at the first line that is not blank
 /// and denotes no column, with how many lines stand before it, and why; and when out of memory.
 ///
 /// ```rust
@@ -23,6 +24,13 @@ use std::alloc::{AllocError, Global};
 /// ```
 pub fn columns_of_lines(alloc: Global, text: &[u8]) -> Result<Vec<SchemaColumn>, FileFault>
     ensures { AreLinesRead text.now result }
+{
+    columns_of_unmarked(alloc, unmarked(text))
+}
+
+/// Returns what [`columns_of_lines`] does of a text behind its byte order mark.
+fn columns_of_unmarked(alloc: Global, text: &[u8]) -> Result<Vec<SchemaColumn>, FileFault>
+    ensures { AreUnmarkedRead text.now result }
 {
     let mut columns = Vec::new(alloc);
     let mut scratch = Scratch::new(alloc);

@@ -31,7 +31,8 @@ pub struct File<'a> {
 /// bytes alone may be given; of an Arrow or Parquet file only the end is, which [`open_end`] takes.
 ///
 /// Errs with `NoField` at the first line that is not blank and denotes no column, with how many
-/// lines stand before it, and why; with `Empty` where lines have no column at all; with `Ipc` as
+/// lines stand before it, and why; with `Empty` where lines have no column at all; with `Foreign`
+/// where the first bytes tell a format that is not read, and which; with `Ipc` as
 /// `read_schema` and `read_file_footer` of `arrow_ipc` do, which say the rule that is broken, and
 /// the byte, of an Arrow file that of the file; with `Parquet` as `read_file` of `parquet_columns`
 /// does; and when out of memory.
@@ -74,6 +75,7 @@ pub fn open_end<'a>(
         Form::ArrowStream => without_geo(form, columns_of_schema(read_schema(alloc, end))),
         Form::Parquet => open_parquet(alloc, end),
         Form::Lines => without_geo(form, columns_of_line_file(columns_of_lines(alloc, end))),
+        Form::Foreign(foreign) => Err(FileFault::Foreign(foreign)),
     }
 }
 

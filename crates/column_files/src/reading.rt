@@ -2,12 +2,14 @@
 ghost use Rattle.std.specs.Prelude.{◌≡◌, ◌||◌, false, take, [], Err, IfOk, IfSome, IfErr};
 ghost use Rattle.std.specs.Io.KnownBytes.{prepend_known};
 ghost use Rattle.line_reader.specs.Lines.{HasLine};
+ghost use Rattle.column_files.specs.Forms.{unmarked};
 ghost use Rattle.column_files.specs.Lines.{is_blank};
 ghost use Rattle.column_files.specs.Reading.{ahead, passed, has_column, text_left};
 ghost use Rattle.column_files.specs.Reading.{PassesLines, answered, is_column, IsNext};
 
 use crate::columns::FileFault;
 use crate::fault::ReadFault;
+use crate::form::mark_len;
 use crate::line::parse_column_line;
 use crate::lines::is_blank;
 use arrow_columns::SchemaColumn;
@@ -36,16 +38,19 @@ pub struct LineColumns<R> {
 }
 
 impl<R: Read> LineColumns<R> {
-    /// The lines of what was read of a source, as its first bytes were to tell the format, and of what it gives from there on. Allocates nothing.
+    /// Returns the lines of what was read of a source, as its first bytes were to tell the format,
+    /// and of what it gives from there on. A byte order mark at the begin of what was read is
+    /// passed over. Allocates nothing.
     pub fn new(alloc: Global, head: Vec<u8>, source: R) -> LineColumns<R>
-        ensures text { text_left R.remaining result ≡ prepend_known head.items (R.remaining source) }
+        ensures text { text_left R.remaining result ≡ prepend_known (unmarked head.items) (R.remaining source) }
         ensures passed { passed result ≡ 0 }
         ensures none { has_column result ≡ false }
     {
+        let start = mark_len(head.as_slice());
         LineColumns {
             alloc,
             source,
-            lines: LineBuffer::new(head),
+            lines: LineBuffer::behind(head, start),
             scratch: Scratch::new(alloc),
             has_column: false,
         }

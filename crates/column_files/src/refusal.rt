@@ -1,6 +1,8 @@
 //! Why a file is refused, as every way in says it: a code, what is wrong, and the place.
-ghost use Rattle.std.specs.Prelude.{◌≡◌};
-ghost use Rattle.column_files.specs.Refusals.{line_code, line_message, fault_code, fault_message};
+ghost use Rattle.std.specs.Prelude.{◌≡◌, None};
+ghost use Rattle.arrow_values.specs.Texts.{text_of};
+ghost use Rattle.column_files.specs.Refusals.{line_code, line_message, line_help};
+ghost use Rattle.column_files.specs.Refusals.{fault_code, fault_message, fault_found, fault_help};
 ghost use Rattle.column_files.specs.Refusals.{behind, line_place, byte_place, message_place, parquet_place};
 ghost use Rattle.column_files.specs.Refusals.{fault_place, write_place, long_line_code, long_line_message};
 ghost use Rattle.arrow_ipc.specs.Rules.{write_code, write_message};
@@ -44,6 +46,10 @@ pub struct Fault {
     pub message: &'static str,
     /// Where.
     pub place: Place,
+    /// What stands there, as `a zip archive`, where that is said.
+    pub found: Option<&'static str>,
+    /// What to try, where anything is known.
+    pub help: Option<&'static str>,
 }
 
 impl LineFault {
@@ -53,7 +59,9 @@ impl LineFault {
     {
         match self {
             LineFault::NotUtf8(_) => "LineNotUtf8",
-            LineFault::NotJson(_) => "LineNotJson",
+            LineFault::NotJson(_) | LineFault::OpenObject(_) | LineFault::OpenArray(_) => {
+                "LineNotJson"
+            }
             LineFault::NotObject => "LineNotObject",
             LineFault::Name => "LineName",
             LineFault::Nullable => "LineNullable",
@@ -68,12 +76,31 @@ impl LineFault {
     {
         match self {
             LineFault::NotUtf8(_) => "is no UTF-8",
-            LineFault::NotJson(_) => "is no JSON, or nests more than 127 levels",
+            LineFault::NotJson(_) | LineFault::OpenObject(_) | LineFault::OpenArray(_) => {
+                "is no JSON, or nests more than 127 levels"
+            }
             LineFault::NotObject => "is JSON, but no object",
             LineFault::Name => "is JSON, but no field: \"name\" is no text",
             LineFault::Nullable => "is JSON, but no field: \"nullable\" is neither true nor false",
             LineFault::Metadata => "is JSON, but no field: \"metadata\" is no object of texts",
             LineFault::TypeUnknown => "is JSON, but no field: \"type\" is unknown",
+        }
+    }
+
+    /// Returns what to try, if anything is known.
+    pub fn help(self) -> Option<&'static str>
+        ensures { text_of result ≡ line_help self }
+    {
+        match self {
+            LineFault::OpenObject(_) => Some("One object on each line: try jq -c . FILE"),
+            LineFault::OpenArray(_) => Some("One object on each line: try jq -c '.[]' FILE"),
+            LineFault::NotUtf8(_)
+            | LineFault::NotJson(_)
+            | LineFault::NotObject
+            | LineFault::Name
+            | LineFault::Nullable
+            | LineFault::Metadata
+            | LineFault::TypeUnknown => None,
         }
     }
 }
@@ -86,6 +113,7 @@ impl FileFault {
         match self {
             FileFault::NoField(_, fault) => fault.code(),
             FileFault::Empty => "EmptyFile",
+            FileFault::Foreign(_) => "ForeignFormat",
             FileFault::ReportTooLarge => "ReportTooLarge",
             FileFault::Ipc(error) => error.code(),
             FileFault::Parquet(error) => error.code(),
@@ -100,16 +128,47 @@ impl FileFault {
         match self {
             FileFault::NoField(_, fault) => fault.message(),
             FileFault::Empty => "is empty",
+            FileFault::Foreign(_) => "is of a format that is not read",
             FileFault::ReportTooLarge => TOO_LARGE,
             FileFault::Ipc(error) => error.message(),
             FileFault::Parquet(error) => error.message(),
             FileFault::OutOfMemory => "out of memory",
         }
     }
+
+    /// Returns what the file is, where it is of a format that is not read.
+    pub fn found(self) -> Option<&'static str>
+        ensures { text_of result ≡ fault_found self }
+    {
+        match self {
+            FileFault::Foreign(foreign) => Some(foreign.name()),
+            FileFault::NoField(_, _)
+            | FileFault::Empty
+            | FileFault::ReportTooLarge
+            | FileFault::Ipc(_)
+            | FileFault::Parquet(_)
+            | FileFault::OutOfMemory => None,
+        }
+    }
+
+    /// Returns what to try, if anything is known.
+    pub fn help(self) -> Option<&'static str>
+        ensures { text_of result ≡ fault_help self }
+    {
+        match self {
+            FileFault::NoField(_, fault) => fault.help(),
+            FileFault::Foreign(foreign) => foreign.help(),
+            FileFault::Empty
+            | FileFault::ReportTooLarge
+            | FileFault::Ipc(_)
+            | FileFault::Parquet(_)
+            | FileFault::OutOfMemory => None,
+        }
+    }
 }
 
-/// Returns the code, what is wrong, and the place of a fault of a file in that format. A place that
-/// is greater than `u64::MAX` is that number. Allocates nothing.
+/// Returns the code, what is wrong, the place, what is found and what to try of a fault of a file in
+/// that format. A place that is greater than `u64::MAX` is that number. Allocates nothing.
 ///
 /// ```rust
 /// let fault = fault_of(Form::Lines, FileFault::NoField(1, LineFault::NotObject));
@@ -120,11 +179,15 @@ pub fn fault_of(form: Form, fault: FileFault) -> Fault
     ensures code { result.code.now ≡ fault_code fault }
     ensures message { result.message.now ≡ fault_message fault }
     ensures place { result.place ≡ fault_place form fault }
+    ensures found { text_of result.found ≡ fault_found fault }
+    ensures help { text_of result.help ≡ fault_help fault }
 {
     Fault {
         code: fault.code(),
         message: fault.message(),
         place: place_of(form, fault),
+        found: fault.found(),
+        help: fault.help(),
     }
 }
 
@@ -134,11 +197,15 @@ pub fn long_line(before: usize) -> Fault
     ensures code { result.code.now ≡ long_line_code }
     ensures message { result.message.now ≡ long_line_message }
     ensures place { result.place ≡ Place.Line (behind before) }
+    ensures found { text_of result.found ≡ None }
+    ensures help { text_of result.help ≡ None }
 {
     Fault {
         code: "LineTooLong",
         message: "has more than 1048576 bytes",
         place: Place::Line(line_number(before)),
+        found: None,
+        help: None,
     }
 }
 
@@ -147,6 +214,8 @@ pub fn write_fault(error: WriteError) -> Fault
     ensures code { result.code.now ≡ write_code error }
     ensures message { result.message.now ≡ write_message error }
     ensures place { result.place ≡ write_place error }
+    ensures found { text_of result.found ≡ None }
+    ensures help { text_of result.help ≡ None }
 {
     Fault {
         code: error.code(),
@@ -155,6 +224,8 @@ pub fn write_fault(error: WriteError) -> Fault
             WriteError::Column(index) => Place::Column(index as u64),
             WriteError::TooLarge | WriteError::OutOfMemory => Place::File,
         },
+        found: None,
+        help: None,
     }
 }
 
@@ -173,7 +244,10 @@ fn place_of(form: Form, fault: FileFault) -> Place
         FileFault::NoField(before, fault) => line_place(line_number(before), fault),
         FileFault::Ipc(error) => message_place(form, error),
         FileFault::Parquet(error) => parquet_place(error),
-        FileFault::Empty | FileFault::ReportTooLarge | FileFault::OutOfMemory => Place::File,
+        FileFault::Empty
+        | FileFault::Foreign(_)
+        | FileFault::ReportTooLarge
+        | FileFault::OutOfMemory => Place::File,
     }
 }
 
@@ -183,7 +257,9 @@ fn line_place(line: u64, fault: LineFault) -> Place
 {
     match fault {
         LineFault::NotUtf8(before) => Place::LineByte(line, line_number(before)),
-        LineFault::NotJson(at) => Place::LineByte(line, at as u64),
+        LineFault::NotJson(at) | LineFault::OpenObject(at) | LineFault::OpenArray(at) => {
+            Place::LineByte(line, at as u64)
+        }
         LineFault::NotObject
         | LineFault::Name
         | LineFault::Nullable
@@ -209,7 +285,9 @@ fn byte_place(form: Form, at: u64) -> Place
 {
     match form {
         Form::ArrowFile => Place::Byte(at),
-        Form::ArrowStream | Form::Parquet | Form::Lines => Place::MessageByte(at),
+        Form::ArrowStream | Form::Parquet | Form::Lines | Form::Foreign(_) => {
+            Place::MessageByte(at)
+        }
     }
 }
 

@@ -2,28 +2,28 @@
 ghost use Rattle.std.specs.Prelude.{◌≡◌, ◌+◌, ◌-◌, ◌≤◌, List, ℕ, nat_le, ◌++◌, length, drop};
 ghost use Rattle.std.specs.Prelude.{OnOk, IfSome, IfOk, IfErr};
 ghost use Rattle.std.specs.Io.KnownBytes.{IsAtEnd};
-ghost use Rattle.column_files.specs.Forms.{IsForm};
+ghost use Rattle.column_files.specs.Forms.{IsForm, head_bytes};
 ghost use Rattle.line_reader.specs.Sources.{GivesUpTo};
 ghost use Rattle.column_files.specs.Faults.{IsReadError};
 ghost use Rattle.column_files.specs.Files.{size_in, HasFooter};
 ghost use Rattle.column_files.specs.Reading.{GivesSchema, GivesEnd, IsEnd, IsHead, ReadAs};
 
 use crate::fault::ReadFault;
-use crate::form::Form;
+use crate::form::{Form, HEAD_BYTES};
 use line_reader::read_up_to;
 use std::alloc::Global;
 use std::io::{Read, Seek, SeekFrom};
 
-/// How many bytes tell the format, and how long the first message of a stream is.
-const HEAD_BYTES: u64 = 8;
+/// How many bytes stand before the first message of a stream: its marker, and its size.
+const STREAM_HEAD: u64 = 8;
 
 /// How many bytes stand behind the footer of an Arrow file, and of a Parquet file: its size in four bytes, and the magic.
 const ARROW_TAIL: usize = 10;
 
 const PARQUET_TAIL: usize = 8;
 
-/// The first eight bytes of a source, from which `form_of` tells the format; all of them, where there are fewer. Errs where the source fails,
-/// and when out of memory.
+/// Returns the first 64 bytes of a source, from which `form_of` tells the format; all of them, where
+/// there are fewer. Errs where the source fails, and when out of memory.
 ///
 /// ```rust
 /// let mut source = b"PAR1".as_slice();
@@ -31,20 +31,21 @@ const PARQUET_TAIL: usize = 8;
 /// assert!(rt; matches!(head, Ok(head) if head.as_slice() == b"PAR1".as_slice()));
 /// ```
 pub fn read_head<R: Read>(alloc: Global, source: &mut R) -> Result<Vec<u8>, ReadFault>
-    ensures ok { IfOk result (λ head. GivesUpTo 8 (R.remaining source.old) (R.remaining source.new) head.items) }
+    ensures ok { IfOk result (λ head. GivesUpTo head_bytes (R.remaining source.old) (R.remaining source.new) head.items) }
     ensures err { IfErr result IsReadError }
 {
-    Ok(read_up_to(source, Vec::new(alloc), HEAD_BYTES)?)
+    Ok(read_up_to(source, Vec::new(alloc), HEAD_BYTES as u64)?)
 }
 
-/// The bytes from which `columns_of` reads the columns of a source in that format, whose first bytes are `head`, as `read_head` gives them: of
-/// a stream the first message, with the eight bytes before it, and of another format all bytes. Errs where the source fails, and when out of
-/// memory.
+/// Returns the bytes from which `open` reads the columns of a source in that format, whose first
+/// bytes are `head`, as `read_head` gives them: of a stream these, and what its first message has
+/// beyond them; of a format that is not read these alone; and of another format all bytes. Errs
+/// where the source fails, and when out of memory.
 ///
 /// ```rust
-/// let mut source = b"\xff\xff\xff\xff\x02\0\0\0abcdef".as_slice();
-/// let Ok(head) = read_head(alloc, &mut source) else { return Ok(()); };
-/// let read = read_schema_bytes(form_of(head.as_slice()), head, &mut source);
+/// let mut source = b"bcdef".as_slice();
+/// let head = Vec::from_slice(alloc, b"\xff\xff\xff\xff\x02\0\0\0a")?;
+/// let read = read_schema_bytes(Form::ArrowStream, head, &mut source);
 /// assert!(rt; matches!(read, Ok(bytes) if bytes.as_slice() == b"\xff\xff\xff\xff\x02\0\0\0ab".as_slice()));
 /// ```
 pub fn read_schema_bytes<R: Read>(
@@ -59,10 +60,19 @@ pub fn read_schema_bytes<R: Read>(
     ensures err { IfErr result IsReadError }
 {
     let rest = match form {
-        Form::ArrowStream => u64::from(size_of_four(rest_of(head.as_slice(), 4))),
+        Form::ArrowStream => left_of_message(head.as_slice()),
+        Form::Foreign(_) => 0,
         Form::ArrowFile | Form::Parquet | Form::Lines => u64::MAX,
     };
     Ok(read_up_to(source, head, rest)?)
+}
+
+/// How many bytes the first message of a stream has behind the first ones of the stream.
+fn left_of_message(head: &[u8]) -> u64
+    ensures { result ≡ 8 + size_in (drop 4 head.now) - length head.now }
+{
+    let size = u64::from(size_of_four(rest_of(head, 4)));
+    (STREAM_HEAD + size).saturating_sub(head.len() as u64)
 }
 
 /// The end of a file, or all of it.
@@ -97,7 +107,9 @@ pub fn read_schema_end<S: Read + Seek>(
     let tail = match form {
         Form::ArrowFile => ARROW_TAIL,
         Form::Parquet => PARQUET_TAIL,
-        Form::ArrowStream | Form::Lines => return read_all(form, head, source),
+        Form::ArrowStream | Form::Lines | Form::Foreign(_) => {
+            return read_all(form, head, source);
+        }
     };
     let Ok(length) = source.seek(SeekFrom::End(0)) else {
         return read_all(form, head, source);

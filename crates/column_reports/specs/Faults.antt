@@ -2,6 +2,7 @@
 use Rattle.std.specs.Prelude.{ℕ, List, ◌++◌, codes, decimal, Option, None, Some, option_map}
 use Rattle.json.specs.Json.{Json, number}
 use Rattle.arrow_values.specs.Tree.{Text}
+use Rattle.arrow_values.specs.Texts.{text_of}
 use Rattle.column_files.specs.declared.refusal.Fault.{Fault}
 use Rattle.column_files.specs.declared.refusal.Place.{Place}
 use Rattle.column_files.specs.declared.refusal.Place.TheVariants.{File, Line, LineByte, Byte, MessageByte, FooterByte, Element, StoredByte, Column}
@@ -45,13 +46,22 @@ place_text (Element element) = Some (counted (codes "element ") element (codes "
 place_text (StoredByte byte) = Some (counted (codes "the schema at ARROW:schema: byte ") byte (codes " of the message"))
 place_text (Column column) = Some (counted (codes "column ") column (codes ""))
 
+-- a text with another behind it, if there is one, and what stands between
+abbrev pub with_more : Text → Text → Option Text → Text
+with_more text between None = text
+with_more text between (Some more) = (text ++ between) ++ more
+
+-- what is wrong, what is found, if that is said, and what to try, if anything is known
+abbrev pub said_of : Fault → Text
+said_of fault = with_more (with_more fault.message.now (codes ": ") (text_of fault.found)) (codes ". ") (text_of fault.help)
+
 -- the place, if there is one, and what is wrong there
 abbrev pub placed : Option Text → Text → Text
-placed None message = message
-placed (Some place) message = place ++ (codes ": " ++ message)
+placed None said = said
+placed (Some place) said = place ++ (codes ": " ++ said)
 
 abbrev pub fault_text : Fault → Text
-fault_text fault = placed (place_text fault.place) fault.message.now
+fault_text fault = placed (place_text fault.place) (said_of fault)
 
 -- a member whose value is a number, if there is one
 abbrev pub number_if : Text → Option ℕ → List (Text × Json)
@@ -68,9 +78,14 @@ abbrev pub words_of : Option Text → Fault → List (Text × Json)
 words_of file fault =
     string_if (codes "error") (Some fault.code.now)
     ++ string_if (codes "file") file
-    ++ number_if (codes "line") (line_in fault.place)
+    ++ string_if (codes "found") (text_of fault.found)
+    ++ string_if (codes "help") (text_of fault.help)
+
+abbrev pub message_of : Fault → List (Text × Json)
+message_of fault =
+    number_if (codes "line") (line_in fault.place)
     ++ string_if (codes "message") (Some fault.message.now)
     ++ string_if (codes "place") (place_text fault.place)
 
 abbrev pub fault_report : Option Text → Fault → Json
-fault_report file fault = object_of (numbers_of fault.place ++ words_of file fault)
+fault_report file fault = object_of (numbers_of fault.place ++ (words_of file fault ++ message_of fault))

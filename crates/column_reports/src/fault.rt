@@ -5,8 +5,8 @@ ghost use Rattle.json.specs.Tree.{json_tokens};
 ghost use Rattle.arrow_values.specs.Texts.{text_of};
 ghost use Rattle.column_reports.specs.Objects.{AddsMembers};
 ghost use Rattle.column_reports.specs.Faults.{byte_in, line_in, element_in, column_in, counted};
-ghost use Rattle.column_reports.specs.Faults.{place_text, placed, fault_text, number_if};
-ghost use Rattle.column_reports.specs.Faults.{numbers_of, words_of, fault_report};
+ghost use Rattle.column_reports.specs.Faults.{place_text, placed, with_more, said_of, fault_text, number_if};
+ghost use Rattle.column_reports.specs.Faults.{numbers_of, words_of, message_of, fault_report};
 
 use crate::put::{put_text, put_text_if};
 use column_files::{Fault, Place};
@@ -31,13 +31,14 @@ pub fn fault_line(alloc: Global, file: Option<&str>, fault: &Fault) -> Result<St
     let mut out = Writer::new(Vec::new(alloc));
     out.begin_object()?;
     put_numbers(&mut out, fault.place)?;
-    put_words(&mut out, file, fault, &place)?;
+    put_words(&mut out, file, fault)?;
+    put_message(&mut out, fault, &place)?;
     out.end_object()?;
     Ok(text_of(out))
 }
 
-/// Returns why a file is refused, in words: the place, if there is one, and what is wrong there. Errs
-/// only when out of memory.
+/// Returns why a file is refused, in words: the place, if there is one, what is wrong there, what is
+/// found, if that is said, and what to try, if anything is known. Errs only when out of memory.
 ///
 /// ```rust
 /// let fault = fault_of(Form::Lines, FileFault::NoField(1, LineFault::NotObject));
@@ -46,17 +47,39 @@ pub fn fault_line(alloc: Global, file: Option<&str>, fault: &Fault) -> Result<St
 pub fn fault_text(alloc: Global, fault: &Fault) -> Result<String, AllocError>
     ensures { IfOk result (λ text. string_bytes text ≡ fault_text fault.now) }
 {
+    let said = said_of(alloc, fault)?;
     match place_text(alloc, fault.place)? {
-        None => String::from_str(alloc, fault.message),
-        Some(place) => placed(alloc, place, fault.message),
+        None => Ok(said),
+        Some(place) => placed(alloc, place, said.as_str()),
     }
 }
 
-/// What is wrong at a place.
-fn placed(alloc: Global, place: String, message: &str) -> Result<String, AllocError>
-    ensures { IfOk result (λ text. string_bytes text ≡ placed (Some (string_bytes place)) message.now) }
+/// What is said of a place.
+fn placed(alloc: Global, place: String, said: &str) -> Result<String, AllocError>
+    ensures { IfOk result (λ text. string_bytes text ≡ placed (Some (string_bytes place)) said.now) }
 {
-    format!(in alloc; "{place}: {message}")
+    format!(in alloc; "{place}: {said}")
+}
+
+/// What is wrong, what is found, and what to try.
+fn said_of(alloc: Global, fault: &Fault) -> Result<String, AllocError>
+    ensures { IfOk result (λ text. string_bytes text ≡ said_of fault.now) }
+{
+    let mut text = String::from_str(alloc, fault.message)?;
+    push_if(&mut text, ": ", fault.found)?;
+    push_if(&mut text, ". ", fault.help)?;
+    Ok(text)
+}
+
+/// Adds a text to another, if there is one, and before it what stands between.
+fn push_if(text: &mut String, between: &str, more: Option<&str>) -> Result<(), AllocError>
+    ensures { OnOk result (string_bytes text.new ≡ with_more (string_bytes text.old) between.now (text_of more.entry)) }
+{
+    if let Some(more) = more {
+        text.push_str(between)?;
+        text.push_str(more)?;
+    }
+    Ok(())
 }
 
 /// A place in words, unless it is the file as a whole.
@@ -110,18 +133,21 @@ fn put_numbers(out: &mut Writer, place: Place) -> Result<(), AllocError>
     put_number_if(out, "element", element_in(place))
 }
 
-/// Writes the words, and the number of the line.
-fn put_words(
-    out: &mut Writer,
-    file: Option<&str>,
-    fault: &Fault,
-    place: &Option<String>,
-) -> Result<(), AllocError>
-    requires { option_map string_bytes place.now ≡ place_text fault.now.place }
+/// Writes the code, the name of the file, what is found and what to try.
+fn put_words(out: &mut Writer, file: Option<&str>, fault: &Fault) -> Result<(), AllocError>
     ensures { OnOk result (AddsMembers (words_of (text_of file.entry) fault.now) out.old out.new) }
 {
     put_text(out, "error", fault.code)?;
     put_text_if(out, "file", file)?;
+    put_text_if(out, "found", fault.found)?;
+    put_text_if(out, "help", fault.help)
+}
+
+/// Writes the number of the line, what is wrong, and the place in words.
+fn put_message(out: &mut Writer, fault: &Fault, place: &Option<String>) -> Result<(), AllocError>
+    requires { option_map string_bytes place.now ≡ place_text fault.now.place }
+    ensures { OnOk result (AddsMembers (message_of fault.now) out.old out.new) }
+{
     put_number_if(out, "line", line_in(fault.place))?;
     put_text(out, "message", fault.message)?;
     put_text_if(out, "place", text_in(place))

@@ -1,13 +1,14 @@
 -- What is printed of a file, and the status.
-use Rattle.std.specs.Prelude.{◌≡◌, ◌⊎◌, ◌++◌, ℕ, ⊤, List, Option, Ok, Err, codes, string_bytes}
+use Rattle.std.specs.Prelude.{◌≡◌, ◌⊎◌, ◌++◌, ℕ, ⊤, List, Option, None, Ok, Err, codes, string_bytes}
 use Rattle.std.specs.Io.KnownBytes.{Appends}
 use Rattle.json.specs.Print.{print}
 use Rattle.json.specs.Tree.{json_tokens}
 use Rattle.arrow_values.specs.Tree.{Text}
-use Rattle.column_files.specs.Forms.{IsForm}
+use Rattle.arrow_values.specs.Texts.{text_of}
+use Rattle.column_files.specs.Forms.{IsForm, head_bytes}
 use Rattle.column_files.specs.Faults.{IsReadError}
 use Rattle.column_files.specs.Reading.{GivesSchema, GivesEnd, IsEnd}
-use Rattle.column_files.specs.Refusals.{fault_code, fault_message, fault_place, long_line_code, long_line_message, behind}
+use Rattle.column_files.specs.Refusals.{fault_code, fault_message, fault_place, fault_found, fault_help, long_line_code, long_line_message, behind}
 use Rattle.line_reader.specs.Sources.{GivesUpTo}
 use Rattle.column_files.specs.declared.columns.FileFault.{FileFault}
 use Rattle.column_files.specs.declared.fault.ReadFault.{ReadFault}
@@ -28,16 +29,20 @@ use Rattle.file_check.specs.declared.print.Made.{Made}
 
 -- ---- a file that is refused
 
--- the code, what is wrong and the place of a fault of a file in that format; those of a line that is too long, behind so many
+-- the code, what is wrong, the place, what is found and what to try of a fault of a file in that format; those of a line that is too long, behind so many
 pub record IsFaultOf (form : Form) (fault : FileFault) (f : Fault) : Type 0 where
   pub code : f.code.now ≡ fault_code fault
   pub message : f.message.now ≡ fault_message fault
   pub place : f.place ≡ fault_place form fault
+  pub found : text_of f.found ≡ fault_found fault
+  pub help : text_of f.help ≡ fault_help fault
 
 pub record IsLongLine (before : ℕ) (f : Fault) : Type 0 where
   pub code : f.code.now ≡ long_line_code
   pub message : f.message.now ≡ long_line_message
   pub place : f.place ≡ places.Line (behind before)
+  pub found : text_of f.found ≡ None
+  pub help : text_of f.help ≡ None
 
 -- the line of a fault, with its line feed
 abbrev pub fault_line : Text → Fault → Text
@@ -101,11 +106,11 @@ IsCheckedIn form asked file head rest old new status = IsUnread asked file form 
 abbrev pub IsCheckedFrom : Asked → Text → List ℕ → Option (List ℕ) → Option (List ℕ) → Option (List ℕ) → ℕ → Type 0
 IsCheckedFrom asked file head rest old new status = (form : Form) × IsForm head form × IsCheckedIn form asked file head rest old new status
 
--- a source of these bytes, where they are known: its first eight bytes tell the format
+-- a source of these bytes, where they are known: its first bytes tell the format
 pub record IsTold (asked : Asked) (file : Text) (bytes old new : Option (List ℕ)) (status : ℕ) : Type 0 where
   pub head : List ℕ
   pub rest : Option (List ℕ)
-  pub gives : GivesUpTo 8 bytes rest head
+  pub gives : GivesUpTo head_bytes bytes rest head
   pub is : IsCheckedFrom asked file head rest old new status
 
 abbrev pub IsChecked : Asked → Text → Option (List ℕ) → Option (List ℕ) → Option (List ℕ) → ℕ → Type 0
@@ -132,7 +137,7 @@ IsFileFrom asked file head rest old new status = (form : Form) × IsForm head fo
 pub record IsFileTold (asked : Asked) (file : Text) (bytes old new : Option (List ℕ)) (status : ℕ) : Type 0 where
   pub head : List ℕ
   pub rest : Option (List ℕ)
-  pub gives : GivesUpTo 8 bytes rest head
+  pub gives : GivesUpTo head_bytes bytes rest head
   pub is : IsFileFrom asked file head rest old new status
 
 abbrev pub IsFileChecked : Asked → Text → Option (List ℕ) → Option (List ℕ) → Option (List ℕ) → ℕ → Type 0

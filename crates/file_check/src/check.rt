@@ -35,8 +35,8 @@ pub struct Answer {
 /// ```rust
 /// let flags = Flags { json: true, lines: false, ipc: false, infer: false, notes: false, all_checks: false, quiet: false, require_geometry: false };
 /// let asked = Asked { flags, wants: Vec::new(alloc), files: Vec::new(alloc) };
-/// let answer = check_bytes(alloc, &asked, "-", b"[]")?;
-/// let line = b"{\"error\":\"LineNotObject\",\"line\":1,\"message\":\"is JSON, but no object\",\"place\":\"line 1\"}\n";
+/// let answer = check_bytes(alloc, &asked, "-", b"{}")?;
+/// let line = b"{\"error\":\"LineName\",\"line\":1,\"message\":\"is JSON, but no field: \\\"name\\\" is no text\",\"place\":\"line 1\"}\n";
 /// assert!(rt; answer.output.as_slice() == line.as_slice());
 /// assert_eq!(rt; answer.status, 2);
 /// ```
@@ -77,7 +77,7 @@ fn check_whole<W: Write, E: Write>(
             let lines = LineColumns::new(alloc, Vec::new(alloc), bytes);
             check_lines(alloc, asked, file, lines, out, err)
         }
-        Form::ArrowFile | Form::ArrowStream | Form::Parquet => {
+        Form::ArrowFile | Form::ArrowStream | Form::Parquet | Form::Foreign(_) => {
             check_end(alloc, asked, file, form, 0, bytes, out, err)
         }
     }
@@ -125,7 +125,7 @@ fn check_head<R: Read + Drop, W: Write, E: Write>(
             let lines = LineColumns::new(alloc, head, source);
             check_lines(alloc, asked, file, lines, out, err)
         }
-        Form::ArrowFile | Form::ArrowStream | Form::Parquet => {
+        Form::ArrowFile | Form::ArrowStream | Form::Parquet | Form::Foreign(_) => {
             check_schema(alloc, asked, file, form, head, source, out, err)
         }
     }
@@ -189,7 +189,7 @@ fn check_file_head<S: Read + Seek + Drop, W: Write, E: Write>(
             let lines = LineColumns::new(alloc, head, source);
             check_lines(alloc, asked, file, lines, out, err)
         }
-        Form::ArrowFile | Form::ArrowStream | Form::Parquet => {
+        Form::ArrowFile | Form::ArrowStream | Form::Parquet | Form::Foreign(_) => {
             check_file_end(alloc, asked, file, form, head, source, out, err)
         }
     }

@@ -127,6 +127,8 @@ fn checks_of(alloc: Global, asked: &Asked, report: &FileReport) -> Result<String
                 asked.flags.all_checks,
             )
         }
-        Form::ArrowFile | Form::ArrowStream | Form::Lines => Ok(String::new(alloc)),
+        Form::ArrowFile | Form::ArrowStream | Form::Lines | Form::Foreign(_) => {
+            Ok(String::new(alloc))
+        }
     }
 }

@@ -1,8 +1,9 @@
 -- Why bytes are refused, as a line (docs/FORMAT.md, 2.8).
-use Rattle.std.specs.Prelude.{◌≡◌, ◌≢◌, ◌++◌, [], ◌∷◌, Bool, true, false, Option}
+use Rattle.std.specs.Prelude.{◌≡◌, ◌≢◌, ◌++◌, [], ◌∷◌, Bool, true, false, Option, None}
 use Rattle.json.specs.Print.{print}
 use Rattle.json.specs.Tree.{json_tokens}
 use Rattle.arrow_values.specs.Tree.{Text}
+use Rattle.arrow_values.specs.Texts.{text_of}
 use Rattle.arrow_ipc.specs.Rules.{write_code, write_message}
 use Rattle.arrow_ipc.specs.declared.fault.IpcError.{IpcError}
 use Rattle.arrow_ipc.specs.declared.fault.IpcError.TheVariants as messages
@@ -11,7 +12,7 @@ use Rattle.arrow_ipc.specs.declared.write.WriteError.TheVariants as writes
 use Rattle.parquet_columns.specs.declared.error.SchemaError.{SchemaError}
 use Rattle.parquet_columns.specs.declared.error.SchemaError.TheVariants as schemas
 use Rattle.parquet_footer.specs.declared.fault.FooterError.TheVariants as footers
-use Rattle.column_files.specs.Refusals.{fault_code, fault_message, fault_place, write_place}
+use Rattle.column_files.specs.Refusals.{fault_code, fault_message, fault_place, fault_found, fault_help, write_place}
 use Rattle.column_files.specs.declared.columns.FileFault.{FileFault}
 use Rattle.column_files.specs.declared.columns.FileFault.TheVariants as files
 use Rattle.column_files.specs.declared.form.Form.{Form}
@@ -47,6 +48,8 @@ pub record IsLineOfFile (file : Option Text) (form : Form) (fault : FileFault) (
   pub code : said.code.now ≡ fault_code fault
   pub message : said.message.now ≡ fault_message fault
   pub place : said.place ≡ fault_place form fault
+  pub found : text_of said.found ≡ fault_found fault
+  pub help : text_of said.help ≡ fault_help fault
   pub has_memory : lacks_memory fault ≡ false
   pub is : line ≡ line_of file said
 
@@ -56,5 +59,7 @@ pub record IsLineOfSchema (file : Option Text) (error : WriteError) (line : Byte
   pub code : said.code.now ≡ write_code error
   pub message : said.message.now ≡ write_message error
   pub place : said.place ≡ write_place error
+  pub found : text_of said.found ≡ None
+  pub help : text_of said.help ≡ None
   pub has_memory : error ≢ writes.OutOfMemory
   pub is : line ≡ line_of file said

@@ -50,7 +50,10 @@ fn lacks_memory(fault: FileFault) -> bool
         FileFault::OutOfMemory => true,
         FileFault::Ipc(error) => lacks_memory_for_message(error),
         FileFault::Parquet(error) => lacks_memory_for_columns(error),
-        FileFault::NoField(_, _) | FileFault::Empty | FileFault::ReportTooLarge => false,
+        FileFault::NoField(_, _)
+        | FileFault::Empty
+        | FileFault::Foreign(_)
+        | FileFault::ReportTooLarge => false,
     }
 }
 

@@ -44,10 +44,19 @@ impl LineBuffer {
         ensures head { held result ≡ head.items }
         ensures none { passed result ≡ 0 }
     {
+        LineBuffer::behind(head, 0)
+    }
+
+    /// Returns a buffer that holds what was read of a source before, but for so many of its first
+    /// bytes. Allocates nothing.
+    pub fn behind(head: Vec<u8>, start: usize) -> LineBuffer
+        ensures head { held result ≡ drop start head.items }
+        ensures none { passed result ≡ 0 }
+    {
         LineBuffer {
             end: head.len(),
             buffer: head,
-            start: 0,
+            start,
             count: 0,
         }
     }

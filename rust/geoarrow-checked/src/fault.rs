@@ -4,7 +4,7 @@ use std::fmt::{self, Display, Formatter};
 use std::str;
 
 /// Why bytes are refused: a code, what is wrong, and the place, in the words of `geoarrow_check` (docs/FORMAT.md, 2.8). It is shown as that program
-/// shows it behind the name of a file: the place, if there is one, and what is wrong.
+/// shows it behind the name of a file: the place, if there is one, what is wrong, what is found, and what to try.
 #[derive(Debug, Clone, PartialEq, Eq, Hash)]
 pub struct Fault(Box<Said>);
 
@@ -14,6 +14,8 @@ struct Said {
     code: String,
     message: String,
     place: Option<String>,
+    found: Option<String>,
+    help: Option<String>,
     file: Option<String>,
     line: Option<u64>,
     byte: Option<u64>,
@@ -22,8 +24,8 @@ struct Said {
 }
 
 /// The keys of a line.
-const KEYS: [&str; 8] = [
-    "byte", "column", "element", "error", "file", "line", "message", "place",
+const KEYS: [&str; 10] = [
+    "byte", "column", "element", "error", "file", "found", "help", "line", "message", "place",
 ];
 
 impl Fault {
@@ -40,6 +42,8 @@ impl Fault {
                 ("element", Value::Number(number)) => said.element = Some(number),
                 ("error", Value::Text(text)) => code = Some(text),
                 ("file", Value::Text(text)) => said.file = Some(text),
+                ("found", Value::Text(text)) => said.found = Some(text),
+                ("help", Value::Text(text)) => said.help = Some(text),
                 ("line", Value::Number(number)) => said.line = Some(number),
                 ("message", Value::Text(text)) => message = Some(text),
                 ("place", Value::Text(text)) => said.place = Some(text),
@@ -71,6 +75,18 @@ impl Fault {
     #[must_use]
     pub fn place(&self) -> Option<&str> {
         self.0.place.as_deref()
+    }
+
+    /// What stands there, as `a zip archive`, where that is said.
+    #[must_use]
+    pub fn found(&self) -> Option<&str> {
+        self.0.found.as_deref()
+    }
+
+    /// What to try, where anything is known.
+    #[must_use]
+    pub fn help(&self) -> Option<&str> {
+        self.0.help.as_deref()
     }
 
     /// The number of the line, from 1.
@@ -112,9 +128,16 @@ impl Fault {
 
 impl Display for Fault {
     fn fmt(&self, f: &mut Formatter<'_>) -> fmt::Result {
-        match self.place() {
-            Some(place) => write!(f, "{place}: {}", self.message()),
-            None => f.write_str(self.message()),
+        if let Some(place) = self.place() {
+            write!(f, "{place}: ")?;
+        }
+        f.write_str(self.message())?;
+        if let Some(found) = self.found() {
+            write!(f, ": {found}")?;
+        }
+        match self.help() {
+            Some(help) => write!(f, ". {help}"),
+            None => Ok(()),
         }
     }
 }
@@ -124,7 +147,7 @@ mod tests {
     use super::Fault;
 
     /// With a value of its own at each key.
-    const WHOLE: &str = r#"{"byte":1,"column":2,"element":3,"error":"Four","file":"five","line":6,"message":"seven","place":"eight"}"#;
+    const WHOLE: &str = r#"{"byte":1,"column":2,"element":3,"error":"Four","file":"five","found":"nine","help":"ten","line":6,"message":"seven","place":"eight"}"#;
     const LEAST: &str = r#"{"error":"EmptyFile","message":"is empty"}"#;
 
     fn read(line: &str) -> Fault {
@@ -138,7 +161,8 @@ mod tests {
         assert_eq!(numbers, [1, 2, 3, 6].map(Some));
         assert_eq!((fault.code(), fault.message()), ("Four", "seven"));
         assert_eq!((fault.file(), fault.place()), (Some("five"), Some("eight")));
-        assert_eq!(fault.to_string(), "eight: seven");
+        assert_eq!((fault.found(), fault.help()), (Some("nine"), Some("ten")));
+        assert_eq!(fault.to_string(), "eight: seven: nine. ten");
         assert_eq!(fault.as_json(), WHOLE);
     }
 
@@ -149,6 +173,7 @@ mod tests {
         assert_eq!(numbers, [None; 4]);
         assert_eq!((fault.code(), fault.message()), ("EmptyFile", "is empty"));
         assert_eq!((fault.file(), fault.place()), (None, None));
+        assert_eq!((fault.found(), fault.help()), (None, None));
         assert_eq!(fault.to_string(), "is empty");
     }
 
@@ -192,6 +217,8 @@ mod tests {
             b"{\"byte\":\"1\",\"error\":\"E\",\"message\":\"m\"}",
             b"{\"error\":\"E\",\"line\":\"1\",\"message\":\"m\"}",
             b"{\"error\":\"E\",\"file\":1,\"message\":\"m\"}",
+            b"{\"error\":\"E\",\"found\":1,\"message\":\"m\"}",
+            b"{\"error\":\"E\",\"help\":1,\"message\":\"m\"}",
             b"{\"error\":\"E\",\"message\":\"m\",\"place\":1}",
             b"{\"error\":\"E\",\"message\":\"\xff\"}",
         ] {

@@ -31,6 +31,8 @@ fn line_of(fault: &Fault) -> String {
         number("element", fault.element()),
         text("error", Some(fault.code())),
         text("file", fault.file()),
+        text("found", fault.found()),
+        text("help", fault.help()),
         number("line", fault.line()),
         text("message", Some(fault.message())),
         text("place", fault.place()),
@@ -46,7 +48,11 @@ fn quoted(text: &str) -> String {
 /// The words behind a file's name.
 fn words_of(fault: &Fault) -> String {
     let place = fault.place().map(|place| format!("{place}: "));
-    place.unwrap_or_default() + fault.message()
+    let found = fault.found().map(|found| format!(": {found}"));
+    let help = fault.help().map(|help| format!(". {help}"));
+    let message = fault.message().to_owned();
+    let parts = [place, Some(message), found, help];
+    parts.into_iter().flatten().collect()
 }
 
 #[test]
@@ -117,8 +123,20 @@ fn faults_as_they_are_shown() {
     let encrypted = [b"PARE", &[0; 20][..], &20_u32.to_le_bytes(), b"PARE"].concat();
     for (bytes, words) in [
         (&b" \n"[..], "is empty"),
-        (b"\n\n[]\n", "line 3: is JSON, but no object"),
-        (b"\n\xff", "line 2, byte 1: is no UTF-8"),
+        (b"\n\n{}\n[]", "line 3: is JSON, but no field: \"name\" is no text"),
+        (b"\n{\xff", "line 2, byte 2: is no UTF-8"),
+        (
+            b"PK\x03\x04",
+            "is of a format that is not read: a zip archive. Unzip it, and check what is in it",
+        ),
+        (
+            b"{\n",
+            "line 1, byte 1: is no JSON, or nests more than 127 levels. One object on each line: try jq -c . FILE",
+        ),
+        (
+            b"%PDF",
+            "is of a format that is not read: a PDF document",
+        ),
         (
             &stream,
             "byte 0 of the message: an offset that leads nowhere",

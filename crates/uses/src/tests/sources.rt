@@ -2,8 +2,8 @@
 use crate::tests::reading::{OneByte, Repeated};
 use arrow_ipc::IpcError;
 use column_files::{
-    File, FileEnd, FileFault, Form, LineColumns, LineFault, MAX_LINE_BYTES, ReadFault, column_line,
-    form_of, open, open_end, read_head, read_schema_bytes, read_schema_end,
+    File, FileEnd, FileFault, Foreign, Form, LineColumns, LineFault, MAX_LINE_BYTES, ReadFault,
+    column_line, form_of, open, open_end, read_head, read_schema_bytes, read_schema_end,
 };
 use std::alloc::{AllocError, Global};
 use std::io;
@@ -161,13 +161,25 @@ fn begin_with_head(alloc: Global) -> Result<bool, AllocError> {
     let Ok(head) = read_head(alloc, &mut source) else {
         return Ok(false);
     };
-    let is_head = head.as_slice() == &LINES[..8] && form_of(head.as_slice()) == Form::Lines;
+    let is_head = head.as_slice() == &LINES[..64] && form_of(head.as_slice()) == Form::Lines;
+    Ok(are_columns(alloc, head, source, LINES)? && is_head)
+}
+
+/// Whether a byte order mark among the first bytes is passed over, and lines are told behind it.
+fn passes_mark(alloc: Global) -> Result<bool, AllocError> {
+    let mark = b"\xef\xbb\xbf".as_slice();
+    let mut source = mark.chain(OneByte::new(LINES));
+    let Ok(head) = read_head(alloc, &mut source) else {
+        return Ok(false);
+    };
+    let is_head = &head.as_slice()[3..] == &LINES[..61] && form_of(head.as_slice()) == Form::Lines;
     Ok(are_columns(alloc, head, source, LINES)? && is_head)
 }
 
 #[test]
 fn of_lines_begin_with_their_head(rt: HostRuntime) -> Result<(), Fail> {
     assert!(rt; begin_with_head(rt.alloc())?);
+    assert!(rt; passes_mark(rt.alloc())?, "behind a mark");
     Ok(())
 }
 
@@ -324,7 +336,19 @@ const SCHEMAS: &[(Form, &[u8], usize, usize)] = &[
         Form::ArrowStream,
         b"\xff\xff\xff\xff\x03\0\0\0abcdef",
         14,
-        11,
+        14,
+    ),
+    (
+        Form::ArrowStream,
+        b"\xff\xff\xff\xff\x40\0\0\0a message of 64 bytes, of which the last 8 are not in the head..behind",
+        78,
+        72,
+    ),
+    (
+        Form::Foreign(Foreign::Zip),
+        b"PK\x03\x04 of which no more is read than the first bytes, from which its format is told",
+        81,
+        64,
     ),
     (Form::ArrowStream, b"\xff\xff\xff\xff\x03\0\0\0ab", 10, 10),
     (Form::ArrowStream, b"\xff\xff\xff\xff\x03\0", 6, 6),
@@ -377,7 +401,7 @@ fn is_end(read: Result<FileEnd, ReadFault>, start: usize, wanted: &[u8]) -> bool
 fn are_given(alloc: Global, form: Form, bytes: &[u8], front: &[u8], end: &[u8]) -> bool {
     let start = match form {
         Form::ArrowFile | Form::Parquet => bytes.len().saturating_sub(end.len()),
-        Form::ArrowStream | Form::Lines => 0,
+        Form::ArrowStream | Form::Lines | Form::Foreign(_) => 0,
     };
     let mut whole = bytes;
     let mut slow = OneByte::new(bytes);
@@ -393,7 +417,7 @@ fn are_given(alloc: Global, form: Form, bytes: &[u8], front: &[u8], end: &[u8]) 
 fn of_schemas_give_what_holds_them(rt: HostRuntime) -> Result<(), Fail> {
     for &(form, bytes, last, first) in SCHEMAS.iter() {
         let front = &bytes[..first.min(bytes.len())];
-        let end = if form == Form::ArrowStream {
+        let end = if matches!(form, Form::ArrowStream | Form::Foreign(_)) {
             front
         } else {
             &bytes[bytes.len().saturating_sub(last)..]

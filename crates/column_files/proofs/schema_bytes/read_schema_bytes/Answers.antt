@@ -1,7 +1,7 @@
-use Rattle.std.proofs.Common.{◌≡◌, ◌<◌, length, drop, ap, ◌∙◌, arith}
+use Rattle.std.proofs.Common.{◌≡◌, ◌+◌, ◌-◌, ◌<◌, length, drop, ap, ◌∙◌, arith}
 use Rattle.column_files.specs.Files.{size_in}
-use Rattle.column_files.proofs.FirstMessage.{Given, enough, by_size, by_rest}
-use Rattle.column_files.proofs.schema_bytes.read_schema_bytes.Goals.{in-ArrowStream, in-ArrowFile}
+use Rattle.column_files.proofs.FirstMessage.{Given, enough, by_size, by_none, by_rest}
+use Rattle.column_files.proofs.schema_bytes.read_schema_bytes.Goals.{in-ArrowStream, in-Foreign, in-ArrowFile}
 use Rattle.column_files.proofs.schema_bytes.read_schema_bytes.Goals as goal
 
 pub returns-clause-enough : goal.returns-clause-enough
@@ -13,8 +13,10 @@ returns-clause-enough g c =
     let bytes = c.in_ok-read_up_to.field-0 in
     let given : Given form head bytes.items old new = elim c.match-form.branch [
       | in-ArrowStream w ↦
-          let size : w.size_of_four.result ≡ size_in (drop 4 head) = w.size_of_four.ensures ∙ ap size_in (w.rest_of.ensures ∙ ap (drop 4) w.as_slice.ensures.value) in
-          by_size form head bytes.items old new c.match-form.rest w.in-ArrowStream.is (w.rest-is ∙ w.from-rest.ensures ∙ size) c.in_ok-read_up_to.ensures.ok
+          let size : c.match-form.rest ≡ 8 + size_in (drop 4 head) - length head =
+          w.rest-is ∙ w.left_of_message.ensures ∙ ap (λ h. 8 + size_in (drop 4 h) - length h) w.as_slice.ensures.value in
+          by_size form head bytes.items old new c.match-form.rest w.in-ArrowStream.is size c.in_ok-read_up_to.ensures.ok
+      | in-Foreign w ↦ by_none form _ head bytes.items old new c.match-form.rest w.in-Foreign.is w.rest-is c.in_ok-read_up_to.ensures.ok
       | in-ArrowFile w ↦
           let small : length bytes.items < c.match-form.rest = omega (arith, w.rest-is, bytes.ok, bytes.small) in
           by_rest form head bytes.items old new c.match-form.rest w.in-ArrowFile.is small c.in_ok-read_up_to.ensures.ok

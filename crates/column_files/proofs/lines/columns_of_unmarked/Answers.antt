@@ -4,7 +4,7 @@ use Rattle.arrow_columns.specs.Column.{column_tree}
 use Rattle.column_files.specs.LineFaults.{IsLineAdded}
 use Rattle.column_files.specs.Lines.{LinesTo, Denote}
 use Rattle.column_files.proofs.Steps.{lines_more, denote_more}
-use Rattle.column_files.proofs.lines.columns_of_lines.Goals as goal
+use Rattle.column_files.proofs.lines.columns_of_unmarked.Goals as goal
 
 pub loop-rest-init : goal.loop-rest-init
 loop-rest-init c = (omega arith, [], refl, refl, subst (λ xs. Denote [] (map column_tree xs)) (sym c.new-columns.ensures.items) refl)

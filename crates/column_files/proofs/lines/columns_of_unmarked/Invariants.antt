@@ -2,7 +2,7 @@
 use Rattle.std.proofs.Common.{◌≡◌, ◌+◌, ◌≤◌, ℕ, List, length, map}
 use Rattle.arrow_columns.specs.Column.{column_tree}
 use Rattle.column_files.specs.Lines.{LinesTo, Denote}
-use Rattle.column_files.proofs.lines.columns_of_lines.Given as goal
+use Rattle.column_files.proofs.lines.columns_of_unmarked.Given as goal
 
 abbrev pub invariant-loop-rest : goal.invariant-loop-rest
 invariant-loop-rest l =
