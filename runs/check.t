@@ -156,7 +156,7 @@ A line of 1,048,576 bytes, and one with a byte more
 
 An input without a line feed, which does not end
 
-  $ yes | tr -d '\n' | (ulimit -v 16000; geoarrow_check --quiet -)
+  $ (printf '{'; yes | tr -d '\n') | (ulimit -v 16000; geoarrow_check --quiet -)
   -: line 1: has more than 1048576 bytes
   [2]
 

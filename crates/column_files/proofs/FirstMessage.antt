@@ -66,7 +66,7 @@ of_stream head (a ∷ b ∷ c ∷ []) more ys is long given = absurd (omega (ari
 of_stream head (a ∷ b ∷ c ∷ d ∷ first) more ys is long given =
     let size = from_le_bytes w32 (a ∷ b ∷ c ∷ d ∷ []) in
     let size_is : size_in (drop 4 head) ≡ size = ap (λ h. size_in (drop 4 h)) is in
-    let len : length head ≡ 8 + length first = ap length is in
+    let len : length head ≡ 8 + length first = omega (arith, ap length is) in
     let end : length (first ++ more) < size → ys ≡ [] = λ short. given.2 (omega (arith, short, size_is, len, length-append first more)) in
     let same : message_in (stream a b c d (first ++ more)) ≡ message_in (stream a b c d (first ++ (more ++ ys))) =
     same_message a b c d (first ++ more) ys end ∙ ap (λ l. message_in (stream a b c d l)) (append_assoc first more ys) in

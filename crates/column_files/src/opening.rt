@@ -41,7 +41,7 @@ pub struct File<'a> {
 /// let file = open(alloc, br#"{"name":"a","nullable":true,"type":"int64"}"#);
 /// assert!(rt; matches!(file, Ok(file) if file.columns.len() == 1));
 /// assert!(rt; matches!(open(alloc, b" \n"), Err(FileFault::Empty)));
-/// let refused = open(alloc, b"\n{\n");
+/// let refused = open(alloc, b"\n{]\n");
 /// assert!(rt; matches!(refused, Err(FileFault::NoField(1, LineFault::NotJson(_)))));
 /// ```
 pub fn open<'a>(alloc: Global, bytes: &'a [u8]) -> Result<File<'a>, FileFault>

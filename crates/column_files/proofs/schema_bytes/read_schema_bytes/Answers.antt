@@ -14,7 +14,7 @@ returns-clause-enough g c =
     let given : Given form head bytes.items old new = elim c.match-form.branch [
       | in-ArrowStream w ↦
           let size : c.match-form.rest ≡ 8 + size_in (drop 4 head) - length head =
-          w.rest-is ∙ w.left_of_message.ensures ∙ ap (λ h. 8 + size_in (drop 4 h) - length h) w.as_slice.ensures.value in
+          w.rest-is ∙ w.left_of_message-rest.ensures ∙ ap (λ h. 8 + size_in (drop 4 h) - length h) w.as_slice.ensures.value in
           by_size form head bytes.items old new c.match-form.rest w.in-ArrowStream.is size c.in_ok-read_up_to.ensures.ok
       | in-Foreign w ↦ by_none form _ head bytes.items old new c.match-form.rest w.in-Foreign.is w.rest-is c.in_ok-read_up_to.ensures.ok
       | in-ArrowFile w ↦
