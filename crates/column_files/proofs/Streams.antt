@@ -1,10 +1,10 @@
 -- A file that its first bytes tell to be a stream begins with the marker.
 use Rattle.std.proofs.Common.{◌≡◌, ℕ, Bool, true, false, not, ◌&&◌, List, [], ◌∷◌, ◌++◌, take, drop, take-append-drop, if◌then◌else◌, Option, Some, refl, sym, ap, ◌∙◌, true≢false, codes}
 use Rattle.std.proofs.lemmas.Slice.Eq.{bytes_eq-Decides}
-use Rattle.column_files.specs.Forms.{Row, rows, first_row, stands, TextRow, text_rows, first_text, begins, text_form, form_by, behind_blanks, unmarked, form_or_text, head_form, is_tag, is_words}
+use Rattle.column_files.specs.Forms.{Row, rows, first_row, stands, TextRow, text_rows, first_text, begins, text_form, form_by, behind_blanks, unmarked, form_or_text, head_form, is_tag, is_words, is_duck}
 use Rattle.column_files.specs.declared.form.Form.{Form}
 use Rattle.column_files.specs.declared.form.Form.TheVariants.{ArrowFile, ArrowStream, Parquet, Foreign}
-use Rattle.column_files.specs.declared.foreign.Foreign.TheVariants.{Xml, Text, Unknown}
+use Rattle.column_files.specs.declared.foreign.Foreign.TheVariants.{DuckDb, Xml, Text, Unknown}
 
 abbrev is_stream : Form → Bool
 is_stream ArrowStream = true
@@ -54,8 +54,12 @@ choose : (t : Bool) (f : Form) (o : Option Form) (head : List ℕ) → is_stream
 choose true f o head one more = one
 choose false f o head one more = more
 
+duck_or_text : (t : Bool) (f : Form) → is_stream f ≡ false → is_stream (if t then Foreign DuckDb else f) ≡ false
+duck_or_text true f other = refl
+duck_or_text false f other = other
+
 by_rows : (rs : List Row) (head : List ℕ) → no_streams rs ≡ true → is_stream (form_or_text (first_row rs head) head) ≡ false
-by_rows [] head none = text_is_none (behind_blanks (unmarked head))
+by_rows [] head none = duck_or_text (is_duck head) (text_form (behind_blanks (unmarked head))) (text_is_none (behind_blanks (unmarked head)))
 by_rows (row ∷ rest) head none =
     let parts = split (is_stream row.1.1) (no_streams rest) none in
     choose (stands row.0 row.1.0 head) row.1.1 (first_row rest head) head parts.0 (by_rows rest head parts.1)

@@ -36,7 +36,6 @@ rows =
     ∷ (0, (codes "PK" ++ (3 ∷ 4 ∷ []), OfOther Zip))
     ∷ (0, (codes "ORC", OfOther Orc))
     ∷ (0, (codes "Obj" ++ (1 ∷ []), OfOther Avro))
-    ∷ (8, (codes "DUCK", OfOther DuckDb))
     ∷ (0, (0x89 ∷ codes "HDF", OfOther Hdf5))
     ∷ (0, (codes "CDF" ++ (1 ∷ []), OfOther NetCdf))
     ∷ (0, (codes "CDF" ++ (2 ∷ []), OfOther NetCdf))
@@ -120,9 +119,13 @@ text_form (code ∷ rest) = form_by (first_text text_rows (code ∷ rest)) (code
 
 -- ---- the format
 
+-- the word of DuckDB stands behind eight bytes, which may be any; so in a text it tells nothing
+abbrev pub is_duck : List ℕ → Bool
+is_duck head = stands 8 (codes "DUCK") head && not (is_words head)
+
 abbrev pub form_or_text : Option Form → List ℕ → Form
 form_or_text (Some form) head = form
-form_or_text None head = text_form (behind_blanks (unmarked head))
+form_or_text None head = if is_duck head then OfOther DuckDb else text_form (behind_blanks (unmarked head))
 
 abbrev pub head_form : List ℕ → Form
 head_form head = form_or_text (first_row rows head) head

@@ -1,6 +1,7 @@
 //! The format of a file, by its first bytes.
-ghost use Rattle.std.specs.Prelude.{◌≡◌, length, take, map};
-ghost use Rattle.column_files.specs.Forms.{IsForm, head_form, behind_blanks, mark_len, unmarked, first_row, first_text, text_form, is_tag, is_words, stands, begins};
+ghost use Rattle.std.specs.Prelude.{◌≡◌, take, map};
+ghost use Rattle.column_files.specs.Forms.{IsForm, head_form, stands, first_row, begins, first_text};
+ghost use Rattle.column_files.specs.Forms.{mark_len, unmarked, behind_blanks, text_form, is_tag, is_words, is_duck};
 
 use crate::foreign::Foreign;
 
@@ -42,7 +43,6 @@ const ROWS: &[Row] = &[
     (0, b"PK\x03\x04", Form::Foreign(Foreign::Zip)),
     (0, b"ORC", Form::Foreign(Foreign::Orc)),
     (0, b"Obj\x01", Form::Foreign(Foreign::Avro)),
-    (8, b"DUCK", Form::Foreign(Foreign::DuckDb)),
     (0, b"\x89HDF", Form::Foreign(Foreign::Hdf5)),
     (0, b"CDF\x01", Form::Foreign(Foreign::NetCdf)),
     (0, b"CDF\x02", Form::Foreign(Foreign::NetCdf)),
@@ -79,6 +79,8 @@ const TEXT_ROWS: &[TextRow] = &[
 /// assert_eq!(rt; form_of(b"PARE"), Form::Parquet);
 /// assert_eq!(rt; form_of(b" {}"), Form::Lines);
 /// assert_eq!(rt; form_of(b"[{}]"), Form::Foreign(Foreign::JsonArray));
+/// assert_eq!(rt; form_of(b"\x01\x02\x03\0\x05\x06\x07\x08DUCK\x40\0"), Form::Foreign(Foreign::DuckDb));
+/// assert_eq!(rt; form_of(b"{\"abc\":\"DUCK\"}"), Form::Lines);
 /// ```
 pub fn form_of(bytes: &[u8]) -> Form
     ensures { IsForm bytes.now result }
@@ -99,8 +101,16 @@ fn head_form(head: &[u8]) -> Form
 {
     match first_row(ROWS, head) {
         Some(form) => form,
+        None if is_duck(head) => Form::Foreign(Foreign::DuckDb),
         None => text_form(behind_blanks(unmarked(head))),
     }
+}
+
+/// Whether bytes have the word of DuckDB behind eight others, and are no text.
+fn is_duck(head: &[u8]) -> bool
+    ensures { result ≡ is_duck head.now }
+{
+    stands(8, b"DUCK", head) && !is_words(head)
 }
 
 /// The format of the first row whose bytes stand at their place.
