@@ -1,8 +1,8 @@
 -- The forms in which a CRS is said.
-use Rattle.std.specs.Prelude.{◌==◌, ◌&&◌, ◌||◌, ◌+◌, not, ℕ, nat_lt, List, [], ◌∷◌, length, take, drop, map, Bool, is_some, slice_index, if◌then◌else◌, Option, Some, None, position, option_and_then}
+use Rattle.std.specs.Prelude.{◌==◌, ◌&&◌, ◌||◌, ◌+◌, ℕ, nat_lt, List, [], ◌∷◌, length, take, drop, map, Bool, is_some, slice_index, if◌then◌else◌, Option, Some, None, position, option_and_then, false}
 use Rattle.std.specs.Char.{is_ascii_alphabetic, is_ascii_alphanumeric}
 use Rattle.std.specs.List.{list_all}
-use Rattle.json.specs.Json.{Json, null, boolean, number, string, array, object, document}
+use Rattle.json.specs.Json.{Json, string, object, document}
 use Rattle.json.specs.Value.{value_view}
 use Rattle.serde_json.specs.Read.{read}
 use Rattle.crs_identity.specs.Equality.{json_equal}
@@ -48,7 +48,7 @@ is_name_byte b = is_ascii_alphanumeric b || (b == 95 || (b == 46 || b == 45))
 
 -- whether these are the two sides of a colon in a code
 abbrev pub are_sides : Text → Text → Bool
-are_sides authority code = is_ascii_alphabetic (slice_index authority 0) && (list_all is_name_byte authority && (nat_lt 0 (length code) && list_all is_name_byte code))
+are_sides a c = is_ascii_alphabetic (slice_index a 0) && (list_all is_name_byte a && (nat_lt 0 (length c) && list_all is_name_byte c))
 
 abbrev pub code_by : Text → ℕ → Option Name
 code_by s i = if are_sides (take i s) (drop (i + 1) s) then Some (named (take i s) (drop (i + 1) s)) else None

@@ -6,3 +6,4 @@ pub mod Wkt
 pub mod Forms
 pub mod Classes
 pub mod Verdicts
+pub mod Malformed

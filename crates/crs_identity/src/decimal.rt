@@ -60,7 +60,8 @@ fn is_far(text: &[u8]) -> bool
 /// Returns the number that a text is. Errs only when out of memory.
 fn number_of(alloc: Global, text: &[u8]) -> Result<Number, AllocError>
     requires { is_far text.now ≡ false }
-    ensures { IfOk result (λ number. decimal number ≡ decimal_of text.now) }
+    ensures value { IfOk result (λ number. decimal number ≡ decimal_of text.now) }
+    ensures small { IfOk result (λ number. (number.up < 2 ^ 66) × (number.down < 2 ^ 66)) }
 {
     let parts = parts(text);
     let exponent = value_of(parts.exponent());
@@ -85,11 +86,10 @@ fn value_of(digits: &[u8]) -> u128
     ensures value { result ≡ digits_value 10 digits.now }
     ensures below { result < 10 ^ 9 }
 {
-    let mut value = 0;
-    for b in digits {
-        value = value * 10 + u128::from(*b - b'0');
+    match fast_float::parse_u64(digits) {
+        Ok(value) => value as u128,
+        Err(_) => 0,
     }
-    value
 }
 
 /// Returns all digits, those of the whole part before those of the fraction. Errs only when out of
@@ -129,6 +129,8 @@ fn without_last_zeros(digits: &[u8]) -> &[u8]
 
 /// Whether two numbers are equal.
 fn are_equal_decimals(a: &Number, b: &Number) -> bool
+    requires first { (a.now.up < 2 ^ 66) × (a.now.down < 2 ^ 66) }
+    requires second { (b.now.up < 2 ^ 66) × (b.now.down < 2 ^ 66) }
     ensures { result ≡ are_equal_decimals (decimal a.now) (decimal b.now) }
 {
     if a.digits.is_empty() && b.digits.is_empty() {

@@ -22,7 +22,10 @@ pub fn json_equal(alloc: Global, a: &Value<'_>, b: &Value<'_>) -> Result<bool, A
         (Value::String(x), Value::String(y)) => Ok(*x == *y),
         (Value::Array(x), Value::Array(y)) => equal_items(alloc, x, y),
         (Value::Object(x), Value::Object(y)) => {
-            Ok(has_keys(y.as_slice(), x.as_slice()) && equal_members(alloc, x, b)?)
+            if !has_keys(y.as_slice(), x.as_slice()) {
+                return Ok(false);
+            }
+            equal_members(alloc, x, b)
         }
         _ => Ok(false),
     }

@@ -1,11 +1,11 @@
 //! The forms in which a CRS is said.
-ghost use Rattle.std.specs.Prelude.{◌≡◌, Some, None, IfOk, MatchOption, option_map};
-ghost use Rattle.json.specs.Json.{string, object};
-ghost use Rattle.json.specs.Value.{value_view};
-ghost use Rattle.crs_identity.specs.Forms.{are_equal, are_sides, code_in, form_by, form_of_value, form_past_code, form_view, identifiers, is_name_byte, json_in, other, projjson};
+ghost use Rattle.std.specs.Prelude.{◌≡◌, ◌==◌, map, IfOk, MatchOption, option_map, position};
 ghost use Rattle.std.specs.List.{list_all};
+ghost use Rattle.json.specs.Json.{string};
+ghost use Rattle.json.specs.Value.{value_view};
+ghost use Rattle.value_tokens.specs.Values.{is_object};
+ghost use Rattle.crs_identity.specs.Forms.{are_equal, are_sides, code_in, form_by, form_of_value, form_view, identifiers, is_name_byte, json_in, other, projjson};
 ghost use Rattle.crs_identity.specs.Identifiers.{name_of};
-ghost use Rattle.std.specs.Prelude.{map};
 
 use crate::equality::json_equal;
 use crate::identifiers::{Identifier, add, made, projjson_identifiers};
@@ -82,10 +82,18 @@ fn object_in<'t>(
         Err(Refusal::Text) => return Ok(None),
         Err(Refusal::Memory) => return Err(AllocError),
     };
-    match value {
-        Value::Object(members) => Ok(Some(Value::Object(members))),
-        _ => Ok(None),
+    if is_object(&value) {
+        Ok(Some(value))
+    } else {
+        Ok(None)
     }
+}
+
+/// Whether a value is an object.
+fn is_object(value: &Value<'_>) -> bool
+    ensures { result ≡ is_object (value_view value.now) }
+{
+    matches!(value, Value::Object(_))
 }
 
 /// Returns the code that a text is, if it is one. Errs only when out of memory.
@@ -93,7 +101,7 @@ fn code_in(alloc: Global, text: &str) -> Result<Option<Identifier>, AllocError>
     ensures { IfOk result (λ o. option_map name_of o ≡ code_in text.now) }
 {
     let bytes = text.as_bytes();
-    let Some(colon) = bytes.iter().position(|b| *b == b':') else {
+    let Some(colon) = colon_in(bytes) else {
         return Ok(None);
     };
     let authority = &bytes[..colon];
@@ -103,6 +111,13 @@ fn code_in(alloc: Global, text: &str) -> Result<Option<Identifier>, AllocError>
     } else {
         Ok(None)
     }
+}
+
+/// The place of the first colon.
+fn colon_in(bytes: &[u8]) -> Option<usize>
+    ensures { result ≡ position (λ b. b == 58) bytes.now }
+{
+    bytes.iter().position(|b| *b == b':')
 }
 
 /// Whether these are the two sides of the colon in a code.

@@ -56,7 +56,7 @@ pub(crate) fn form_said<'v, 'a: 's, 's>(
     crs: Crs<'v, 'a>,
     scratch: &'s mut Scratch,
 ) -> Result<Option<CrsForm<'v, 'a, 's>>, AllocError>
-    ensures { IfOk result (λ o. option_map form_view o ≡ form_said (said crs)) }
+    ensures { IfOk result (λ o. option_map form_view o ≡ form_said (said crs.entry)) }
 {
     match crs {
         Crs::Unknown => Ok(None),
