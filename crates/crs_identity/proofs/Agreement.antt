@@ -4,7 +4,7 @@ use Rattle.std.specs.List.{list_any}
 use Rattle.json.specs.Json.{Json, null, boolean, number as number_json, string, array, object}
 use Rattle.crs_identity.proofs.Equals.{or_right, eqb_sym, bytes_same, bytes_refl, bytes_sym, json_refl, json_sym, and_true}
 use Rattle.crs_identity.specs.Equality.{json_equal}
-use Rattle.crs_identity.specs.Identifiers.{Name, is_same, with_pair, share_identifier, share_authority}
+use Rattle.crs_identity.specs.Identifiers.{Name, is_same, listed, paired, with_pair, share_identifier, share_authority}
 use Rattle.crs_identity.specs.Tokens.{Lexeme, mark, quoted, word, is_same_lexeme, are_same_lexemes}
 use Rattle.crs_identity.specs.Forms.{Said, unknown, value, srid, Form, projjson, code, wkt, number, other, form_of_value, identifiers, are_equal}
 use Rattle.crs_identity.specs.Classes.{class_of, classes_differ}
@@ -65,10 +65,30 @@ lexemes_sym _ _ = refl
 
 equal_sym : (f g : Form) → are_equal f g ≡ are_equal g f
 equal_sym (projjson i) (projjson j) = json_sym i j
+equal_sym (projjson i) (code n) = refl
+equal_sym (projjson i) (wkt ms) = refl
+equal_sym (projjson i) (number j) = refl
+equal_sym (projjson i) (other j) = refl
+equal_sym (code m) (projjson j) = refl
+equal_sym (code m) (code n) = refl
+equal_sym (code m) (wkt ms) = refl
+equal_sym (code m) (number j) = refl
+equal_sym (code m) (other j) = refl
+equal_sym (wkt ls) (projjson j) = refl
+equal_sym (wkt ls) (code n) = refl
 equal_sym (wkt ls) (wkt ms) = lexemes_sym ls ms
+equal_sym (wkt ls) (number j) = refl
+equal_sym (wkt ls) (other j) = refl
+equal_sym (number i) (projjson j) = refl
+equal_sym (number i) (code n) = refl
+equal_sym (number i) (wkt ms) = refl
 equal_sym (number i) (number j) = json_sym i j
+equal_sym (number i) (other j) = refl
+equal_sym (other i) (projjson j) = refl
+equal_sym (other i) (code n) = refl
+equal_sym (other i) (wkt ms) = refl
+equal_sym (other i) (number j) = refl
 equal_sym (other i) (other j) = json_sym i j
-equal_sym _ _ = refl
 
 differ_sym : (c d : Option Class) → classes_differ c d ≡ classes_differ d c
 differ_sym None None = refl
@@ -104,6 +124,10 @@ agree_if : (a b : Bool) (v : Verdict) → b ≡ true → cond a Agree (cond b Ag
 agree_if true b v h = refl
 agree_if false b v h = ap (λ c. cond c Agree v) h
 
+agree_first : (a : Bool) (v : Verdict) → a ≡ true → cond a Agree v ≡ Agree
+agree_first true v h = refl
+agree_first false v h = absurd (cc)
+
 agree_equal : (f g : Form) → are_equal f g ≡ true → verdict_of f g ≡ Agree
 agree_equal f g h = agree_if (share_identifier (identifiers f) (identifiers g)) (are_equal f g) _ h
 
@@ -125,7 +149,7 @@ share_refl n ns = ap (λ b. (b || list_any (is_same n) ns) || list_any (λ m. li
 
 pub agree_same : (f : Form) → verdict_of f f ≡ Agree
 agree_same (projjson j) = agree_equal (projjson j) (projjson j) (json_refl j)
-agree_same (code n) = ap (λ b. cond b Agree _) (share_refl n _)
+agree_same (code n) = agree_first (share_identifier (identifiers (code n)) (identifiers (code n))) _ (share_refl n (listed (paired n)))
 agree_same (wkt ls) = agree_equal (wkt ls) (wkt ls) (lexemes_refl ls)
 agree_same (number j) = agree_equal (number j) (number j) (json_refl j)
 agree_same (other j) = agree_equal (other j) (other j) (json_refl j)

@@ -131,8 +131,9 @@ has_some : (k : List ℕ) (ms : Members) → has_key k ms ≡ true → (j : Json
 has_some k no_members e = absurd (cc)
 has_some k (member l j ms) e =
     elim (or_split (bytes_eq l k) (has_key k ms) e) [
-        inl t ↦ first_or (get_member k ms) (bytes_eq l k) j t
-        | inr u ↦ ((has_some k ms u).0, later_some (get_member k ms) _ _ (has_some k ms u).1) ]
+      | inl t ↦ first_or (get_member k ms) (bytes_eq l k) j t
+      | inr u ↦ ((has_some k ms u).0, later_some (get_member k ms) _ _ (has_some k ms u).1)
+    ]
 
 here : (k : List ℕ) (j : Json) (ms : Members) → has_key k ms ≡ false → get_member k (member k j ms) ≡ Some j
 here k j ms e = ap (λ o. later_or o (cond (bytes_eq k k) (Some j) None)) (no_key k ms e) ∙ ap (λ b. cond b (Some j) None) (bytes_refl k)
@@ -149,8 +150,9 @@ keys_have no_members ns h k e = absurd (cc)
 keys_have (member l j ms) ns h k e =
     let p = and_parts (has_key l ns) (has_keys ms ns) h in
     elim (or_split (bytes_eq l k) (has_key k ms) e) [
-        inl t ↦ subst (λ x. has_key x ns ≡ true) (bytes_same l k t) p.0
-        | inr u ↦ keys_have ms ns p.1 k u ]
+      | inl t ↦ subst (λ x. has_key x ns ≡ true) (bytes_same l k t) p.0
+      | inr u ↦ keys_have ms ns p.1 k u
+    ]
 
 holds_some : (p : Json → Bool) (o : Option Json) → holds_of p o ≡ true → (j : Json) × (o ≡ Some j)
 holds_some p None h = absurd (cc)
@@ -209,12 +211,14 @@ found_equal no_members o h k j e = absurd (cc)
 found_equal (member l x ms) o h k j e =
     let p = and_parts (has_key l ms || holds_of (json_equal x) (get l o)) (equal_members ms o) h in
     elim (some_or (get_member k ms)) [
-        inl n ↦ (let q = found_first k l x j ms e n in
-            let same = bytes_same l k q.0 in
-            elim (or_split (has_key l ms) (holds_of (json_equal x) (get l o)) p.0) [
-                inl t ↦ absurd (none_is_no_key k l ms same n t)
-                | inr u ↦ subst (λ y. holds_of (json_equal y) (get k o) ≡ true) q.1 (subst (λ m. holds_of (json_equal x) (get m o) ≡ true) same u) ])
-        | inr f ↦ found_equal ms o p.1 k j (found_later k l x j f.0 ms e f.1) ]
+      | inl n ↦ (let q = found_first k l x j ms e n in
+          let same = bytes_same l k q.0 in
+          elim (or_split (has_key l ms) (holds_of (json_equal x) (get l o)) p.0) [
+            | inl t ↦ absurd (none_is_no_key k l ms same n t)
+            | inr u ↦ subst (λ y. holds_of (json_equal y) (get k o) ≡ true) q.1 (subst (λ m. holds_of (json_equal x) (get m o) ≡ true) same u)
+          ])
+      | inr f ↦ found_equal ms o p.1 k j (found_later k l x j f.0 ms e f.1)
+    ]
 
 others_equal : (ms all ns : Members) → ((k : List ℕ) (j i : Json) → get_member k ms ≡ Some j → json_equal j i ≡ true → json_equal i j ≡ true) → equal_members ms (object all) ≡ true → has_keys all ms ≡ true → ((k : List ℕ) (i : Json) → get_member k ns ≡ Some i → get_member k all ≡ Some i) → equal_members ns (object ms) ≡ true
 others_equal ms all no_members back eq keys sub = refl
@@ -263,9 +267,10 @@ mutual
   members_back no_members k j i e h = absurd (cc)
   members_back (member l x ms) k j i e h =
       elim (some_or (get_member k ms)) [
-          inl n ↦ (let q = found_first k l x j ms e n in
-              subst (λ y. json_equal i y ≡ true) q.1 (json_back x i (subst (λ y. json_equal y i ≡ true) (sym q.1) h)))
-          | inr f ↦ members_back ms k j i (found_later k l x j f.0 ms e f.1) h ]
+        | inl n ↦ (let q = found_first k l x j ms e n in
+            subst (λ y. json_equal i y ≡ true) q.1 (json_back x i (subst (λ y. json_equal y i ≡ true) (sym q.1) h)))
+        | inr f ↦ members_back ms k j i (found_later k l x j f.0 ms e f.1) h
+      ]
 
 pub json_sym : (i j : Json) → json_equal i j ≡ json_equal j i
 json_sym i j = same_bool (json_equal i j) (json_equal j i) (json_back i j) (json_back j i)

@@ -26,7 +26,7 @@ abbrev mutual
   json_equal (number s) (number t) = are_equal_numbers s t
   json_equal (string s) (string t) = bytes_eq s t
   json_equal (array is) (array js) = equal_items is js
-  json_equal (object ms) (object ns) = equal_members ms (object ns) && has_keys ns ms
+  json_equal (object ms) (object ns) = has_keys ns ms && equal_members ms (object ns)
   json_equal _ _ = false
 
   pub equal_items : Items → Items → Bool

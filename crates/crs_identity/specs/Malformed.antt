@@ -5,7 +5,7 @@ use Rattle.json.specs.Find.{get, as_str}
 use Rattle.crs_identity.specs.Identifiers.{Text, authority_of, code_of}
 use Rattle.crs_identity.specs.Classes.{type_of}
 use Rattle.crs_identity.specs.declared.malformed.Part.{Part}
-use Rattle.crs_identity.specs.declared.malformed.Part.TheVariants.{Type, Name, Id, Item, BothIds}
+use Rattle.crs_identity.specs.declared.malformed.Part.TheVariants.{«Type», Name, Id, Item, BothIds}
 
 -- the names that `Derived` may stand before
 abbrev pub is_plain_type : Text → Bool
@@ -56,7 +56,7 @@ wrong_ids o = []
 -- the parts that are wrong, in this order
 abbrev pub malformed_parts : Json → List Part
 malformed_parts j =
-    part_if (not (is_type (type_of j))) Type
+    part_if (not (is_type (type_of j))) «Type»
     ++ (part_if (needs_name (type_of j) && not (has_text (codes "name") j)) Name
     ++ (part_if (is_no_identifier (get (codes "id") j)) Id
     ++ (wrong_ids (get (codes "ids") j)
@@ -64,7 +64,7 @@ malformed_parts j =
 
 -- where a part stands in the object (RFC 6901)
 abbrev pub pointer : Part → Text
-pointer Type = codes "/type"
+pointer «Type» = codes "/type"
 pointer Name = codes "/name"
 pointer Id = codes "/id"
 pointer (Item n) = codes "/ids/" ++ decimal n

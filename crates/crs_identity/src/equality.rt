@@ -32,11 +32,7 @@ pub fn json_equal(alloc: Global, a: &Value<'_>, b: &Value<'_>) -> Result<bool, A
 }
 
 #[cycle(equal)]
-fn equal_items(
-    alloc: Global,
-    a: &Vec<Value<'_>>,
-    b: &Vec<Value<'_>>,
-) -> Result<bool, AllocError>
+fn equal_items(alloc: Global, a: &Vec<Value<'_>>, b: &Vec<Value<'_>>) -> Result<bool, AllocError>
     ensures { IfOk result (λ answer. answer ≡ equal_items (items_view a.now.items) (items_view b.now.items)) }
 {
     let mut others = b.iter();

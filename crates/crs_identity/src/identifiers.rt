@@ -56,11 +56,7 @@ fn has_pair(found: &[Identifier]) -> bool
 }
 
 /// Makes an identifier. Errs only when out of memory.
-pub(crate) fn made(
-    alloc: Global,
-    authority: &[u8],
-    code: &[u8],
-) -> Result<Identifier, AllocError>
+pub(crate) fn made(alloc: Global, authority: &[u8], code: &[u8]) -> Result<Identifier, AllocError>
     ensures { IfOk result (λ i. name_of i ≡ named authority.now code.now) }
 {
     let authority = authority.to_ascii_lowercase(alloc)?;
@@ -171,10 +167,7 @@ fn add_items(
 }
 
 /// Returns the identifier that a value is, if it is one. Errs only when out of memory.
-fn identifier_in(
-    alloc: Global,
-    value: Option<&Value<'_>>,
-) -> Result<Option<Identifier>, AllocError>
+fn identifier_in(alloc: Global, value: Option<&Value<'_>>) -> Result<Option<Identifier>, AllocError>
     ensures { IfOk result (λ o. option_map name_of o ≡ identifier_in (option_map (λ v. value_view v.now) value.entry)) }
 {
     let Some(value) = value else {

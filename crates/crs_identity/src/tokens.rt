@@ -44,12 +44,7 @@ pub(crate) fn tokens_of(alloc: Global, text: &str) -> Result<Vec<Token>, AllocEr
 
 /// Adds the tokens that end at a byte, and returns where the next byte stands. Errs only when out of
 /// memory.
-fn next_mode(
-    alloc: Global,
-    tokens: &mut Vec<Token>,
-    mode: Mode,
-    b: u8,
-) -> Result<Mode, AllocError>
+fn next_mode(alloc: Global, tokens: &mut Vec<Token>, mode: Mode, b: u8) -> Result<Mode, AllocError>
     ensures { IfOk result (λ next. (s : Text) → map lexeme tokens.old.items ++ lexemes_from (place mode) (b ∷ s) ≡ map lexeme tokens.new.items ++ lexemes_from (place next) s) }
 {
     match mode {

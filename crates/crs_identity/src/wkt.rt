@@ -57,7 +57,11 @@ pub(crate) fn wkt_identifiers(
             Token::Mark(b) => depth = depth_past(*b, depth),
             Token::Quoted(_) => {}
             Token::Word(word) => {
-                add(alloc, found, identifier_at(alloc, depth, word.as_slice(), rest)?)?;
+                add(
+                    alloc,
+                    found,
+                    identifier_at(alloc, depth, word.as_slice(), rest)?,
+                )?;
             }
         }
     }

@@ -22,7 +22,7 @@ impl Layers for FileRows {
             "lines" => lines::answer(it),
             _ if !it.is_text() => it.said.fail(),
             "crs" => crs::answer(it),
-        "footers" => footers::answer(it),
+            "footers" => footers::answer(it),
             "geo" => geo::answer(it),
             _ => reports::answer(it),
         }
