@@ -1,12 +1,12 @@
 -- The verdict is symmetric, equal values agree, and what contradicts shares no identifier.
-use Rattle.std.proofs.Common.{◌≡◌, ℕ, Bool, true, false, ◌&&◌, ◌||◌, cond, List, [], ◌∷◌, Option, Some, None, refl, sym, ap, subst, ◌∙◌, bytes_eq, eq-eqb}
+use Rattle.std.proofs.Common.{◌≡◌, Bool, true, false, ◌&&◌, ◌||◌, cond, List, [], ◌∷◌, Option, Some, None, refl, sym, ap, subst, ◌∙◌, bytes_eq, eq-eqb}
 use Rattle.std.specs.List.{list_any}
 use Rattle.json.specs.Json.{Json, null, boolean, number as number_json, string, array, object}
-use Rattle.crs_identity.proofs.Equals.{or_right, eqb_sym, bytes_same, bytes_refl, bytes_sym, json_refl, json_sym, and_true}
+use Rattle.crs_identity.proofs.Equals.{eqb_sym, bytes_same, bytes_refl, bytes_sym, json_refl, json_sym, and_true}
 use Rattle.crs_identity.specs.Equality.{json_equal}
-use Rattle.crs_identity.specs.Identifiers.{Name, is_same, listed, paired, with_pair, share_identifier, share_authority}
+use Rattle.crs_identity.specs.Identifiers.{Name, is_same, listed, paired, share_identifier, share_authority}
 use Rattle.crs_identity.specs.Tokens.{Lexeme, mark, quoted, word, is_same_lexeme, are_same_lexemes}
-use Rattle.crs_identity.specs.Forms.{Said, unknown, value, srid, Form, projjson, code, wkt, number, other, form_of_value, identifiers, are_equal}
+use Rattle.crs_identity.specs.Forms.{Form, projjson, code, wkt, number, other, form_of_value, identifiers, are_equal}
 use Rattle.crs_identity.specs.Classes.{class_of, classes_differ}
 use Rattle.crs_identity.specs.Verdicts.{Claimed, form_said, verdict_of, verdict_by, crs_verdict}
 use Rattle.crs_identity.specs.declared.class.Class.{Class}

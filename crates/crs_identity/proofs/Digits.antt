@@ -1,5 +1,5 @@
 -- The number that few digits are.
-use Rattle.std.proofs.Common.{◌≡◌, ℕ, ◌^◌, ◌<◌, ◌≤◌, ◌==◌, false, cond, List, [], ◌∷◌, length, drop, refl, ap, subst, sym, arith, lit<}
+use Rattle.std.proofs.Common.{◌≡◌, ℕ, ◌^◌, ◌<◌, ◌≤◌, cond, List, [], ◌∷◌, length, drop, refl, ap, subst, sym, arith, lit<}
 use Rattle.std.proofs.Math.Nat.{lt_of_lt_of_le, pow-le-pow_right}
 use Rattle.std.proofs.lemmas.Bool.{ne_eqb}
 use Rattle.std.proofs.lemmas.Int.Digits.{digits_value-lt}

@@ -1,5 +1,5 @@
 -- The JSON value that a text is.
-use Rattle.std.proofs.Common.{◌≡◌, ℕ, ◌≤◌, cond, true, false, List, [], append-nil, Option, Some, None, option_and_then, is_some, refl, sym, ap, ◌∙◌, arith}
+use Rattle.std.proofs.Common.{◌≡◌, ℕ, cond, true, false, List, [], append-nil, Some, None, option_and_then, is_some, sym, ap, ◌∙◌, arith}
 use Rattle.json.specs.Json.{Json, null, boolean, number, string, array, object, document, if_last, max_depth, value}
 use Rattle.json.specs.Lex.{tokens}
 use Rattle.json.specs.Tree.{json_tokens}
@@ -7,7 +7,7 @@ use Rattle.json.proofs.Printed.Trees.{value-json_tokens}
 use Rattle.serde_json.specs.Data.{Data}
 use Rattle.serde_json.specs.Read.{of_json, read}
 use Rattle.value_tokens.specs.Values.{IsReadable, is_object}
-use Rattle.crs_identity.specs.Forms.{Form, projjson, other, form_by, json_in}
+use Rattle.crs_identity.specs.Forms.{projjson, other, form_by, json_in}
 
 document_so : (s : List ℕ) (j : Json) → tokens s ≡ json_tokens j → IsReadable j → document s ≡ Some j
 document_so s j e h =

@@ -1,5 +1,5 @@
 -- The forms in which a CRS is said.
-use Rattle.std.specs.Prelude.{◌==◌, ◌&&◌, ◌||◌, ◌+◌, ℕ, nat_lt, List, [], ◌∷◌, length, take, drop, map, Bool, is_some, slice_index, if◌then◌else◌, Option, Some, None, position, option_and_then, false}
+use Rattle.std.specs.Prelude.{◌==◌, ◌&&◌, ◌||◌, ◌+◌, ℕ, nat_lt, List, [], length, take, drop, map, Bool, is_some, slice_index, if◌then◌else◌, Option, Some, None, position, option_and_then, false}
 use Rattle.std.specs.Char.{is_ascii_alphabetic, is_ascii_alphanumeric}
 use Rattle.std.specs.List.{list_all}
 use Rattle.json.specs.Json.{Json, string, object, document}

@@ -1,5 +1,5 @@
 -- What makes an object no PROJJSON (PROJJSON's schema 0.5).
-use Rattle.std.specs.Prelude.{◌&&◌, ◌||◌, ◌+◌, not, ℕ, List, [], ◌∷◌, ◌++◌, Bool, true, false, bytes_eq, codes, decimal, if◌then◌else◌, Option, Some, None, is_some, option_and_then}
+use Rattle.std.specs.Prelude.{◌&&◌, ◌||◌, ◌+◌, not, ℕ, List, [], ◌∷◌, ◌++◌, Bool, false, bytes_eq, codes, decimal, if◌then◌else◌, Option, Some, None, is_some, option_and_then}
 use Rattle.json.specs.Json.{Json, array, Items, no_items, item}
 use Rattle.json.specs.Find.{get, as_str}
 use Rattle.crs_identity.specs.Identifiers.{Text, authority_of, code_of}
