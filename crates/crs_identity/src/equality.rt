@@ -33,7 +33,8 @@ pub fn json_equal(alloc: Global, a: &Value<'_>, b: &Value<'_>) -> Result<bool, A
 
 #[cycle(equal)]
 fn equal_items(alloc: Global, a: &Vec<Value<'_>>, b: &Vec<Value<'_>>) -> Result<bool, AllocError>
-    ensures { IfOk result (λ answer. answer ≡ equal_items (items_view a.now.items) (items_view b.now.items)) }
+    ensures { IfOk result (λ answer. answer
+        ≡ equal_items (items_view a.now.items) (items_view b.now.items)) }
 {
     let mut others = b.iter();
     for x in a.iter() {
@@ -54,7 +55,8 @@ fn equal_members(
     a: &Vec<(&str, Value<'_>)>,
     b: &Value<'_>,
 ) -> Result<bool, AllocError>
-    ensures { IfOk result (λ answer. answer ≡ equal_members (members_view a.now.items) (value_view b.now)) }
+    ensures { IfOk result (λ answer. answer
+        ≡ equal_members (members_view a.now.items) (value_view b.now)) }
 {
     let members = a.as_slice();
     for (i, member) in a.iter().enumerate() {

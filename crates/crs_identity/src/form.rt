@@ -75,7 +75,9 @@ fn object_in<'t>(
     text: &'t str,
     scratch: &'t mut Scratch,
 ) -> Result<Option<Value<'t>>, AllocError>
-    ensures { IfOk result (λ o. MatchOption o (form_by text.now (json_in text.now) ≡ other (string text.now)) (λ v. form_by text.now (json_in text.now) ≡ projjson (value_view v))) }
+    ensures { IfOk result (λ o. MatchOption o
+        (form_by text.now (json_in text.now) ≡ other (string text.now))
+        (λ v. form_by text.now (json_in text.now) ≡ projjson (value_view v))) }
 {
     let value = match read_json(alloc, text, scratch) {
         Ok(value) => value,

@@ -71,7 +71,8 @@ pub(crate) fn add(
     found: &mut Vec<Identifier>,
     identifier: Option<Identifier>,
 ) -> Result<(), AllocError>
-    ensures { OnOk result (map name_of found.new.items ≡ map name_of found.old.items ++ with_pair (option_map name_of identifier)) }
+    ensures { OnOk result (map name_of found.new.items ≡ map name_of found.old.items
+        ++ with_pair (option_map name_of identifier)) }
 {
     let Some(identifier) = identifier else {
         return Ok(());
@@ -88,7 +89,8 @@ pub(crate) fn add(
 
 /// The authority and the code that are paired with an identifier.
 pub(crate) fn paired(identifier: &Identifier) -> Option<(&'static str, &'static str)>
-    ensures { option_map (λ p. record { authority = p.0.now; code = p.1.now }) result ≡ paired (name_of identifier.now) }
+    ensures { option_map (λ p. record { authority = p.0.now; code = p.1.now }) result
+        ≡ paired (name_of identifier.now) }
 {
     let authority = identifier.authority.as_slice();
     let code = identifier.code.as_slice();
@@ -141,7 +143,8 @@ pub(crate) fn projjson_identifiers(
     value: &Value<'_>,
     found: &mut Vec<Identifier>,
 ) -> Result<(), AllocError>
-    ensures { OnOk result (map name_of found.new.items ≡ map name_of found.old.items ++ projjson_identifiers (value_view value.now)) }
+    ensures { OnOk result (map name_of found.new.items ≡ map name_of found.old.items
+        ++ projjson_identifiers (value_view value.now)) }
 {
     let identifier = identifier_in(alloc, value.get("id"))?;
     add(alloc, found, identifier)?;
@@ -157,7 +160,8 @@ fn add_items(
     items: &[Value<'_>],
     found: &mut Vec<Identifier>,
 ) -> Result<(), AllocError>
-    ensures { OnOk result (map name_of found.new.items ≡ map name_of found.old.items ++ of_items (items_view items.now)) }
+    ensures { OnOk result (map name_of found.new.items ≡ map name_of found.old.items
+        ++ of_items (items_view items.now)) }
 {
     for item in items {
         let identifier = identifier_in(alloc, Some(item))?;
@@ -168,7 +172,8 @@ fn add_items(
 
 /// Returns the identifier that a value is, if it is one. Errs only when out of memory.
 fn identifier_in(alloc: Global, value: Option<&Value<'_>>) -> Result<Option<Identifier>, AllocError>
-    ensures { IfOk result (λ o. option_map name_of o ≡ identifier_in (option_map (λ v. value_view v.now) value.entry)) }
+    ensures { IfOk result (λ o. option_map name_of o
+        ≡ identifier_in (option_map (λ v. value_view v.now) value.entry)) }
 {
     let Some(value) = value else {
         return Ok(None);

@@ -14,12 +14,14 @@ pub fn verdict_is_symmetric()
 
 /// A law: equal values are one CRS, whatever their form. There is nothing to run.
 pub fn equal_values_agree()
-    ensures { (i j : Json) → json_equal i j ≡ true → verdict_of (form_of_value i) (form_of_value j) ≡ Agree }
+    ensures { (i j : Json) → json_equal i j ≡ true
+        → verdict_of (form_of_value i) (form_of_value j) ≡ Agree }
 {}
 
 /// A law: two CRSs that contradict have no identifier in common. There is nothing to run.
 pub fn contradiction_shares_nothing()
-    ensures { (f g : Form) → verdict_of f g ≡ Contradict → share_identifier (identifiers f) (identifiers g) ≡ false }
+    ensures { (f g : Form) → verdict_of f g ≡ Contradict
+        → share_identifier (identifiers f) (identifiers g) ≡ false }
 {}
 
 /// A law: equality of JSON values is symmetric, and each value equals itself. There is nothing to

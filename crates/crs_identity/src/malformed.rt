@@ -69,7 +69,8 @@ fn add_if(parts: &mut Vec<Part>, wrong: bool, part: Part) -> Result<(), AllocErr
 
 /// Adds the items of `ids` that are wrong. Errs only when out of memory.
 fn add_wrong_ids(parts: &mut Vec<Part>, ids: Option<&Value<'_>>) -> Result<(), AllocError>
-    ensures { OnOk result (parts.new.items ≡ parts.old.items ++ wrong_ids (option_map (λ v. value_view v.now) ids.entry)) }
+    ensures { OnOk result (parts.new.items
+        ≡ parts.old.items ++ wrong_ids (option_map (λ v. value_view v.now) ids.entry)) }
 {
     match ids {
         Some(Value::Array(items)) => add_wrong_items(parts, items.as_slice()),
@@ -79,7 +80,8 @@ fn add_wrong_ids(parts: &mut Vec<Part>, ids: Option<&Value<'_>>) -> Result<(), A
 
 /// Adds the items that are wrong. Errs only when out of memory.
 fn add_wrong_items(parts: &mut Vec<Part>, items: &[Value<'_>]) -> Result<(), AllocError>
-    ensures { OnOk result (parts.new.items ≡ parts.old.items ++ wrong_items 0 (items_view items.now)) }
+    ensures { OnOk result (parts.new.items ≡ parts.old.items
+        ++ wrong_items 0 (items_view items.now)) }
 {
     for (place, item) in items.iter().enumerate() {
         add_if(parts, !is_identifier(item), Part::Item(place))?;

@@ -45,7 +45,9 @@ pub(crate) fn tokens_of(alloc: Global, text: &str) -> Result<Vec<Token>, AllocEr
 /// Adds the tokens that end at a byte, and returns where the next byte stands. Errs only when out of
 /// memory.
 fn next_mode(alloc: Global, tokens: &mut Vec<Token>, mode: Mode, b: u8) -> Result<Mode, AllocError>
-    ensures { IfOk result (λ next. (s : Text) → map lexeme tokens.old.items ++ lexemes_from (place mode) (b ∷ s) ≡ map lexeme tokens.new.items ++ lexemes_from (place next) s) }
+    ensures { IfOk result (λ next. (s : Text)
+        → map lexeme tokens.old.items ++ lexemes_from (place mode) (b ∷ s)
+        ≡ map lexeme tokens.new.items ++ lexemes_from (place next) s) }
 {
     match mode {
         Mode::Between => begin(alloc, tokens, b),
@@ -75,7 +77,9 @@ fn next_mode(alloc: Global, tokens: &mut Vec<Token>, mode: Mode, b: u8) -> Resul
 /// Adds the token that a byte between tokens is, if it is one, and returns where the next byte
 /// stands. Errs only when out of memory.
 fn begin(alloc: Global, tokens: &mut Vec<Token>, b: u8) -> Result<Mode, AllocError>
-    ensures { IfOk result (λ next. (others : Place → List Lexeme) → map lexeme tokens.old.items ++ begin b others ≡ map lexeme tokens.new.items ++ others (place next)) }
+    ensures { IfOk result (λ next. (others : Place → List Lexeme)
+        → map lexeme tokens.old.items ++ begin b others
+        ≡ map lexeme tokens.new.items ++ others (place next)) }
 {
     if is_mark(b) {
         tokens.push(Token::Mark(b))?;
@@ -92,7 +96,8 @@ fn begin(alloc: Global, tokens: &mut Vec<Token>, b: u8) -> Result<Mode, AllocErr
 
 /// Adds the token that ends with the text, if there is one. Errs only when out of memory.
 fn end(tokens: &mut Vec<Token>, mode: Mode) -> Result<(), AllocError>
-    ensures { OnOk result (map lexeme tokens.new.items ≡ map lexeme tokens.old.items ++ last_lexeme (place mode)) }
+    ensures { OnOk result (map lexeme tokens.new.items ≡ map lexeme tokens.old.items
+        ++ last_lexeme (place mode)) }
 {
     match mode {
         Mode::Between => Ok(()),

@@ -47,7 +47,8 @@ pub(crate) fn wkt_identifiers(
     tokens: &[Token],
     found: &mut Vec<Identifier>,
 ) -> Result<(), AllocError>
-    ensures { OnOk result (map name_of found.new.items ≡ map name_of found.old.items ++ wkt_identifiers (map lexeme tokens.now)) }
+    ensures { OnOk result (map name_of found.new.items ≡ map name_of found.old.items
+        ++ wkt_identifiers (map lexeme tokens.now)) }
 {
     let mut depth = 0;
     let mut rest = tokens;
@@ -90,7 +91,8 @@ fn identifier_at(
     word: &[u8],
     behind: &[Token],
 ) -> Result<Option<Identifier>, AllocError>
-    ensures { IfOk result (λ o. option_map name_of o ≡ identifier_at depth word.now (map lexeme behind.now)) }
+    ensures { IfOk result (λ o. option_map name_of o
+        ≡ identifier_at depth word.now (map lexeme behind.now)) }
 {
     if depth == 1 && is_id(word) {
         parts_named(alloc, behind)
@@ -125,7 +127,8 @@ fn with_code(
     authority: &[u8],
     tokens: &[Token],
 ) -> Result<Option<Identifier>, AllocError>
-    ensures { IfOk result (λ o. option_map name_of o ≡ with_code authority.now (map lexeme tokens.now)) }
+    ensures { IfOk result (λ o. option_map name_of o
+        ≡ with_code authority.now (map lexeme tokens.now)) }
 {
     let Some(behind) = past_comma(tokens) else {
         return Ok(None);
@@ -138,7 +141,8 @@ fn with_code(
 
 /// What stands behind a bracket that opens.
 fn past_open(tokens: &[Token]) -> Option<&[Token]>
-    ensures { option_map (λ ts. map lexeme ts.now) result ≡ past_mark is_open (map lexeme tokens.now) }
+    ensures { option_map (λ ts. map lexeme ts.now) result
+        ≡ past_mark is_open (map lexeme tokens.now) }
 {
     let (token, behind) = tokens.split_first()?;
     match token {
@@ -149,7 +153,8 @@ fn past_open(tokens: &[Token]) -> Option<&[Token]>
 
 /// What stands behind a comma.
 fn past_comma(tokens: &[Token]) -> Option<&[Token]>
-    ensures { option_map (λ ts. map lexeme ts.now) result ≡ past_mark is_comma (map lexeme tokens.now) }
+    ensures { option_map (λ ts. map lexeme ts.now) result
+        ≡ past_mark is_comma (map lexeme tokens.now) }
 {
     let (token, behind) = tokens.split_first()?;
     match token {
@@ -160,7 +165,8 @@ fn past_comma(tokens: &[Token]) -> Option<&[Token]>
 
 /// A part that is a text or a word, and what stands behind it.
 fn first_part(tokens: &[Token]) -> Option<(&[u8], &[Token])>
-    ensures { option_map (λ p. (p.0.now, map lexeme p.1.now)) result ≡ first_part (map lexeme tokens.now) }
+    ensures { option_map (λ p. (p.0.now, map lexeme p.1.now)) result
+        ≡ first_part (map lexeme tokens.now) }
 {
     let (token, behind) = tokens.split_first()?;
     match token {
