@@ -1,0 +1,5 @@
+pub mod Digits
+pub mod Texts
+pub mod Objects
+pub mod Equals
+pub mod Agreement
