@@ -63,7 +63,7 @@ uint8_t geoarrow_answer(uint8_t command, const uint8_t *line, size_t line_len, u
 uint8_t geoarrow_run(uint8_t command, const uint8_t *input, size_t input_len, uint8_t *out, size_t out_len, size_t *len);
 
 /* The report of a file, from its bytes: a line of JSON for each of its columns (docs/FORMAT.md, 2.5 to 2.7), and behind them, of a
- * Parquet file, one for each check of its GeoParquet metadata that does not hold (5.1), or one that says that it has columns of
+ * Parquet file, one for each finding in its GeoParquet metadata (5.1), or one that says that it has columns of
  * geometries and no such metadata; each with a line feed behind it. Where the file is refused, the line that says why (2.8).
  * `options` is 0 to 3, a sum of GEOARROW_INFER_TYPES and GEOARROW_NOTES. `name` is the name of the file in UTF-8, which the lines
  * have at `file`; where `name_len` is 0 they have none. Of an Arrow or Parquet file its end may stand for the file; a byte of an

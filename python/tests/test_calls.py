@@ -1,6 +1,7 @@
 """Tests of the calls: what they answer, and what they raise."""
 import copy
 import dataclasses
+import html
 import io
 import json
 import mmap
@@ -15,7 +16,7 @@ import geoarrow_fields
 from geoarrow_fields import (
     Column, InvalidColumns, Reason, Schema, SchemaError, canon, check, library, lines, read, write_schema)
 
-from .shared import BROKEN, CANON, CRS, DATA, NO_GEO_METADATA, OTHER, POINT, TEXT, TOP, with_crs
+from .shared import BROKEN, CANON, CRS, DATA, FOUND, NO_GEO_METADATA, OTHER, POINT, TEXT, TOP, with_crs
 
 
 class Answers(unittest.TestCase):
@@ -148,20 +149,21 @@ class Checks(unittest.TestCase):
             self.assertEqual(check(DATA / name), check((DATA / name).read_bytes()))
         self.assertEqual([one.type for one in check(DATA / "stored.parquet")], ["large_wkb - -"])
 
-    def test_the_checks_of_a_file_of_parquet(self):
+    def test_the_findings_of_a_file_of_parquet(self):
         columns = check(DATA / "geo.parquet")
-        self.assertEqual([(one.code, one.column, one.path) for one in columns.checks], [
-            ("GeoTypes", "geom", ("columns", "geom", "geometry_types")), ("GeoBbox", "geom", ("columns", "geom", "bbox"))])
+        self.assertEqual([(one.severity, one.code, one.column, one.source, one.pointer, one.found) for one in columns.findings[:2]], [
+            ("error", "GeoTypes", "geom", "geo", "/columns/geom/geometry_types/1", '"Dot"'),
+            ("error", "GeoBboxOrder", "geom", "geo", "/columns/geom/bbox/1", "3")])
+        self.assertEqual([one.is_error for one in columns.findings], [True, True, False, False])
         self.assertEqual([one.type for one in columns], ["wkb - -", "wkb - -", "wkb - -"])
-        self.assertEqual(repr(columns).split("\n")[-1], f"GeoBbox of geom does not hold: {columns.checks[1].message}")
-        self.assertIn(columns.checks[0].message, columns._repr_html_())
-        for file in (columns, check(DATA / "plain.parquet"), check(DATA / "file.arrow")):
-            self.assertEqual(file.warnings, ())
-        self.assertEqual(check(DATA / "plain.parquet").checks, ())
+        self.assertEqual(repr(columns).split("\n")[4:], FOUND)
+        self.assertIn(html.escape(FOUND[0]), columns._repr_html_())
+        for file in (check(DATA / "plain.parquet"), check(DATA / "file.arrow")):
+            self.assertEqual(file.findings, ())
 
     def test_a_file_of_parquet_without_metadata_of_geoparquet(self):
         columns = check(DATA / "stored.parquet")
-        self.assertEqual((columns.checks, columns.warnings), ((), (NO_GEO_METADATA,)))
+        self.assertEqual(columns.findings, (NO_GEO_METADATA,))
         self.assertEqual(repr(columns).split("\n")[-1], str(NO_GEO_METADATA))
         self.assertIn(str(NO_GEO_METADATA), columns._repr_html_())
 

@@ -33,7 +33,7 @@ pub struct Answer {
 /// `--json`, and the status whatever is printed; of lines it says neither.
 ///
 /// ```rust
-/// let flags = Flags { json: true, lines: false, ipc: false, infer: false, notes: false, all_checks: false, quiet: false, require_geometry: false };
+/// let flags = Flags { json: true, lines: false, ipc: false, infer: false, notes: false, quiet: false, require_geometry: false };
 /// let asked = Asked { flags, wants: Vec::new(alloc), files: Vec::new(alloc) };
 /// let answer = check_bytes(alloc, &asked, "-", b"{}")?;
 /// let line = b"{\"error\":\"LineName\",\"line\":1,\"message\":\"is JSON, but no field: \\\"name\\\" is no text\",\"place\":\"line 1\"}\n";

@@ -4,7 +4,8 @@ use Rattle.column_reports.proofs.geo_warning.put_warning.Goals as goal
 
 pub returns : goal.returns
 returns c =
-    let message = rw c.no_geo_message.ensures at c.in_ok-put_text-2.ensures in
-    let code = rw c.no_geo_code.ensures at c.in_ok-put_text-3.ensures in
-    on_ok_weaker c.end_object.result (λ last. then (sent c.in_ok-begin_object.ensures) (then c.in_ok-put_text.ensures (then message (then code last))))
+    let code = rw c.no_geo_code.ensures at c.in_ok-put_text-2.ensures in
+    let expected = rw c.no_geo_expected.ensures at c.in_ok-put_text-4.ensures in
+    on_ok_weaker c.end_object.result
+    (λ last. then (sent c.in_ok-begin_object.ensures) (then c.in_ok-put_text.ensures (then code (then c.in_ok-put_text-3.ensures (then expected last)))))
     (added c.end_object.result _ _ _ c.end_object.ensures)
