@@ -15,6 +15,7 @@ use Rattle.geoparquet.specs.TypeRules.{types_findings, types_version_findings}
 use Rattle.geoparquet.specs.BoxRules as box
 use Rattle.geoparquet.specs.Coverings.{covering_findings}
 use Rattle.geoparquet.specs.Contradictions.{layout_findings, types_contradict_findings, encoding_contradicts_findings, edges_contradict_findings}
+use Rattle.geoparquet.specs.Malformed.{malformed_findings}
 use Rattle.geoparquet.specs.CrsClaims.{crs_contradicts_findings}
 use Rattle.geoparquet.specs.Undeclared.{undeclared_findings}
 use Rattle.geoparquet.specs.Ordered.{are_some, columns_of, has_member}
@@ -66,6 +67,7 @@ storage_findings version key c j =
 abbrev pub fact_findings : Version → Text → Json → List Finding
 fact_findings version key j =
     crs_findings version key j
+    ++ malformed_findings version key j
     ++ edges_findings version key j
     ++ orientation_findings version key j
     ++ epoch_findings version key j

@@ -18,6 +18,7 @@ pub mod StrictLayouts
 pub mod Ordered
 pub mod Coverings
 pub mod Contradictions
+pub mod Malformed
 pub mod CrsClaims
 pub mod Undeclared
 pub mod GeoFindings

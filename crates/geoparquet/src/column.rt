@@ -16,6 +16,7 @@ use crate::contradictions::{
 use crate::covering::add_covering;
 use crate::crs_claims::add_crs_contradicts;
 use crate::finding::{GeoFinding, Version};
+use crate::malformed::add_malformed;
 use crate::members::{add_crs, add_edges, add_encoding, add_epoch, add_orientation};
 use crate::place::column_place;
 use crate::types::add_types;
@@ -100,6 +101,7 @@ fn add_facts(
         ++ fact_findings version key.now (value_view member.now)) }
 {
     add_crs(alloc, findings, version, key, member)?;
+    add_malformed(alloc, findings, version, key, member)?;
     add_edges(alloc, findings, version, key, member)?;
     add_orientation(alloc, findings, version, key, member)?;
     add_epoch(alloc, findings, version, key, member)

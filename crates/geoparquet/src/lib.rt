@@ -21,6 +21,7 @@ mod finding;
 mod group;
 mod help;
 mod layout;
+mod malformed;
 mod members;
 mod nearest;
 mod ordered;

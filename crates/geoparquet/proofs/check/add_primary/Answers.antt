@@ -12,6 +12,6 @@ returns c =
     let j = value_view c.args.value.now in
     let no : has_primary j ≡ false = sym c.has_primary.ensures ∙ c.if-has_primary.false in
     let added = subst (λ o. OnOk c.add_at.result (map finding c.add_at.new.findings.items ≡ map finding c.args.findings.now.items ++ found_at PrimaryColumn None (codes "/primary_column") o None ∷ []))
-    c.member_of-found.ensures.value c.add_at.ensures in
+        c.member_of-found.ensures.value c.add_at.ensures in
     subst (λ b. OnOk c.add_at.result (map finding c.add_at.new.findings.items ≡ map finding c.args.findings.now.items ++ unless b (found_at PrimaryColumn None (codes "/primary_column") (get (codes "primary_column") j) None)))
     (sym no) added
