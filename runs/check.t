@@ -248,12 +248,12 @@ Names of files that would control a terminal, or stand on two lines: above a tab
   column  holds  CRS  edges
   a       null
 
-  $ cd "$TMPDIR" && file=$(printf 'a\nb\033[1m') && echo '{"name":"a","nullable":true,"type":{"other":"timestamp[ms]"}}' > "$file" && geoarrow_check --quiet --require-geometry --expect b=XY --expect a=XY "$file"; geoarrow_check --ipc "$file"; echo '[]' > "$file"; geoarrow_check "$file"; geoarrow_check "$file.parquet"; geoarrow_check --expect "$file" x 2>&1 | head -n 1
+  $ cd "$TMPDIR" && file=$(printf 'a\nb\033[1m') && echo '{"name":"a","nullable":true,"type":{"other":"timestamp[ms]"}}' > "$file" && geoarrow_check --quiet --require-geometry --expect b=XY --expect a=XY "$file"; geoarrow_check --ipc "$file"; echo '{}' > "$file"; geoarrow_check "$file"; geoarrow_check "$file.parquet"; geoarrow_check --expect "$file" x 2>&1 | head -n 1
   a?b?[1m: no column b
   a?b?[1m: column a holds no geometries
   a?b?[1m: no column of geometries
   a?b?[1m: column 0: a type that no message can hold
-  a?b?[1m: line 1: is JSON, but no object
+  a?b?[1m: line 1: is JSON, but no field: "name" is no text
   a?b?[1m.parquet: No such file or directory (os error 2)
   error: 'a?b?[1m' is no COLUMN=WANT
 
@@ -381,7 +381,7 @@ A file of a format that is not read is named, with what to try, whatever is prin
   a.gpkg: is of a format that is not read: a GeoPackage or SQLite database. Try ogr2ogr out.parquet FILE
   [2]
 
-  $ cd "$TMPDIR" && (printf 'PK\003\004'; yes) | geoarrow_check a.gpkg -
+  $ cd "$TMPDIR" && printf 'SQLite format 3\000' > a.gpkg && (printf 'PK\003\004'; yes) | geoarrow_check a.gpkg -
   a.gpkg: is of a format that is not read: a GeoPackage or SQLite database. Try ogr2ogr out.parquet FILE
   -: is of a format that is not read: a zip archive. Unzip it, and check what is in it
   [2]

@@ -4,7 +4,7 @@ use Rattle.std.proofs.Math.Nat.{lt_of_lt_of_le, pow-le-pow_right}
 use Rattle.std.proofs.lemmas.Bool.{ne_eqb}
 use Rattle.std.proofs.lemmas.Int.Digits.{digits_value-lt}
 use Rattle.std.specs.Str.Parse.{AllDigits, IsNumeral, digits_value, without_leading_plus}
-use Rattle.core.proofs.str.DigitBytes.{digit_at}
+use Rattle.std.proofs.lemmas.Str.Parse.{digit_at}
 
 -- digits begin with no plus
 pub no_plus : (ds : List ℕ) → AllDigits 10 ds → without_leading_plus ds ≡ ds

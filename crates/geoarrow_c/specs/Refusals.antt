@@ -1,5 +1,5 @@
 -- Why bytes are refused, as a line (docs/FORMAT.md, 2.8).
-use Rattle.std.specs.Prelude.{◌≡◌, ◌≢◌, ◌++◌, [], ◌∷◌, Bool, true, false, Option, None}
+use Rattle.std.specs.Prelude.{◌≡◌, ◌≢◌, ◌++◌, Bool, true, false, Option, None, codes}
 use Rattle.json.specs.Print.{print}
 use Rattle.json.specs.Tree.{json_tokens}
 use Rattle.arrow_values.specs.Tree.{Text}
@@ -18,7 +18,6 @@ use Rattle.column_files.specs.declared.columns.FileFault.TheVariants as files
 use Rattle.column_files.specs.declared.form.Form.{Form}
 use Rattle.column_files.specs.declared.refusal.Fault.{Fault}
 use Rattle.column_reports.specs.Faults.{fault_report}
-use Rattle.column_reports.specs.FileReport.{line_feed}
 use Rattle.geoarrow_fields.specs.Lines.{Bytes}
 
 -- whether memory is all that lacks
@@ -40,7 +39,7 @@ lacks_memory fault = false
 
 -- the line of a fault, with the name of the file, if there is one, and with its line feed
 abbrev pub line_of : Option Text → Fault → Bytes
-line_of file fault = print (json_tokens (fault_report file fault)) ++ (line_feed ∷ [])
+line_of file fault = print (json_tokens (fault_report file fault)) ++ codes "\n"
 
 -- the line says why a file of that name and format is refused, not for lack of memory
 pub record IsLineOfFile (file : Option Text) (form : Form) (fault : FileFault) (line : Bytes) : Type 0 where

@@ -172,7 +172,10 @@ fn passes_mark(alloc: Global) -> Result<bool, AllocError> {
     let Ok(head) = read_head(alloc, &mut source) else {
         return Ok(false);
     };
-    let is_head = &head.as_slice()[3..] == &LINES[..61] && form_of(head.as_slice()) == Form::Lines;
+    let is_head = match (head.as_slice().get(3..), LINES.get(..61)) {
+        (Some(behind), Some(lines)) => behind == lines,
+        _ => false,
+    } && form_of(head.as_slice()) == Form::Lines;
     Ok(are_columns(alloc, head, source, LINES)? && is_head)
 }
 
