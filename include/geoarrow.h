@@ -8,7 +8,8 @@
  * At GEOARROW_REFUSED what is written is one line, with a line feed behind it: a JSON object without blanks, whose keys are in
  * alphabetical order, and say why the bytes are refused. `error` is a code, which stands for one message alone, and `message`
  * says what is wrong; `place` says in words where, and so do the numbers `byte`, `column`, `element` and `line`; `found` says
- * what stands there, and `help` what to try; `file` is the name that was given. A key that does not apply is left out. As `{"error":"EmptyFile","message":"is empty"}`, or
+ * what stands there, and `help` what to try; `file` is the name that was given. A key that does not apply is left out. As
+ * `{"error":"EmptyFile","message":"is empty"}`, or
  * `{"byte":4,"error":"FooterNegative","file":"a.parquet","message":"a number is negative","place":"byte 4 of the footer"}`.
  * docs/FORMAT.md, 2.8, has all codes, and where lines, bytes, elements and columns are counted from.
  *
