@@ -22,6 +22,7 @@
 mod calls;
 mod error;
 mod fault;
+mod finding;
 mod members;
 
 #[cfg(feature = "arrow-schema")]
@@ -29,6 +30,7 @@ pub mod arrow;
 
 pub use error::Error;
 pub use fault::Fault;
+pub use finding::{findings, Finding, Severity};
 
 /// What is asked of a line.
 #[derive(Debug, Clone, Copy, PartialEq, Eq, Hash)]
