@@ -14,7 +14,7 @@ from unittest import mock
 
 import geoarrow_fields
 from geoarrow_fields import (
-    Column, InvalidColumns, Reason, Schema, SchemaError, canon, check, library, lines, read, write_schema)
+    Column, Finding, InvalidColumns, Reason, Schema, SchemaError, canon, check, library, lines, read, write_schema)
 
 from .shared import BROKEN, CANON, CRS, DATA, FOUND, NO_GEO_METADATA, OTHER, POINT, TEXT, TOP, with_crs
 
@@ -160,6 +160,25 @@ class Checks(unittest.TestCase):
         self.assertIn(html.escape(FOUND[0]), columns._repr_html_())
         for file in (check(DATA / "plain.parquet"), check(DATA / "file.arrow")):
             self.assertEqual(file.findings, ())
+
+    def test_the_findings_that_all_languages_share(self):
+        """Each case of native/findings.rows: the bytes of a file, and each finding, its line and its words."""
+        parts, content, count = Finding.__annotations__.keys() - {"json", "source"}, b"", 0
+        for line in (TOP / "native/findings.rows").read_text(encoding="utf-8").split("\n"):
+            if line.startswith("{"):
+                said, one = json.loads(line), next(findings)
+                self.assertEqual({key: getattr(one, key) for key in parts}, {key: said.get(key) for key in parts})
+                self.assertEqual((one.source, one.json), (said.get("in"), line))
+                self.assertEqual(one.is_error, said["severity"] == "error")
+                count += 1
+            elif line.startswith(("error[", "warning[", "note[")):
+                self.assertEqual(str(one), line)
+            elif line and not line.startswith("#"):
+                self.assertEqual(list(findings) if content else [], [])
+                content = bytes.fromhex(line)
+                findings = iter(check(content, notes=True).findings)
+        self.assertEqual(list(findings), [])
+        self.assertGreater(count, 7)
 
     def test_a_file_of_parquet_without_metadata_of_geoparquet(self):
         columns = check(DATA / "stored.parquet")
