@@ -494,7 +494,7 @@ The codes of findings, without a file: as many as docs/FORMAT.md, 5 and 2.6, hav
   error[GeoVersion]
 
   $ geoarrow_check --codes | sed -E 's/^([a-z]+)\[(.*)\]: (.*)/| `\2` | \1 | `\3` /' | head -37 > "$TMPDIR/codes"
-  $ grep -oE '^\| `[A-Za-z]+` \| (error|warning|note) \| `[^`]*` ' ../docs/FORMAT.md | cmp - "$TMPDIR/codes"
+  > grep -oE '^\| `[A-Za-z]+` \| (error|warning|note) \| `[^`]*` ' ../docs/FORMAT.md | cmp - "$TMPDIR/codes"
   $ geoarrow_check --codes x --json | wc -l
   44
 
