@@ -38,8 +38,8 @@ extern "C" {
 /* What is asked of a line. */
 enum { GEOARROW_READ = 0, GEOARROW_INFER = 1, GEOARROW_CANON = 2, GEOARROW_COLUMNS = 3 };
 
-/* Options of geoarrow_report, 0 or a sum of these: infer a type for columns without an extension name; notes among the warnings
- * (docs/FORMAT.md, 2.6). */
+/* Options of geoarrow_report, 0 or a sum of these: infer a type for columns without an extension name; notes among the warnings of
+ * columns and the findings (docs/FORMAT.md, 2.6 and 5). */
 enum { GEOARROW_INFER_TYPES = 1, GEOARROW_NOTES = 2 };
 
 /* Statuses. */

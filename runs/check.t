@@ -486,6 +486,38 @@ What is found in GeoParquet metadata, behind the columns
   GeoColumnUndeclared
   GeoColumnUndeclared
 
+The status by what is found, notes too, of the files of a row each: how many, the codes, and the status
+
+  $ cd "$TMPDIR" && sed -n 's/^report_file //p' "$top/crates/file_rows/data/reports/geo_files.rows" | while read -r digits
+  > do
+  >     python3 -c 'import sys; sys.stdout.buffer.write(bytes.fromhex(sys.argv[1]))' "$digits" > file
+  >     geoarrow_check --json --notes file | sed -n 's/^{"severity":"[a-z]*","code":"\([A-Za-z]*\)".*/\1/p' | LC_ALL=C sort -u | tr '\n' ' '
+  >     geoarrow_check --quiet file
+  >     echo $?
+  > done | LC_ALL=C sort | uniq -c
+       24 0
+        3 CrsContradicts 1
+        2 CrsMalformed 1
+        2 CrsNotCompared 0
+        2 EdgesContradict 1
+        1 EncodingContradicts 1
+        1 GeoColumnMissing 1
+        1 GeoCoveringColumn 1
+        3 GeoCoveringName 1
+        2 GeoCoveringShape 0
+        2 GeoCoveringType 1
+        1 GeoCrs 1
+        1 GeoEdges 1
+        2 GeoEncoding 1
+        4 GeoLayout 1
+        1 GeoNewVersion 0
+        4 GeoNotJson 1
+        2 GeoOldVersion 0
+        1 GeoTypes 1
+        1 GeoTypesVersion 1
+        1 GeoVersion 1
+        1 TypesContradict 1
+
 The codes of findings, without a file: as many as docs/FORMAT.md, 5 and 2.6, have
 
   $ geoarrow_check --codes | sed 's/:.*//' | head -3
@@ -494,7 +526,7 @@ The codes of findings, without a file: as many as docs/FORMAT.md, 5 and 2.6, hav
   error[GeoVersion]
 
   $ geoarrow_check --codes | sed -E 's/^([a-z]+)\[(.*)\]: (.*)/| `\2` | \1 | `\3` /' | head -37 > "$TMPDIR/codes"
-  $ grep -oE '^\| `[A-Za-z]+` \| (error|warning|note) \| `[^`]*` ' ../docs/FORMAT.md | cmp - "$TMPDIR/codes"
+  > grep -oE '^\| `[A-Za-z]+` \| (error|warning|note) \| `[^`]*` ' ../docs/FORMAT.md | cmp - "$TMPDIR/codes"
   $ geoarrow_check --codes x --json | wc -l
   44
 

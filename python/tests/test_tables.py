@@ -10,6 +10,8 @@ from .shared import BROKEN, CRS, NO_GEO_METADATA, TEXT, TOP, with_crs
 
 COLUMN = '{"column":"t","index":0,"state":"plain","type":"utf8"}'
 ERROR = '{"severity":"error","code":"GeoBbox","column":"t","in":"geo","pointer":"/columns/t/bbox","found":"[1]","expected":"m","help":"h?"}'
+NOTE = '{"severity":"note","code":"GeoNewVersion","in":"geo","pointer":"/version","found":"\\"2.0.0\\"","expected":"1.0.0 or 1.1.0"}'
+WHOLE = '{"severity":"error","code":"GeoNotObject","in":"geo","pointer":"","found":"[]","expected":"an object"}'
 WARNING = '{"severity":"warning","code":"NoGeoMetadata","expected":"%s"}' % NO_GEO_METADATA.expected
 
 
@@ -95,13 +97,16 @@ class Behind(unittest.TestCase):
         self.assertEqual((columns_of(f"{WARNING}\n"), columns_of(f"{WARNING}\n").findings), ([], (NO_GEO_METADATA,)))
 
     def test_words(self):
-        columns = columns_of(f"{COLUMN}\n{ERROR}\n{WARNING}\n")
+        columns = columns_of(f"{COLUMN}\n{ERROR}\n{NOTE}\n{WHOLE}\n{WARNING}\n")
         behind = [
             "error[GeoBbox] column t, geo /columns/t/bbox: found [1]; expected m. h?",
+            'note[GeoNewVersion] geo /version: found "2.0.0"; expected 1.0.0 or 1.1.0',
+            "error[GeoNotObject] geo: found []; expected an object",
             "warning[NoGeoMetadata]: expected metadata of GeoParquet at the key geo"]
         self.assertEqual(repr(columns).split("\n")[2:], behind)
+        self.assertEqual([one.is_error for one in columns.findings], [True, False, True, False])
         found = Cells(columns._repr_html_())
-        self.assertEqual((found.cells[-2:], found.spans), (behind, [4] * 4))
+        self.assertEqual((found.cells[-4:], found.spans), (behind, [4] * 6))
 
 
 class Html(unittest.TestCase):
