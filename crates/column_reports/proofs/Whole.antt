@@ -1,5 +1,5 @@
 -- The lines of a report, from those of its columns; and the report of a file, from the file that was opened.
-use Rattle.std.proofs.Common.{◌≡◌, ◌++◌, ◌<◌, ℕ, false, List, length, map, Option, Result, Ok, Err, inl, inr, ap, arith}
+use Rattle.std.proofs.Common.{◌≡◌, ◌++◌, ◌<◌, ℕ, List, length, map, Option, Result, Ok, Err, inl, inr, ap, arith}
 use Rattle.std.proofs.lemmas.List.{length-append}
 use Rattle.std.specs.Prelude.{String}
 use Rattle.std.specs.declared.alloc.Global.{Global}
@@ -19,6 +19,6 @@ longer limit front back fault (inr (large, past)) = inr (large, omega (arith, pa
 
 -- the lines of the report of the file that was opened are those of the bytes
 pub of_bytes : (file : Option Text) (o : Options) (bytes : List ℕ) (r : FileReport) (result : Result (String Global) FileFault) → IsReportOf o bytes r
-    → IsWithin (budget (length bytes)) (report_text file false r) result → Reports file o bytes result
+    → IsWithin (budget (length bytes)) (report_text file o.notes r) result → Reports file o bytes result
 of_bytes file o bytes r (Ok lines) is within = (r, is, within)
 of_bytes file o bytes r (Err fault) is within = inr (inr (r, is, within))

@@ -13,10 +13,10 @@ use json::Scratch;
 use std::alloc::{AllocError, Global};
 
 /// Returns the report of a file as lines of JSON, each with its line feed: one for each column
-/// (docs/FORMAT.md, 2.5), and behind them one for each finding in its GeoParquet metadata that is an
-/// error or a warning, and with `notes` for each note too; or, where a Parquet file has no such
-/// metadata and a column holds geometries, the line of a warning (docs/FORMAT.md, 5.1). `file` is the name that the lines
-/// give the file, if any.
+/// (docs/FORMAT.md, 2.5), and behind them one for each finding in its GeoParquet metadata that is
+/// an error or a warning, and with `notes` for each note too; or, where a Parquet file has no such
+/// metadata and a column holds geometries, the line of a warning (docs/FORMAT.md, 5.1). `file` is
+/// the name that the lines give the file, if any.
 ///
 /// Errs with `ReportTooLarge` where the lines have more than `limit` bytes, as soon as those of the
 /// first columns have; and when out of memory.
