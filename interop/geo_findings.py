@@ -53,10 +53,10 @@ V2 = Version("V2", ALL, SUFFIXES, (*PLANAR, "vincenty", "thomas", "andoyer", "ka
 VERSIONS = (
     (r"1\.0\.0", V1_0, None),
     (r"1\.1\.0", V1_1, None),
-    (r"1\.0\.0[-+].+", V1_0, "GeoNewVersion"),
-    (r"1\.\d{1,3}\.\d{1,3}([-+].+)?", V1_1, "GeoNewVersion"),
-    (r"0\.\d{1,3}\.\d{1,3}.*", OLD, "GeoOldVersion"),
-    (r"([2-9]|[1-9]\d{1,2})\.\d{1,3}\.\d{1,3}.*", V2, "GeoNewVersion"),
+    (r"1\.0\.0[-+].*", V1_0, "GeoNewVersion"),
+    (r"1\.\d{1,3}\.\d{1,3}([-+].*)?", V1_1, "GeoNewVersion"),
+    (r"0\.\d{1,3}\.\d{1,3}(\D.*)?", OLD, "GeoOldVersion"),
+    (r"([2-9]|[1-9]\d{1,2})\.\d{1,3}\.\d{1,3}(\D.*)?", V2, "GeoNewVersion"),
     (r".*", V1_1, "GeoVersion"),
 )
 BYTES = ("binary", "large_binary", "binary_view")

@@ -46,15 +46,24 @@ behind_numbers s =
     option_and_then behind_number (option_and_then behind_point
     (option_and_then behind_number (option_and_then behind_point (behind_number s))))
 
--- a suffix: nothing, or a text that begins with `-` or `+`
+-- what stands behind a release: nothing, or a text that begins with `-` or `+`
 abbrev pub is_suffix : Option Text → Bool
 is_suffix None = false
 is_suffix (Some []) = true
 is_suffix (Some (b ∷ s)) = (b == 45) || (b == 43)
 
--- N.M.P with any suffix
+-- any suffix: nothing, or a text that begins with no digit
+abbrev pub is_any_suffix : Option Text → Bool
+is_any_suffix None = false
+is_any_suffix (Some []) = true
+is_any_suffix (Some (b ∷ s)) = not (is_digit b)
+
+-- N.M.P with the suffix of a release, and with any suffix
+abbrev pub is_release : Text → Bool
+is_release s = is_suffix (behind_numbers s)
+
 abbrev pub is_version : Text → Bool
-is_version s = is_suffix (behind_numbers s)
+is_version s = is_any_suffix (behind_numbers s)
 
 abbrev pub begins : Text → Text → Bool
 begins s front = starts_with nat_eq s front
@@ -64,12 +73,15 @@ begins s front = starts_with nat_eq s front
 abbrev pub by : Version → Option GeoCode → Judgement
 by version code = record { version = version; code = code }
 
--- a version that is no release that is judged by its own rules: 0.N.M, a pre-release of 1.0.0, 1.N.M, and N.M.P from 2 on
+-- 1.N.M with the suffix of a release: a pre-release of 1.0.0, or another
+abbrev pub first_judged : Text → Judgement
+first_judged s = if begins s (codes "1.0.0-") || begins s (codes "1.0.0+") then by V1_0 (Some NewVersion) else by V1_1 (Some NewVersion)
+
+-- a version that is no release that is judged by its own rules: 0.N.M, 1.N.M, and N.M.P from 2 on
 abbrev pub other_judged : Text → Judgement
 other_judged s =
     if begins s (codes "0.") then by Old (Some OldVersion)
-    else if begins s (codes "1.0.0-") || begins s (codes "1.0.0+") then by V1_0 (Some NewVersion)
-    else if begins s (codes "1.") then by V1_1 (Some NewVersion)
+    else if begins s (codes "1.") then (if is_release s then first_judged s else by V1_1 (Some NoVersion))
     else if begins s (codes "0") then by V1_1 (Some NoVersion)
     else by V2 (Some NewVersion)
 

@@ -5,7 +5,7 @@ ghost use Rattle.json.specs.Value.{value_view};
 ghost use Rattle.arrow_values.specs.Texts.{text_of};
 ghost use Rattle.value_tokens.specs.Values.{IsReadable};
 ghost use Rattle.geoparquet.specs.Findings.{finding};
-ghost use Rattle.geoparquet.specs.Versions.{is_judged, is_digit, behind_digit, behind_number, behind_point, behind_numbers, is_suffix, is_version, begins, by, other_judged, text_judged, unversioned_judged, value_judged, judged, version_of, version_findings};
+ghost use Rattle.geoparquet.specs.Versions.{is_judged, is_digit, behind_digit, behind_number, behind_point, behind_numbers, is_suffix, is_any_suffix, is_release, is_version, begins, by, first_judged, other_judged, text_judged, unversioned_judged, value_judged, judged, version_of, version_findings};
 
 use crate::code::GeoCode;
 use crate::finding::{GeoFinding, Version};
@@ -100,6 +100,16 @@ fn text_judged(text: &str) -> Judgement
     by(Version::V1_1, Some(GeoCode::Version))
 }
 
+/// What metadata are judged by whose version is 1.N.M with the suffix of a release.
+fn first_judged(text: &[u8]) -> Judgement
+    ensures { result ≡ first_judged text.now }
+{
+    if text.starts_with(b"1.0.0-") || text.starts_with(b"1.0.0+") {
+        return by(Version::V1_0, Some(GeoCode::NewVersion));
+    }
+    by(Version::V1_1, Some(GeoCode::NewVersion))
+}
+
 /// What metadata are judged by whose version is N.M.P with a suffix, and neither 1.0.0 nor 1.1.0.
 fn other_judged(text: &[u8]) -> Judgement
     ensures { result ≡ other_judged text.now }
@@ -107,11 +117,11 @@ fn other_judged(text: &[u8]) -> Judgement
     if text.starts_with(b"0.") {
         return by(Version::Old, Some(GeoCode::OldVersion));
     }
-    if text.starts_with(b"1.0.0-") || text.starts_with(b"1.0.0+") {
-        return by(Version::V1_0, Some(GeoCode::NewVersion));
-    }
     if text.starts_with(b"1.") {
-        return by(Version::V1_1, Some(GeoCode::NewVersion));
+        if is_release(text) {
+            return first_judged(text);
+        }
+        return by(Version::V1_1, Some(GeoCode::Version));
     }
     if text.starts_with(b"0") {
         return by(Version::V1_1, Some(GeoCode::Version));
@@ -126,14 +136,32 @@ fn by(version: Version, code: Option<GeoCode>) -> Judgement
     Judgement { version, code }
 }
 
-/// Whether a text is N.M.P with a suffix, where N, M and P are one to three digits.
+/// Whether a text is N.M.P with any suffix, where N, M and P are one to three digits.
 fn is_version(text: &[u8]) -> bool
     ensures { result ≡ is_version text.now }
+{
+    is_any_suffix(behind_numbers(text))
+}
+
+/// Whether a text is N.M.P with the suffix of a release.
+fn is_release(text: &[u8]) -> bool
+    ensures { result ≡ is_release text.now }
 {
     is_suffix(behind_numbers(text))
 }
 
-/// Whether a text is the suffix of a version: nothing, or a text that begins with `-` or `+`.
+/// Whether a text is any suffix: nothing, or a text that begins with no digit.
+fn is_any_suffix(text: Option<&[u8]>) -> bool
+    ensures { result ≡ is_any_suffix (text_of text.entry) }
+{
+    match text {
+        Some([first, ..]) => !is_digit(*first),
+        Some([]) => true,
+        None => false,
+    }
+}
+
+/// Whether a text is the suffix of a release: nothing, or a text that begins with `-` or `+`.
 fn is_suffix(text: Option<&[u8]>) -> bool
     ensures { result ≡ is_suffix (text_of text.entry) }
 {
