@@ -73,9 +73,9 @@ class Judged:
     def __init__(self, value, columns):
         self.value, self.columns, self.found = value, columns, []
 
-    def add(self, code, column, path, wanted=None):
+    def add(self, code, column, path, wanted=None, name=None):
         pointer = "".join("/" + str(it).replace("~", "~0").replace("/", "~1") for it in path)
-        there = at(self.value, *path)
+        there = at(self.value, *path) if name is None else name
         found = None if there is ABSENT else shown(text_of(there))
         self.found.append(Finding(code, column, pointer, found, wanted))
 
@@ -88,9 +88,9 @@ class Member:
         self.column = first(judged.columns, key)
         self.codes = set()
 
-    def add(self, code, *path, wanted=None):
+    def add(self, code, *path, wanted=None, name=None):
         self.codes.add(code)
-        self.judged.add(code, self.key, ("columns", self.key, *path), wanted)
+        self.judged.add(code, self.key, ("columns", self.key, *path), wanted, name)
 
     def at(self, *path):
         return at(self.value, *path)
@@ -157,7 +157,7 @@ def add_undeclared(judged, members):
         claim = encoding_claim(column)
         name = column["name"]
         if claim not in (None, "box") and name not in members.keys() and name not in paths:
-            judged.add("GeoColumnUndeclared", name, ("columns",))
+            judged.add("GeoColumnUndeclared", name, ("columns",), name=name)
 
 
 def add_member(it):
@@ -311,8 +311,9 @@ def add_dimension(it, size):
 def add_covering(it):
     """What is found of `covering`."""
     if it.at("covering") is ABSENT:
-        if any(is_box_group(column["type"]) for column in it.judged.columns):
-            it.add("GeoCoveringAbsent")
+        boxes = [column["name"] for column in it.judged.columns if is_box_group(column["type"])]
+        if it.column and boxes:
+            it.add("GeoCoveringAbsent", name=boxes[0])
         return
     bounds = it.at("covering", "bbox")
     if not isinstance(it.at("covering"), Members):
@@ -370,10 +371,11 @@ def fields_of(kind):
 
 
 def is_box_group(kind):
-    """Whether a type is a struct of the bounds of a covering, and of no others."""
-    fields = fields_of(kind)
-    kinds = list(fields.values())
-    return set(fields) in (set(FLAT), set(HIGH)) and kinds in (
+    """Whether a type is a struct of the bounds of a covering, each once, and of no others."""
+    fields = kind.get("struct", ()) if isinstance(kind, dict) else ()
+    names = sorted(field["name"] for field in fields)
+    kinds = [field["type"] for field in fields]
+    return names in (sorted(FLAT), sorted(HIGH)) and kinds in (
         ["float32"] * len(kinds), ["float64"] * len(kinds))
 
 
@@ -458,9 +460,17 @@ def own_edges(metadata):
     return "planar" if edges in (ABSENT, None) else edges if isinstance(edges, str) else None
 
 
+def edges_that_count(it):
+    """The edges of a member where it says some of the version, else the column's own, or planar."""
+    said = None if it.at("edges") is ABSENT else said_edges(it)
+    metadata = own_metadata(it)
+    own = None if said is not None or metadata is None else own_edges(metadata)
+    return next((edges for edges in (said, own) if edges is not None), "planar")
+
+
 def on_projected(it):
-    """Whether the edges of a member are not planar, and its CRS is projected."""
-    return said_edges(it) not in (None, "planar") and class_of(it) == "projected"
+    """Whether the edges that count are not planar, and the CRS that counts is projected."""
+    return edges_that_count(it) != "planar" and class_of(it) == "projected"
 
 
 def answer(question):

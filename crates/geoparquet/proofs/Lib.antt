@@ -5,3 +5,4 @@ pub mod Putting
 pub mod Naming
 pub mod Among
 pub mod Claims
+pub mod Counted

@@ -8,8 +8,10 @@ use lib.ListN.{get_or}
 use Rattle.json.specs.Json.{Json, null}
 use Rattle.json.specs.Find.{get, as_number}
 use Rattle.arrow_values.specs.Tree.{Text}
+use Rattle.arrow_columns.specs.Column.{ColumnTree}
 use Rattle.geoarrow_layout.specs.declared.dimensions.Dimension.{Dimension}
 use Rattle.geoarrow_layout.specs.declared.native_kinds.NativeKind.{NativeKind}
+use Rattle.geoparquet.specs.Counting.{crs_that_counts, is_projected}
 use Rattle.geoparquet.specs.Findings.{Finding, item_place}
 use Rattle.geoparquet.specs.Rules.{found_at, part_place, part_finding, unless, items_in, items_findings}
 use Rattle.geoparquet.specs.TypeNames.{has_z}
@@ -63,7 +65,8 @@ numbers_of_box version None = None
 abbrev pub box_in : Version → Json → Option (List Json)
 box_in version member = numbers_of_box version (items_in (get (codes "bbox") member))
 
--- ---- a least bound is at most the greatest, each as the nearest float. That of x may be greater: a box across the antimeridian
+-- ---- a least bound is at most the greatest, each as the nearest float. That of x may be greater: a box across the antimeridian;
+-- but not where the CRS that counts is projected
 
 abbrev pub float_of : Json → Option Float
 float_of j = option_and_then (parse_float binary64) (as_number j)
@@ -86,7 +89,7 @@ bound_findings key index least greatest = unless (is_in_order least greatest) (b
 abbrev pub axis_findings : Text → List Json → ℕ → ℕ → List Finding
 axis_findings key js least greatest = bound_findings key least (get_or js least null) (get_or js greatest null)
 
--- the least bounds of x, y, z and m stand in front, in this order, then the greatest
+-- the least bounds of x, y, z and m stand in front, in this order, then the greatest; of all but x
 abbrev pub order_findings : Text → List Json → List Finding
 order_findings key js =
     if length js == 4 then axis_findings key js 1 3
@@ -94,12 +97,28 @@ order_findings key js =
     else if length js == 8 then axis_findings key js 1 5 ++ (axis_findings key js 2 6 ++ axis_findings key js 3 7)
     else []
 
-abbrev pub box_order : Text → Option (List Json) → List Finding
-box_order key (Some js) = order_findings key js
-box_order key None = []
+-- of x, whose least bound is the first item
+abbrev pub x_findings : Bool → Text → Json → Json → List Finding
+x_findings projected key least greatest =
+    unless (is_in_order least greatest || not projected) (bound_finding key 0 least greatest)
 
-abbrev pub bbox_order_findings : Version → Text → Json → List Finding
-bbox_order_findings version key member = box_order key (box_in version member)
+abbrev pub x_axis_findings : Bool → Text → List Json → ℕ → List Finding
+x_axis_findings projected key js greatest = x_findings projected key (get_or js 0 null) (get_or js greatest null)
+
+abbrev pub x_order_findings : Bool → Text → List Json → List Finding
+x_order_findings projected key js =
+    if length js == 4 then x_axis_findings projected key js 2
+    else if length js == 6 then x_axis_findings projected key js 3
+    else if length js == 8 then x_axis_findings projected key js 4
+    else []
+
+abbrev pub box_order : Bool → Text → Option (List Json) → List Finding
+box_order projected key (Some js) = x_order_findings projected key js ++ order_findings key js
+box_order projected key None = []
+
+abbrev pub bbox_order_findings : Version → Text → Option ColumnTree → Json → List Finding
+bbox_order_findings version key c member =
+    box_order (is_projected (crs_that_counts version c member)) key (box_in version member)
 
 -- ---- the types have a z where the box has one
 

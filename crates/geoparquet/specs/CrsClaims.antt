@@ -10,6 +10,7 @@ use Rattle.crs_identity.specs.declared.verdict.Verdict.{Verdict}
 use Rattle.crs_identity.specs.declared.verdict.Verdict.TheVariants.{Agree, Contradict, NotCompared}
 use Rattle.geoparquet.specs.Findings.{Finding, shown_value}
 use Rattle.geoparquet.specs.Identifiers.{default_identifier}
+use Rattle.geoparquet.specs.Malformed.{is_projjson}
 use Rattle.geoparquet.specs.Rules.{found_at, part_place}
 use Rattle.geoparquet.specs.Versions.{is_judged}
 use Rattle.geoparquet.specs.declared.code.GeoCode.TheVariants.{CrsContradicts, CrsNotCompared}
@@ -30,11 +31,18 @@ absent_crs version = if is_judged version then Some default_claim else None
 abbrev pub text_crs : Version → Json → Option Claimed
 text_crs version j = if is_judged version then None else Some (claimed (value j))
 
+-- an object is a CRS; but from 1.0.0 on only PROJJSON is
+abbrev pub projjson_crs : Json → Option Claimed
+projjson_crs j = if is_projjson j then Some (claimed (value j)) else None
+
+abbrev pub object_crs : Version → Json → Option Claimed
+object_crs version j = if is_judged version then projjson_crs j else Some (claimed (value j))
+
 -- the CRS that a member says: none known where it is null; a value that is no CRS of the version says nothing
 abbrev pub said_crs : Version → Option Json → Option Claimed
 said_crs version None = absent_crs version
 said_crs version (Some null) = Some (claimed unknown)
-said_crs version (Some (object ms)) = Some (claimed (value (object ms)))
+said_crs version (Some (object ms)) = object_crs version (object ms)
 said_crs version (Some (string s)) = text_crs version (string s)
 said_crs version (Some j) = None
 

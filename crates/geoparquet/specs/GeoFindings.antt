@@ -13,8 +13,12 @@ use Rattle.geoparquet.specs.Versions.{version_of, version_findings}
 use Rattle.geoparquet.specs.MemberRules.{encoding_findings, crs_findings, edges_findings, orientation_findings, epoch_findings}
 use Rattle.geoparquet.specs.TypeRules.{types_findings, types_version_findings}
 use Rattle.geoparquet.specs.BoxRules as box
+use Rattle.geoparquet.specs.BoxRange.{bbox_range_findings}
+use Rattle.geoparquet.specs.Counting.{edges_on_projected_findings}
+use Rattle.geoparquet.specs.CoveringAbsent.{covering_absent_findings}
 use Rattle.geoparquet.specs.Coverings.{covering_findings}
 use Rattle.geoparquet.specs.Contradictions.{layout_findings, types_contradict_findings, encoding_contradicts_findings, edges_contradict_findings}
+use Rattle.geoparquet.specs.Malformed.{malformed_findings}
 use Rattle.geoparquet.specs.CrsClaims.{crs_contradicts_findings}
 use Rattle.geoparquet.specs.Undeclared.{undeclared_findings}
 use Rattle.geoparquet.specs.Ordered.{are_some, columns_of, has_member}
@@ -66,29 +70,33 @@ storage_findings version key c j =
 abbrev pub fact_findings : Version → Text → Json → List Finding
 fact_findings version key j =
     crs_findings version key j
+    ++ malformed_findings version key j
     ++ edges_findings version key j
     ++ orientation_findings version key j
     ++ epoch_findings version key j
 
-abbrev pub box_findings : Version → Text → Json → List Finding
-box_findings version key j =
+abbrev pub box_findings : Version → Text → Option ColumnTree → Json → List Finding
+box_findings version key c j =
     box.bbox_findings version key j
-    ++ box.bbox_order_findings version key j
+    ++ box.bbox_order_findings version key c j
+    ++ bbox_range_findings version key c j
     ++ box.bbox_dimension_findings version key j
 
 -- against other columns, and the column itself
 abbrev pub column_findings : List ColumnTree → Version → Text → Option ColumnTree → Json → List Finding
 column_findings cs version key c j =
     covering_findings cs version key c j
+    ++ covering_absent_findings cs version key c j
     ++ encoding_contradicts_findings version key c j
     ++ crs_contradicts_findings version key c j
     ++ edges_contradict_findings version key c j
+    ++ edges_on_projected_findings version key c j
 
 abbrev pub part_findings : List ColumnTree → Version → Text → Option ColumnTree → Json → List Finding
 part_findings cs version key c j =
     storage_findings version key c j
     ++ fact_findings version key j
-    ++ box_findings version key j
+    ++ box_findings version key c j
     ++ column_findings cs version key c j
 
 -- the rules of a column are judged of the first column of that name
@@ -107,7 +115,7 @@ members_findings cs version ms = flat_map (member_findings cs version) ms
 -- columns without a member are judged where `columns` has members
 abbrev pub missing_findings : List ColumnTree → Json → List Finding
 missing_findings cs j =
-    if are_some (columns_of j) then undeclared_findings (columns_of j) (get (codes "columns") j) cs else []
+    if are_some (columns_of j) then undeclared_findings (columns_of j) cs else []
 
 abbrev pub object_findings : List ColumnTree → Json → List Finding
 object_findings cs j =

@@ -8,7 +8,6 @@ pub mod Versions
 pub mod MemberRules
 pub mod TypeNames
 pub mod TypeRules
-pub mod BoxRules
 pub mod Values
 pub mod Encodings
 pub mod Identifiers
@@ -17,7 +16,12 @@ pub mod GeoColumns
 pub mod StrictLayouts
 pub mod Ordered
 pub mod Coverings
+pub mod CoveringAbsent
 pub mod Contradictions
+pub mod Malformed
 pub mod CrsClaims
+pub mod Counting
+pub mod BoxRules
+pub mod BoxRange
 pub mod Undeclared
 pub mod GeoFindings

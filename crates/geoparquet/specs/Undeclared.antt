@@ -1,7 +1,7 @@
 -- Columns that hold geometries by their extension name, and have no member of `columns` (docs/FORMAT.md, 5.1).
 use Rattle.std.specs.Prelude.{◌&&◌, ◌||◌, Bool, true, false, not, List, codes, bytes_eq, Option, None, Some, is_some, flat_map, option_and_then}
 use Rattle.std.specs.List.{list_any}
-use Rattle.json.specs.Json.{Json}
+use Rattle.json.specs.Json.{Json, string}
 use Rattle.json.specs.Find.{get, at, as_str}
 use Rattle.arrow_values.specs.Tree.{Text}
 use Rattle.arrow_columns.specs.Column.{ColumnTree, name_on}
@@ -44,9 +44,10 @@ is_covered name ms = list_any (λ m. covers name m.1) ms
 abbrev pub is_declared : List (Text × Json) → ColumnTree → Bool
 is_declared ms c = not (is_geometry (name_on c)) || (has_member c.name ms || is_covered c.name ms)
 
-abbrev pub column_undeclared_findings : List (Text × Json) → Option Json → ColumnTree → List Finding
-column_undeclared_findings ms columns c =
-    unless (is_declared ms c) (found_at ColumnUndeclared (Some c.name) (codes "/columns") columns None)
+-- the name of the column is what is found
+abbrev pub column_undeclared_findings : List (Text × Json) → ColumnTree → List Finding
+column_undeclared_findings ms c =
+    unless (is_declared ms c) (found_at ColumnUndeclared (Some c.name) (codes "/columns") (Some (string c.name)) None)
 
-abbrev pub undeclared_findings : List (Text × Json) → Option Json → List ColumnTree → List Finding
-undeclared_findings ms columns cs = flat_map (column_undeclared_findings ms columns) cs
+abbrev pub undeclared_findings : List (Text × Json) → List ColumnTree → List Finding
+undeclared_findings ms cs = flat_map (column_undeclared_findings ms) cs

@@ -129,6 +129,7 @@ advice_of version Orientation = Some (codes "Leave it out if rings go either way
 advice_of version Epoch = Some (codes "A number has no quotes.")
 advice_of version BboxOrder = Some (codes "Only a box of a geographic CRS has an xmin above its xmax, where it crosses the antimeridian.")
 advice_of version CoveringName = Some (codes "Where bounds are exchanged, filters by this covering drop rows.")
+advice_of version CoveringAbsent = Some (codes "Add \"covering\":{\"bbox\":{\"xmin\":[NAME,\"xmin\"],\"ymin\":[NAME,\"ymin\"],\"xmax\":[NAME,\"xmax\"],\"ymax\":[NAME,\"ymax\"]}}, where NAME is the name found.")
 advice_of version CrsContradicts = Some (codes "The report of the column shows that of its own metadata.")
 advice_of version CrsNotCompared = Some (codes "The report of the column shows that of its own metadata.")
 advice_of version EdgesContradict = Some (codes "The report of the column shows those of its own metadata.")

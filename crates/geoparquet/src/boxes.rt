@@ -1,21 +1,25 @@
 //! `bbox` of a column's member.
-ghost use Rattle.std.specs.Prelude.{◌≡◌, ◌<◌, ◌++◌, [], IfOk, IfSome, OnOk, Some, codes, length, map, option_map};
+ghost use Rattle.std.specs.Prelude.{◌≡◌, ◌<◌, ◌++◌, ◌∷◌, [], IfOk, IfSome, OnOk, Some, codes, length, map, option_map};
 ghost use Rattle.std.specs.List.{All, list_all};
 ghost use Rattle.json.specs.Find.{get};
 ghost use Rattle.json.specs.Json.{array};
 ghost use Rattle.json.specs.Value.{value_view, items_view};
 ghost use Rattle.arrow_values.specs.Texts.{text_of};
 ghost use Rattle.value_tokens.specs.Values.{IsReadable};
+ghost use Rattle.arrow_columns.specs.Column.{column_tree};
+ghost use Rattle.geoparquet.specs.Counting.{crs_that_counts, is_projected};
 ghost use Rattle.geoparquet.specs.Findings.{finding};
 ghost use Rattle.geoparquet.specs.Rules.{items_findings};
 ghost use Rattle.geoparquet.specs.TypeRules.{type_of, types_in};
-ghost use Rattle.geoparquet.specs.BoxRules.{takes_eight, is_size, is_number, box_place, box_or_other, found_box, bbox_findings, is_box, box_in, float_of, is_less, is_in_order, bound_finding, bound_findings, axis_findings, order_findings, bbox_order_findings, type_is, are_all, are_types, other_size, size_wanted, size_findings, bbox_dimension_findings};
+ghost use Rattle.geoparquet.specs.BoxRules.{takes_eight, is_size, is_number, box_place, box_or_other, found_box, bbox_findings, is_box, box_in, float_of, is_less, is_in_order, bound_finding, bound_findings, axis_findings, order_findings, x_findings, x_axis_findings, x_order_findings, bbox_order_findings, type_is, are_all, are_types, other_size, size_wanted, size_findings, bbox_dimension_findings};
 
 use crate::code::GeoCode;
+use crate::counting::counts_projected;
 use crate::finding::{GeoFinding, Version};
 use crate::place::{add_item, finding_at, item_place, part_finding, part_place};
 use crate::types::{items_in, type_of, types_in};
 use crate::version::is_judged;
+use arrow_columns::SchemaColumn;
 use geoarrow_layout::Dimension;
 use json::Value;
 use std::alloc::{AllocError, Global};
@@ -140,22 +144,110 @@ fn are_numbers(values: &[Value<'_>]) -> bool
     values.iter().all(|value| is_number(value))
 }
 
-/// Adds what is found of the order of the bounds of `bbox` but for x, where nothing else is found of
-/// it (docs/FORMAT.md, 5). Errs only when out of memory.
+/// Adds what is found of the order of the bounds of `bbox`, where nothing else is found of it
+/// (docs/FORMAT.md, 5). Errs only when out of memory.
 pub(crate) fn add_bbox_order(
     alloc: Global,
     findings: &mut Vec<GeoFinding>,
     version: Version,
     key: &str,
+    column: Option<&SchemaColumn>,
     member: &Value<'_>,
 ) -> Result<(), AllocError>
     requires { IsReadable (value_view member.now) }
-    ensures { OnOk result (map finding findings.new.items ≡ map finding findings.old.items ++ bbox_order_findings version key.now (value_view member.now)) }
+    ensures { OnOk result (map finding findings.new.items ≡ map finding findings.old.items ++ bbox_order_findings version key.now (option_map (λ c. column_tree c.now) column.entry) (value_view member.now)) }
 {
-    match box_in(version, member) {
-        Some(numbers) => add_order(alloc, findings, key, numbers),
-        None => Ok(()),
+    let Some(numbers) = box_in(version, member) else {
+        return Ok(());
+    };
+    add_x_order(alloc, findings, version, key, column, member, numbers)?;
+    add_order(alloc, findings, key, numbers)
+}
+
+/// Adds what is found of the bounds of x of a box.
+fn add_x_order(
+    alloc: Global,
+    findings: &mut Vec<GeoFinding>,
+    version: Version,
+    key: &str,
+    column: Option<&SchemaColumn>,
+    member: &Value<'_>,
+    numbers: &[Value<'_>],
+) -> Result<(), AllocError>
+    requires { All IsReadable (map value_view numbers.now) }
+    ensures { OnOk result (map finding findings.new.items ≡ map finding findings.old.items ++ x_order_findings (is_projected (crs_that_counts version (option_map (λ c. column_tree c.now) column.entry) (value_view member.now))) key.now (map value_view numbers.now)) }
+{
+    let size = numbers.len();
+    if size == 4 {
+        return add_x_axis(alloc, findings, version, key, column, member, numbers, 2);
     }
+    if size == 6 {
+        return add_x_axis(alloc, findings, version, key, column, member, numbers, 3);
+    }
+    if size == 8 {
+        return add_x_axis(alloc, findings, version, key, column, member, numbers, 4);
+    }
+    Ok(())
+}
+
+/// Adds what is found of the bounds of x of a box, of which the greatest stands at that place.
+fn add_x_axis(
+    alloc: Global,
+    findings: &mut Vec<GeoFinding>,
+    version: Version,
+    key: &str,
+    column: Option<&SchemaColumn>,
+    member: &Value<'_>,
+    numbers: &[Value<'_>],
+    greatest: usize,
+) -> Result<(), AllocError>
+    requires readable { All IsReadable (map value_view numbers.now) }
+    requires high { greatest < length numbers.now }
+    ensures { OnOk result (map finding findings.new.items ≡ map finding findings.old.items ++ x_axis_findings (is_projected (crs_that_counts version (option_map (λ c. column_tree c.now) column.entry) (value_view member.now))) key.now (map value_view numbers.now) greatest) }
+{
+    let low = &numbers[0];
+    let high = &numbers[greatest];
+    add_x(alloc, findings, version, key, column, member, low, high)
+}
+
+/// Adds what is found of the bounds of x: only where the least is greater, and the CRS that counts is
+/// projected.
+fn add_x(
+    alloc: Global,
+    findings: &mut Vec<GeoFinding>,
+    version: Version,
+    key: &str,
+    column: Option<&SchemaColumn>,
+    member: &Value<'_>,
+    least: &Value<'_>,
+    greatest: &Value<'_>,
+) -> Result<(), AllocError>
+    requires { IsReadable (value_view least.now) }
+    ensures { OnOk result (map finding findings.new.items ≡ map finding findings.old.items ++ x_findings (is_projected (crs_that_counts version (option_map (λ c. column_tree c.now) column.entry) (value_view member.now))) key.now (value_view least.now) (value_view greatest.now)) }
+{
+    if is_in_order(least, greatest) {
+        return Ok(());
+    }
+    if !counts_projected(alloc, version, column, member)? {
+        return Ok(());
+    }
+    add_greater(alloc, findings, key, 0, least, greatest)
+}
+
+/// Adds what is found of the least bound of an axis, where the greatest is less.
+fn add_greater(
+    alloc: Global,
+    findings: &mut Vec<GeoFinding>,
+    key: &str,
+    index: usize,
+    least: &Value<'_>,
+    greatest: &Value<'_>,
+) -> Result<(), AllocError>
+    requires { IsReadable (value_view least.now) }
+    ensures { OnOk result (map finding findings.new.items ≡ map finding findings.old.items ++ bound_finding key.now index (value_view least.now) (value_view greatest.now) ∷ []) }
+{
+    findings.push(bound_finding(alloc, key, index, least, greatest)?)?;
+    Ok(())
 }
 
 /// Adds what is found of the order of the bounds of a box but for x.
@@ -254,8 +346,8 @@ fn is_in_order(least: &Value<'_>, greatest: &Value<'_>) -> bool
     !is_less(greatest.as_f64(), least.as_f64())
 }
 
-/// Whether both are there, and the first is less.
-fn is_less(one: Option<f64>, other: Option<f64>) -> bool
+/// Returns whether both are there, and the first is less.
+pub(crate) fn is_less(one: Option<f64>, other: Option<f64>) -> bool
     ensures { result ≡ is_less one other }
 {
     match (one, other) {

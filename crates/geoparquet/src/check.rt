@@ -6,6 +6,7 @@ ghost use Rattle.value_tokens.specs.Values.{IsReadable};
 ghost use Rattle.arrow_values.specs.Texts.{text_of};
 ghost use Rattle.serde_json.specs.Read.{read};
 ghost use Rattle.arrow_columns.specs.Column.{ColumnTree, column_tree};
+ghost use Rattle.geoparquet.specs.CoveringAbsent.{first_box};
 ghost use Rattle.geoparquet.specs.Findings.{finding};
 ghost use Rattle.geoparquet.specs.Extensions.{IsJson};
 ghost use Rattle.geoparquet.specs.Ordered.{columns_of, members_entries};
@@ -15,6 +16,7 @@ ghost use Rattle.geoparquet.specs.GeoFindings.{columns_findings, is_primary, has
 use crate::adding::add_at;
 use crate::code::GeoCode;
 use crate::column::{add_member, is_object};
+use crate::covering_absent::first_box;
 use crate::finding::{GeoFinding, GeoReport, Version};
 use crate::ordered::{ByKey, are_some, has_member, members_in};
 use crate::place::shown;
@@ -136,10 +138,11 @@ fn add_object(
 {
     let members = members_in(alloc, member_of(value, "columns"))?;
     let names = ColumnNames::new(alloc, columns)?;
+    let boxed = first_box(columns);
     add_version(alloc, findings, value)?;
     add_columns(alloc, findings, value, &members)?;
     add_primary(alloc, findings, value, &members)?;
-    add_members(alloc, findings, value, &names, &members)?;
+    add_members(alloc, findings, value, &names, boxed, &members)?;
     add_missing(alloc, findings, value, columns, &members)
 }
 
@@ -228,14 +231,16 @@ fn add_each(
     findings: &mut Vec<GeoFinding>,
     version: Version,
     columns: &ColumnNames<'_>,
+    boxed: Option<&str>,
     members: &ByKey<'_, '_>,
 ) -> Result<(), AllocError>
-    requires { AreRead (members_entries members.now.entries) }
+    requires boxed { text_of boxed ≡ first_box (map column_tree columns.now) }
+    requires read { AreRead (members_entries members.now.entries) }
     ensures { OnOk result (map finding findings.new.items ≡ map finding findings.old.items
         ++ members_findings (map column_tree columns.now) version (members_entries members.now.entries)) }
 {
     for (key, member) in members.iter() {
-        add_member(alloc, findings, columns, version, key, member)?;
+        add_member(alloc, findings, columns, boxed, version, key, member)?;
     }
     Ok(())
 }
@@ -246,14 +251,16 @@ fn add_members(
     findings: &mut Vec<GeoFinding>,
     value: &Value<'_>,
     columns: &ColumnNames<'_>,
+    boxed: Option<&str>,
     members: &ByKey<'_, '_>,
 ) -> Result<(), AllocError>
+    requires boxed { text_of boxed ≡ first_box (map column_tree columns.now) }
     requires read { IsReadable (value_view value.now) }
     requires members { members_entries members.now.entries ≡ columns_of (value_view value.now) }
     ensures { OnOk result (map finding findings.new.items ≡ map finding findings.old.items
         ++ members_findings (map column_tree columns.now) (version_of (value_view value.now)) (columns_of (value_view value.now))) }
 {
-    add_each(alloc, findings, version_of(value), columns, members)
+    add_each(alloc, findings, version_of(value), columns, boxed, members)
 }
 
 /// Adds what is found of columns without a member. Errs only when out of memory.
@@ -272,11 +279,5 @@ fn add_missing(
     if !are_some(members) {
         return Ok(());
     }
-    add_undeclared(
-        alloc,
-        findings,
-        members,
-        member_of(value, "columns"),
-        columns,
-    )
+    add_undeclared(alloc, findings, members, columns)
 }

@@ -2,20 +2,26 @@
 ghost use Rattle.std.specs.Prelude.{◌≡◌, ◌++◌, ◌∷◌, [], OnOk, map, option_map};
 ghost use Rattle.json.specs.Value.{value_view};
 ghost use Rattle.value_tokens.specs.Values.{IsReadable, is_object};
+ghost use Rattle.arrow_values.specs.Texts.{text_of};
 ghost use Rattle.arrow_columns.specs.Column.{column_tree};
+ghost use Rattle.geoparquet.specs.CoveringAbsent.{first_box};
 ghost use Rattle.geoparquet.specs.Findings.{finding};
 ghost use Rattle.geoparquet.specs.declared.code.GeoCode.{GeoCode};
 ghost use Rattle.geoparquet.specs.GeoFindings.{key_finding, key_findings, storage_findings, fact_findings, box_findings, column_findings, part_findings, value_findings, member_findings};
 
 use crate::adding::add_at;
+use crate::box_range::add_bbox_range;
 use crate::boxes::{add_bbox, add_bbox_dimension, add_bbox_order};
 use crate::code::GeoCode;
 use crate::contradictions::{
     add_edges_contradict, add_encoding_contradicts, add_layout, add_types_contradict,
 };
+use crate::counting::add_edges_on_projected;
 use crate::covering::add_covering;
+use crate::covering_absent::add_covering_absent;
 use crate::crs_claims::add_crs_contradicts;
 use crate::finding::{GeoFinding, Version};
+use crate::malformed::add_malformed;
 use crate::members::{add_crs, add_edges, add_encoding, add_epoch, add_orientation};
 use crate::place::column_place;
 use crate::types::add_types;
@@ -100,6 +106,7 @@ fn add_facts(
         ++ fact_findings version key.now (value_view member.now)) }
 {
     add_crs(alloc, findings, version, key, member)?;
+    add_malformed(alloc, findings, version, key, member)?;
     add_edges(alloc, findings, version, key, member)?;
     add_orientation(alloc, findings, version, key, member)?;
     add_epoch(alloc, findings, version, key, member)
@@ -111,14 +118,16 @@ fn add_box(
     findings: &mut Vec<GeoFinding>,
     version: Version,
     key: &str,
+    column: Option<&SchemaColumn>,
     member: &Value<'_>,
 ) -> Result<(), AllocError>
     requires { IsReadable (value_view member.now) }
     ensures { OnOk result (map finding findings.new.items ≡ map finding findings.old.items
-        ++ box_findings version key.now (value_view member.now)) }
+        ++ box_findings version key.now (option_map (λ c. column_tree c.now) column.entry) (value_view member.now)) }
 {
     add_bbox(alloc, findings, version, key, member)?;
-    add_bbox_order(alloc, findings, version, key, member)?;
+    add_bbox_order(alloc, findings, version, key, column, member)?;
+    add_bbox_range(alloc, findings, version, key, column, member)?;
     add_bbox_dimension(alloc, findings, version, key, member)
 }
 
@@ -127,19 +136,23 @@ fn add_against_columns(
     alloc: Global,
     findings: &mut Vec<GeoFinding>,
     columns: &ColumnNames<'_>,
+    boxed: Option<&str>,
     version: Version,
     key: &str,
     column: Option<&SchemaColumn>,
     member: &Value<'_>,
 ) -> Result<(), AllocError>
-    requires { IsReadable (value_view member.now) }
+    requires boxed { text_of boxed ≡ first_box (map column_tree columns.now) }
+    requires read { IsReadable (value_view member.now) }
     ensures { OnOk result (map finding findings.new.items ≡ map finding findings.old.items
         ++ column_findings (map column_tree columns.now) version key.now (option_map (λ c. column_tree c.now) column.entry) (value_view member.now)) }
 {
     add_covering(alloc, findings, columns, version, key, column, member)?;
+    add_covering_absent(alloc, findings, boxed, version, key, column, member)?;
     add_encoding_contradicts(alloc, findings, version, key, column, member)?;
     add_crs_contradicts(alloc, findings, version, key, column, member)?;
-    add_edges_contradict(alloc, findings, version, key, column, member)
+    add_edges_contradict(alloc, findings, version, key, column, member)?;
+    add_edges_on_projected(alloc, findings, version, key, column, member)
 }
 
 /// Adds what is found of the parts of a member. Errs only when out of memory.
@@ -147,19 +160,23 @@ fn add_parts(
     alloc: Global,
     findings: &mut Vec<GeoFinding>,
     columns: &ColumnNames<'_>,
+    boxed: Option<&str>,
     version: Version,
     key: &str,
     column: Option<&SchemaColumn>,
     member: &Value<'_>,
 ) -> Result<(), AllocError>
-    requires { IsReadable (value_view member.now) }
+    requires boxed { text_of boxed ≡ first_box (map column_tree columns.now) }
+    requires read { IsReadable (value_view member.now) }
     ensures { OnOk result (map finding findings.new.items ≡ map finding findings.old.items
         ++ part_findings (map column_tree columns.now) version key.now (option_map (λ c. column_tree c.now) column.entry) (value_view member.now)) }
 {
     add_storage(alloc, findings, version, key, column, member)?;
     add_facts(alloc, findings, version, key, member)?;
-    add_box(alloc, findings, version, key, member)?;
-    add_against_columns(alloc, findings, columns, version, key, column, member)
+    add_box(alloc, findings, version, key, column, member)?;
+    add_against_columns(
+        alloc, findings, columns, boxed, version, key, column, member,
+    )
 }
 
 /// Whether a value is an object.
@@ -174,11 +191,13 @@ fn add_value(
     alloc: Global,
     findings: &mut Vec<GeoFinding>,
     columns: &ColumnNames<'_>,
+    boxed: Option<&str>,
     version: Version,
     key: &str,
     member: &Value<'_>,
 ) -> Result<(), AllocError>
-    requires { IsReadable (value_view member.now) }
+    requires boxed { text_of boxed ≡ first_box (map column_tree columns.now) }
+    requires read { IsReadable (value_view member.now) }
     ensures { OnOk result (map finding findings.new.items ≡ map finding findings.old.items
         ++ value_findings (map column_tree columns.now) version key.now (value_view member.now)) }
 {
@@ -186,7 +205,9 @@ fn add_value(
         return add_key_finding(alloc, findings, GeoCode::Member, key, member);
     }
     let column = columns.first(key);
-    add_parts(alloc, findings, columns, version, key, column, member)
+    add_parts(
+        alloc, findings, columns, boxed, version, key, column, member,
+    )
 }
 
 /// Adds what is found of a member of `columns` (docs/FORMAT.md, 5). Errs only when out of memory.
@@ -194,14 +215,16 @@ pub(crate) fn add_member(
     alloc: Global,
     findings: &mut Vec<GeoFinding>,
     columns: &ColumnNames<'_>,
+    boxed: Option<&str>,
     version: Version,
     key: &str,
     member: &Value<'_>,
 ) -> Result<(), AllocError>
-    requires { IsReadable (value_view member.now) }
+    requires boxed { text_of boxed ≡ first_box (map column_tree columns.now) }
+    requires read { IsReadable (value_view member.now) }
     ensures { OnOk result (map finding findings.new.items ≡ map finding findings.old.items
         ++ member_findings (map column_tree columns.now) version (key.now, value_view member.now)) }
 {
     add_key(alloc, findings, columns, key, member)?;
-    add_value(alloc, findings, columns, version, key, member)
+    add_value(alloc, findings, columns, boxed, version, key, member)
 }

@@ -276,7 +276,7 @@ pub(crate) fn add_encoding_contradicts(
 }
 
 /// Returns the edges that a member says.
-fn said_edges<'a>(version: Version, found: Option<&Value<'a>>) -> Option<&'a str>
+pub(crate) fn said_edges<'a>(version: Version, found: Option<&Value<'a>>) -> Option<&'a str>
     ensures { text_of result ≡ said_edges version (option_map (λ v. value_view v.now) found.entry) }
 {
     if !is_edges_value(version, found) {
@@ -290,7 +290,7 @@ fn said_edges<'a>(version: Version, found: Option<&Value<'a>>) -> Option<&'a str
 
 /// Returns the extension metadata of a column, as JSON; null where there are none. Errs only when out
 /// of memory.
-fn own_metadata(
+pub(crate) fn own_metadata(
     alloc: Global,
     column: Option<&SchemaColumn>,
 ) -> Result<serde_json::Value, AllocError>
@@ -320,7 +320,7 @@ fn edges_at(found: Option<&serde_json::Value>) -> Option<&str>
 }
 
 /// Returns the edges that extension metadata say.
-fn own_edges(own: &serde_json::Value) -> Option<&str>
+pub(crate) fn own_edges(own: &serde_json::Value) -> Option<&str>
     ensures { text_of result ≡ own_edges (view own.now) }
 {
     if !own.is_object() {

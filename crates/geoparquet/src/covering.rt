@@ -107,7 +107,7 @@ fn is_named(name: &str, path: Option<Path<'_>>) -> bool
 }
 
 /// Returns the item of an array at an index.
-fn item_at<'v, 'a>(value: &'v Value<'a>, index: usize) -> Option<&'v Value<'a>>
+pub(crate) fn item_at<'v, 'a>(value: &'v Value<'a>, index: usize) -> Option<&'v Value<'a>>
     requires { IsReadable (value_view value.now) }
     ensures value { option_map (λ v. value_view v.now) result ≡ at index (value_view value.now) }
     ensures read { IfSome result (λ v. IsReadable (value_view v.now)) }

@@ -10,11 +10,12 @@ ghost use Rattle.crs_identity.specs.Forms.{json_in, said};
 ghost use Rattle.crs_identity.specs.Verdicts.{claim};
 ghost use Rattle.geoparquet.specs.Identifiers.{default_identifier};
 ghost use Rattle.geoparquet.specs.Findings.{finding};
-ghost use Rattle.geoparquet.specs.CrsClaims.{own_json, is_srid, typed_crs, crs_under, own_crs, own_crs_in, absent_crs, text_crs, said_crs, claimed, own_shown, verdict_findings, two_crs_findings, crs_own_findings, crs_contradicts_findings};
+ghost use Rattle.geoparquet.specs.CrsClaims.{own_json, is_srid, typed_crs, crs_under, own_crs, own_crs_in, absent_crs, text_crs, projjson_crs, object_crs, said_crs, claimed, own_shown, verdict_findings, two_crs_findings, crs_own_findings, crs_contradicts_findings};
 
 use crate::adding::add_part;
 use crate::code::GeoCode;
 use crate::finding::{GeoFinding, Version};
+use crate::malformed::is_projjson;
 use crate::place::shown_value;
 use crate::version::is_judged;
 use arrow_columns::SchemaColumn;
@@ -24,7 +25,7 @@ use std::alloc::{AllocError, Global};
 use value_tokens::{Refusal, member_of, read_json};
 
 /// The CRS where `crs` is absent.
-const DEFAULT_CRS: &str = "OGC:CRS84";
+pub(crate) const DEFAULT_CRS: &str = "OGC:CRS84";
 
 /// Returns the JSON value that a text is, if it is one. Errs only when out of memory.
 fn json_in<'t>(
@@ -43,7 +44,7 @@ fn json_in<'t>(
 }
 
 /// Returns the extension metadata of a column, where they are JSON. Errs only when out of memory.
-fn own_json<'t>(
+pub(crate) fn own_json<'t>(
     alloc: Global,
     column: Option<&'t SchemaColumn>,
     scratch: &'t mut Scratch,
@@ -94,23 +95,52 @@ fn text_crs<'v, 'a>(version: Version, value: &'v Value<'a>) -> Option<Claim<'v, 
     Some(claimed(Crs::Value(value)))
 }
 
-/// Returns the CRS that a member says.
-fn said_crs<'v, 'a>(
+/// Returns the CRS that an object is, where it is PROJJSON. Errs only when out of memory.
+fn projjson_crs<'v, 'a>(
+    alloc: Global,
+    value: &'v Value<'a>,
+) -> Result<Option<Claim<'v, 'a>>, AllocError>
+    ensures { IfOk result (λ said. option_map claim said ≡ projjson_crs (value_view value.now)) }
+{
+    if is_projjson(alloc, value)? {
+        return Ok(Some(claimed(Crs::Value(value))));
+    }
+    Ok(None)
+}
+
+/// Returns the CRS that an object is: from 1.0.0 on only PROJJSON is one. Errs only when out of
+/// memory.
+fn object_crs<'v, 'a>(
+    alloc: Global,
+    version: Version,
+    value: &'v Value<'a>,
+) -> Result<Option<Claim<'v, 'a>>, AllocError>
+    ensures { IfOk result (λ said. option_map claim said ≡ object_crs version (value_view value.now)) }
+{
+    if is_judged(version) {
+        return projjson_crs(alloc, value);
+    }
+    Ok(Some(claimed(Crs::Value(value))))
+}
+
+/// Returns the CRS that a member says. Errs only when out of memory.
+pub(crate) fn said_crs<'v, 'a>(
+    alloc: Global,
     version: Version,
     found: Option<&'v Value<'a>>,
     default: &'v Value<'a>,
-) -> Option<Claim<'v, 'a>>
+) -> Result<Option<Claim<'v, 'a>>, AllocError>
     requires { value_view default.now ≡ string default_identifier }
-    ensures { option_map claim result ≡ said_crs version (option_map (λ v. value_view v.now) found.entry) }
+    ensures { IfOk result (λ said. option_map claim said ≡ said_crs version (option_map (λ v. value_view v.now) found.entry)) }
 {
     let Some(found) = found else {
-        return absent_crs(version, default);
+        return Ok(absent_crs(version, default));
     };
     match found {
-        Value::Null => Some(claimed(Crs::Unknown)),
-        Value::Object(_) => Some(claimed(Crs::Value(found))),
-        Value::String(_) => text_crs(version, found),
-        _ => None,
+        Value::Null => Ok(Some(claimed(Crs::Unknown))),
+        Value::Object(_) => object_crs(alloc, version, found),
+        Value::String(_) => Ok(text_crs(version, found)),
+        _ => Ok(None),
     }
 }
 
@@ -155,7 +185,7 @@ fn text_at<'a>(value: &Value<'a>, key: &str) -> Option<&'a str>
 }
 
 /// Returns the CRS that extension metadata say, if there are some.
-fn own_crs_in<'v, 'a>(own: Option<&'v Value<'a>>) -> Option<Claim<'v, 'a>>
+pub(crate) fn own_crs_in<'v, 'a>(own: Option<&'v Value<'a>>) -> Option<Claim<'v, 'a>>
     ensures { option_map claim result ≡ own_crs_in (option_map (λ v. value_view v.now) own.entry) }
 {
     let own = own?;
@@ -259,7 +289,7 @@ fn add_against(
     let default = Value::String(DEFAULT_CRS);
     let found = member_of(member, "crs");
     let shown = own_shown(alloc, own)?;
-    let said = said_crs(version, found, &default);
+    let said = said_crs(alloc, version, found, &default)?;
     add_two(
         alloc,
         findings,

@@ -17,7 +17,7 @@ pub(crate) struct Group<'c> {
 }
 
 /// Returns the type of the first child of a name.
-fn child_of<'c>(name: &str, children: &'c [Field]) -> Option<&'c DataType>
+pub(crate) fn child_of<'c>(name: &str, children: &'c [Field]) -> Option<&'c DataType>
     ensures { option_map (λ t. tree t.now) result ≡ child_of name.now (field_trees children.now) }
 {
     let mut left = children;
@@ -31,7 +31,7 @@ fn child_of<'c>(name: &str, children: &'c [Field]) -> Option<&'c DataType>
 }
 
 /// Returns the children of a type that is a group.
-fn children_in(column_type: &AnyType) -> Option<&[Field]>
+pub(crate) fn children_in(column_type: &AnyType) -> Option<&[Field]>
     ensures { option_map (λ fs. field_trees fs.now) result ≡ children_in (type_tree column_type.now) }
 {
     match column_type {

@@ -54,6 +54,11 @@ impl GeoCode {
             Self::CoveringName => {
                 Some("Where bounds are exchanged, filters by this covering drop rows.")
             }
+            Self::CoveringAbsent => Some(
+                "Add \"covering\":{\"bbox\":{\"xmin\":[NAME,\"xmin\"],\
+                 \"ymin\":[NAME,\"ymin\"],\"xmax\":[NAME,\"xmax\"],\
+                 \"ymax\":[NAME,\"ymax\"]}}, where NAME is the name found.",
+            ),
             Self::CrsContradicts => {
                 Some("The report of the column shows that of its own metadata.")
             }

@@ -5,12 +5,15 @@
 
 mod adding;
 mod bounds;
+mod box_range;
 mod boxes;
 mod check;
 mod code;
 mod column;
 mod contradictions;
+mod counting;
 mod covering;
+mod covering_absent;
 mod crs_claims;
 mod encoding;
 mod equality_laws;
@@ -21,6 +24,7 @@ mod finding;
 mod group;
 mod help;
 mod layout;
+mod malformed;
 mod members;
 mod nearest;
 mod ordered;

@@ -1,8 +1,7 @@
 //! Columns that hold geometries, and have no member of `columns`.
-ghost use Rattle.std.specs.Prelude.{◌≡◌, ◌++◌, IfSome, OnOk, codes, map, flat_map, option_and_then, option_map};
+ghost use Rattle.std.specs.Prelude.{◌≡◌, ◌++◌, OnOk, codes, map, flat_map, option_and_then, option_map};
 ghost use Rattle.json.specs.Find.{as_str, at};
 ghost use Rattle.json.specs.Value.{value_view};
-ghost use Rattle.value_tokens.specs.Values.{IsReadable};
 ghost use Rattle.arrow_values.specs.Texts.{text_of};
 ghost use Rattle.arrow_columns.specs.Column.{column_tree};
 ghost use Rattle.geoparquet.specs.Findings.{finding};
@@ -113,24 +112,23 @@ fn add_column(
     alloc: Global,
     findings: &mut Vec<GeoFinding>,
     members: &ByKey<'_, '_>,
-    found: Option<&Value<'_>>,
     column: &SchemaColumn,
 ) -> Result<(), AllocError>
-    requires { IfSome found (λ v. IsReadable (value_view v.now)) }
     ensures { OnOk result (map finding findings.new.items ≡ map finding findings.old.items
-        ++ column_undeclared_findings (members_entries members.now.entries) (option_map (λ v. value_view v.now) found.entry) (column_tree column.now)) }
+        ++ column_undeclared_findings (members_entries members.now.entries) (column_tree column.now)) }
 {
     if is_declared(members, column) {
         return Ok(());
     }
-    let name = Some(column.name.as_str());
+    let name = column.name.as_str();
+    let found = Value::String(name);
     add_at(
         alloc,
         findings,
         GeoCode::ColumnUndeclared,
-        name,
+        Some(name),
         "/columns",
-        found,
+        Some(&found),
         None,
     )
 }
@@ -141,16 +139,14 @@ pub(crate) fn add_undeclared(
     alloc: Global,
     findings: &mut Vec<GeoFinding>,
     members: &ByKey<'_, '_>,
-    found: Option<&Value<'_>>,
     columns: &[SchemaColumn],
 ) -> Result<(), AllocError>
-    requires { IfSome found (λ v. IsReadable (value_view v.now)) }
     ensures { OnOk result (map finding findings.new.items ≡ map finding findings.old.items
-        ++ undeclared_findings (members_entries members.now.entries) (option_map (λ v. value_view v.now) found.entry) (map column_tree columns.now)) }
+        ++ undeclared_findings (members_entries members.now.entries) (map column_tree columns.now)) }
 {
     let mut left = columns;
     'columns: while let [column, rest @ ..] = left {
-        add_column(alloc, findings, members, found, column)?;
+        add_column(alloc, findings, members, column)?;
         left = rest;
     }
     Ok(())

@@ -4,5 +4,5 @@ use Rattle.geoparquet.specs.GeoFindings.{AreRead}
 use Rattle.geoparquet.proofs.Putting.{columns_read}
 use Rattle.geoparquet.proofs.check.add_members.Goals as goal
 
-pub add_each-requires : goal.add_each-requires
-add_each-requires c = subst AreRead (sym c.requires.members) (columns_read (value_view c.args.value.now) c.requires.read)
+pub add_each-requires-clause-read : goal.add_each-requires-clause-read
+add_each-requires-clause-read c = subst AreRead (sym c.requires.members) (columns_read (value_view c.args.value.now) c.requires.read)
