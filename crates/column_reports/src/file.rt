@@ -106,10 +106,11 @@ fn is_one_geometry(columns: &[ColumnReport]) -> bool
     columns.iter().any(|said| said.finding.is_geometry())
 }
 
-/// Returns the report of a file, from its bytes, as lines of JSON: what each of its columns holds and
-/// what is doubtful of it; and behind these lines one for each finding in its GeoParquet metadata, of
-/// notes where notes are asked for; or, where a Parquet file has no such metadata and a column holds
-/// geometries, the line of a warning (docs/FORMAT.md, 2.5 and 5.1). `file` is the name that the lines give the file, if any.
+/// Returns the report of a file, from its bytes, as lines of JSON: what each of its columns holds
+/// and what is doubtful of it; and behind these lines one for each finding in its GeoParquet
+/// metadata, of notes where notes are asked for; or, where a Parquet file has no such metadata and a
+/// column holds geometries, the line of a warning (docs/FORMAT.md, 2.5 and 5.1). `file` is the name
+/// that the lines give the file, if any.
 ///
 /// Errs as `open` of `column_files` does; with `ReportTooLarge` where the lines have more bytes than
 /// `report_budget` of the length of the file (docs/FORMAT.md, 2.5); and when out of memory.

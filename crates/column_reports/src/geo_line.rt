@@ -1,11 +1,13 @@
 //! The line of a finding.
-ghost use Rattle.std.specs.Prelude.{◌≡◌, ◌≢◌, All, IfOk, OnOk, Some, option_map, string_bytes};
+ghost use Rattle.std.specs.Prelude.{◌≡◌, ◌≢◌, All, IfOk, OnOk, option_map, string_bytes};
 ghost use Rattle.arrow_values.specs.Texts.{text_of};
+ghost use Rattle.json.specs.Tree.{json_tokens};
 ghost use Rattle.value_tokens.specs.Adds.{Adds};
-ghost use Rattle.geoparquet.specs.Words.{expected_text, help_text};
-ghost use Rattle.column_reports.specs.GeoLines.{text_tokens, rule_tokens, place_tokens, words_tokens};
-ghost use Rattle.column_reports.specs.GeoLines.{finding_tokens, line_text};
+ghost use Rattle.column_reports.specs.Objects.{AddsMembers};
+ghost use Rattle.column_reports.specs.GeoLines.{rule_members, place_members, words_members};
+ghost use Rattle.column_reports.specs.GeoLines.{finding_value, line_text};
 
+use crate::put::{put_text, put_text_if};
 use geoparquet::{GeoFinding, Version};
 use json::Writer;
 use std::alloc::{AllocError, Global};
@@ -50,7 +52,7 @@ fn put_finding(
     version: Version,
     finding: &GeoFinding,
 ) -> Result<(), AllocError>
-    ensures { OnOk result (Adds (finding_tokens (text_of file.entry) version finding.now) out.old out.new) }
+    ensures { OnOk result (Adds (json_tokens (finding_value (text_of file.entry) version finding.now)) out.old out.new) }
 {
     out.begin_object()?;
     put_rule(out, file, finding)?;
@@ -61,20 +63,20 @@ fn put_finding(
 
 /// Writes the rule, and the file.
 fn put_rule(out: &mut Writer, file: Option<&str>, finding: &GeoFinding) -> Result<(), AllocError>
-    ensures { OnOk result (Adds (rule_tokens (text_of file.entry) finding.now) out.old out.new) }
+    ensures { OnOk result (AddsMembers (rule_members (text_of file.entry) finding.now) out.old out.new) }
 {
-    put_text(out, "severity", Some(finding.code.severity().word()))?;
-    put_text(out, "code", Some(finding.code.code()))?;
-    put_text(out, "file", file)
+    put_text(out, "severity", finding.code.severity().word())?;
+    put_text(out, "code", finding.code.code())?;
+    put_text_if(out, "file", file)
 }
 
 /// Writes the place.
 fn put_place(out: &mut Writer, finding: &GeoFinding) -> Result<(), AllocError>
-    ensures { OnOk result (Adds (place_tokens finding.now) out.old out.new) }
+    ensures { OnOk result (AddsMembers (place_members finding.now) out.old out.new) }
 {
-    put_text(out, "column", text_in(&finding.column))?;
-    put_text(out, "in", Some("geo"))?;
-    put_text(out, "pointer", Some(finding.pointer.as_str()))
+    put_text_if(out, "column", text_in(&finding.column))?;
+    put_text(out, "in", "geo")?;
+    put_text(out, "pointer", finding.pointer.as_str())
 }
 
 /// Writes what is found, what is expected, and what helps.
@@ -84,13 +86,13 @@ fn put_words(
     version: Version,
     finding: &GeoFinding,
 ) -> Result<(), AllocError>
-    ensures { OnOk result (Adds (words_tokens version finding.now) out.old out.new) }
+    ensures { OnOk result (AddsMembers (words_members version finding.now) out.old out.new) }
 {
     let expected = finding.expected(alloc, version)?;
     let help = finding.help(alloc, version)?;
-    put_text(out, "found", text_in(&finding.found))?;
-    put_text(out, "expected", Some(expected.as_str()))?;
-    put_text(out, "help", text_in(&help))
+    put_text_if(out, "found", text_in(&finding.found))?;
+    put_text(out, "expected", expected.as_str())?;
+    put_text_if(out, "help", text_in(&help))
 }
 
 /// A text, if there is one.
@@ -101,15 +103,4 @@ fn text_in(text: &Option<String>) -> Option<&str>
         Some(text) => Some(text.as_str()),
         None => None,
     }
-}
-
-/// Writes a member whose value is a text, if there is one.
-pub(crate) fn put_text(out: &mut Writer, name: &str, text: Option<&str>) -> Result<(), AllocError>
-    ensures { OnOk result (Adds (text_tokens name.now (text_of text.entry)) out.old out.new) }
-{
-    if let Some(text) = text {
-        out.key(name)?;
-        return out.string(text);
-    }
-    Ok(())
 }

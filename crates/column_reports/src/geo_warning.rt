@@ -1,11 +1,12 @@
 //! The warning of a file that has columns of geometries, and no metadata of GeoParquet.
 ghost use Rattle.std.specs.Prelude.{◌≡◌, ◌≢◌, All, IfOk, OnOk, string_bytes};
 ghost use Rattle.arrow_values.specs.Texts.{text_of};
+ghost use Rattle.json.specs.Tree.{json_tokens};
 ghost use Rattle.value_tokens.specs.Adds.{Adds};
 ghost use Rattle.column_reports.specs.GeoWarning.{no_geo_code, no_geo_rule, no_geo_expected};
-ghost use Rattle.column_reports.specs.GeoWarning.{no_geo_tokens, no_geo_text};
+ghost use Rattle.column_reports.specs.GeoWarning.{no_geo_value, no_geo_text};
 
-use crate::geo_line::put_text;
+use crate::put::{put_text, put_text_if};
 use json::Writer;
 use std::alloc::{AllocError, Global};
 use value_tokens::text_of;
@@ -52,12 +53,12 @@ pub fn no_geo_line(alloc: Global, file: Option<&str>) -> Result<String, AllocErr
 
 /// Writes the object of the warning.
 fn put_warning(out: &mut Writer, file: Option<&str>) -> Result<(), AllocError>
-    ensures { OnOk result (Adds (no_geo_tokens (text_of file.entry)) out.old out.new) }
+    ensures { OnOk result (Adds (json_tokens (no_geo_value (text_of file.entry))) out.old out.new) }
 {
     out.begin_object()?;
-    put_text(out, "severity", Some("warning"))?;
-    put_text(out, "code", Some(no_geo_code()))?;
-    put_text(out, "file", file)?;
-    put_text(out, "expected", Some(no_geo_expected()))?;
+    put_text(out, "severity", "warning")?;
+    put_text(out, "code", no_geo_code())?;
+    put_text_if(out, "file", file)?;
+    put_text(out, "expected", no_geo_expected())?;
     out.end_object()
 }

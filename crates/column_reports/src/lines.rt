@@ -1,5 +1,5 @@
 //! The report of a file as lines of JSON.
-ghost use Rattle.std.specs.Prelude.{◌≡◌, ◌≤◌, ◌<◌, ◌++◌, IfOk, OnOk, MatchBool, length, option_map, string_bytes};
+ghost use Rattle.std.specs.Prelude.{◌≡◌, ◌≤◌, ◌<◌, ◌++◌, IfOk, OnOk, MatchBool, length, string_bytes};
 ghost use Rattle.arrow_values.specs.Texts.{text_of};
 ghost use Rattle.column_reports.specs.FileReport.{line_of, lines_of, behind, warning_in, report_text, IsWithin};
 
@@ -13,10 +13,10 @@ use json::Scratch;
 use std::alloc::{AllocError, Global};
 
 /// Returns the report of a file as lines of JSON, each with its line feed: one for each column
-/// (docs/FORMAT.md, 2.5), and behind them one for each finding in its GeoParquet metadata that is an
-/// error or a warning, and with `notes` for each note too; or, where a Parquet file has no such
-/// metadata and a column holds geometries, the line of a warning (docs/FORMAT.md, 5.1). `file` is the name that the lines
-/// give the file, if any.
+/// (docs/FORMAT.md, 2.5), and behind them one for each finding in its GeoParquet metadata that is
+/// an error or a warning, and with `notes` for each note too; or, where a Parquet file has no such
+/// metadata and a column holds geometries, the line of a warning (docs/FORMAT.md, 5.1). `file` is
+/// the name that the lines give the file, if any.
 ///
 /// Errs with `ReportTooLarge` where the lines have more than `limit` bytes, as soon as those of the
 /// first columns have; and when out of memory.
