@@ -30,8 +30,9 @@ TWINS = {one: other for pair in PAIRS for one, other in (pair, pair[::-1])}
 TOKEN = re.compile(r'"((?:[^"]|"")*)"|([\[(])|([\])])|(,)|([^\s"\[\](),]+)')
 
 
-def is_whole(value):
-    return isinstance(value, Number) and re.fullmatch(r"-?\d+", value.text) is not None
+def is_code(value):
+    """Whether a number is written with digits alone."""
+    return isinstance(value, Number) and re.fullmatch(r"\d+", value.text) is not None
 
 
 def malformed(crs):
@@ -54,7 +55,7 @@ def malformed(crs):
 def identifier(value):
     """The authority and the code of an `id`, in capitals, if it has both."""
     authority, code = at(value, "authority"), at(value, "code")
-    if not isinstance(authority, str) or not (isinstance(code, str) or is_whole(code)):
+    if not isinstance(authority, str) or not (isinstance(code, str) or is_code(code)):
         return None
     return authority.upper(), (code if isinstance(code, str) else code.text).upper()
 

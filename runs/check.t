@@ -476,8 +476,8 @@ What is found in GeoParquet metadata, behind the columns
   region  wkb - -  OGC:CRS84  karney
   error[GeoTypes] column geom, geo /columns/geom/geometry_types/1: found "Dot"; expected Point, LineString, Polygon, MultiPoint, MultiLineString, MultiPolygon or GeometryCollection, alone or with " Z", each at most once
   error[GeoBboxOrder] column geom, geo /columns/geom/bbox/1: found 3; expected at most the greatest bound (2). Only a box of a geographic CRS has an xmin above its xmax, where it crosses the antimeridian.
-  warning[GeoColumnUndeclared] column place, geo /columns: found {"geom":{"encoding":"WKB","geometry_types":["Point","Dot"],"bbox":[0,3,1,2]}}; expected a member for the column. Readers of GeoParquet do not see the column.
-  warning[GeoColumnUndeclared] column region, geo /columns: found {"geom":{"encoding":"WKB","geometry_types":["Point","Dot"],"bbox":[0,3,1,2]}}; expected a member for the column. Readers of GeoParquet do not see the column.
+  warning[GeoColumnUndeclared] column place, geo /columns: found "place"; expected a member for the column. Readers of GeoParquet do not see the column.
+  warning[GeoColumnUndeclared] column region, geo /columns: found "region"; expected a member for the column. Readers of GeoParquet do not see the column.
   [1]
 
   $ geoarrow_check --json --notes ../crates/geoarrow_check/data/geo.parquet | sed -n 's/.*"code":"\([A-Za-z]*\)".*/\1/p'

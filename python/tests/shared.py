@@ -19,14 +19,13 @@ CRS = '{"metadata":{"ARROW:extension:metadata":"{\\"crs\\":{\\"id\\":{\\"authori
 NO_GEO_METADATA = Finding("warning", "NoGeoMetadata", expected="metadata of GeoParquet at the key geo")
 # What is found in geo.parquet, in words (docs/FORMAT.md, 5.1).
 TYPES = "Point, LineString, Polygon, MultiPoint, MultiLineString, MultiPolygon or GeometryCollection"
-COLUMNS = '{"geom":{"encoding":"WKB","geometry_types":["Point","Dot"],"bbox":[0,3,1,2]}}'
 FOUND = [
     f'error[GeoTypes] column geom, geo /columns/geom/geometry_types/1: found "Dot"; expected {TYPES}, alone or with " Z", each at most once',
     "error[GeoBboxOrder] column geom, geo /columns/geom/bbox/1: found 3; expected at most the greatest bound (2). "
     "Only a box of a geographic CRS has an xmin above its xmax, where it crosses the antimeridian.",
-    f"warning[GeoColumnUndeclared] column place, geo /columns: found {COLUMNS}; expected a member for the column. "
+    'warning[GeoColumnUndeclared] column place, geo /columns: found "place"; expected a member for the column. '
     "Readers of GeoParquet do not see the column.",
-    f"warning[GeoColumnUndeclared] column region, geo /columns: found {COLUMNS}; expected a member for the column. "
+    'warning[GeoColumnUndeclared] column region, geo /columns: found "region"; expected a member for the column. '
     "Readers of GeoParquet do not see the column."]
 
 

@@ -85,7 +85,7 @@ class Checks(unittest.TestCase):
             with open(DATA / name, "rb") as file, mmap.mmap(file.fileno(), 0, access=mmap.ACCESS_READ) as mapped:
                 for source in (file, io.BytesIO(file.read()), mapped):
                     found = check(source)
-                    self.assertEqual((found, found.checks, found.warnings), (wanted, wanted.checks, wanted.warnings))
+                    self.assertEqual((found, found.findings), (wanted, wanted.findings))
 
     def test_notes(self):
         self.assertEqual([one.code for one in check([CRS])[0].warnings], [])
@@ -179,6 +179,22 @@ class Checks(unittest.TestCase):
                 findings = iter(check(content, notes=True).findings)
         self.assertEqual(list(findings), [])
         self.assertGreater(count, 7)
+
+    def test_the_files_of_rows(self):
+        """The columns and findings of each file have the lines of its row, and name their parts; notes are found where they are asked for."""
+        rows = iter((TOP / "crates/file_rows/data/reports/geo_files.rows").read_text(encoding="utf-8").splitlines())
+        noted = []
+        for asked in rows:
+            if asked.startswith("report_file "):
+                file, wanted = bytes.fromhex(asked.partition(" ")[2]), next(rows)
+                columns = check(file)
+                self.assertEqual(" & ".join(one.json for one in (*columns, *columns.findings)), wanted)
+                noted += [one for one in check(file, notes=True).findings if one not in columns.findings]
+                for one in columns.findings:
+                    said = {"in": one.source, **{key: getattr(one, key) for key in ("severity", "code", "column", "pointer", "found", "expected", "help")}}
+                    self.assertEqual({key: value for key, value in said.items() if value is not None}, json.loads(one.json))
+        self.assertEqual([(one.code, one.severity) for one in noted], [
+            ("CrsNotCompared", "note"), ("CrsNotCompared", "note"), ("GeoNewVersion", "note")])
 
     def test_a_file_of_parquet_without_metadata_of_geoparquet(self):
         columns = check(DATA / "stored.parquet")

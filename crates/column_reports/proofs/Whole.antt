@@ -1,12 +1,10 @@
 -- The lines of a report, from those of its columns; and the report of a file, from the file that was opened.
-use Rattle.std.proofs.Common.{◌≡◌, ◌++◌, ◌<◌, ℕ, List, length, map, Option, Result, Ok, Err, inl, inr, ap, arith}
+use Rattle.std.proofs.Common.{◌++◌, ℕ, List, length, Option, Result, Ok, Err, inl, inr, arith}
 use Rattle.std.proofs.lemmas.List.{length-append}
 use Rattle.std.specs.Prelude.{String}
 use Rattle.std.specs.declared.alloc.Global.{Global}
 use Rattle.arrow_values.specs.Tree.{Text}
-use Rattle.column_files.specs.Files.{IsOpened}
 use Rattle.column_files.specs.declared.columns.FileFault.{FileFault}
-use Rattle.column_files.specs.declared.columns.FileFault.TheVariants.{ReportTooLarge}
 use Rattle.parquet_columns.specs.Budget.{budget}
 use Rattle.column_reports.specs.FileReport.{IsReportOf, IsWithin, Reports, report_text}
 use Rattle.column_reports.specs.declared.file.FileReport.{FileReport}

@@ -1,6 +1,5 @@
 //! What is found in GeoParquet metadata, in words.
 ghost use Rattle.std.specs.Prelude.{◌≡◌, ◌++◌, IfOk, OnOk, option_map, string_bytes};
-ghost use Rattle.arrow_values.specs.Texts.{text_of};
 ghost use Rattle.file_check.specs.Findings.{around, pointed, place_text, words_text, finding_text};
 ghost use Rattle.file_check.specs.Findings.{finding_line, lines_text, warning_text, findings_text};
 

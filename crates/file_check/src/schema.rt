@@ -1,5 +1,5 @@
 //! What is made of a file that has a schema, by the bytes that hold it.
-ghost use Rattle.std.specs.Prelude.{IfOk, IfErr};
+ghost use Rattle.std.specs.Prelude.{IfErr};
 ghost use Rattle.file_check.specs.Made.{IsPastTable, MakesText, MakesOf, MakesOfEnd};
 
 use crate::asked::{Asked, Output};

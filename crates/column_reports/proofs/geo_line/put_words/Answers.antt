@@ -1,4 +1,4 @@
-use Rattle.std.proofs.Common.{Some, codes, option_map, string_bytes, ◌∙◌}
+use Rattle.std.proofs.Common.{Some, codes, ◌∙◌}
 use Rattle.std.proofs.lemmas.Result.{on_ok_weaker}
 use Rattle.column_reports.specs.Report.{string_if}
 use Rattle.column_reports.proofs.Adding.{then, for}
