@@ -1,5 +1,5 @@
 -- The version of GeoParquet by which metadata are judged (docs/FORMAT.md, 5).
-use Rattle.std.specs.Prelude.{◌&&◌, ◌||◌, ◌==◌, Bool, true, false, List, [], ◌∷◌, ℕ, Option, None, Some, codes, bytes_eq, nat_lt, option_and_then, if◌then◌else◌}
+use Rattle.std.specs.Prelude.{◌&&◌, ◌||◌, ◌==◌, Bool, true, false, not, List, [], ◌∷◌, ℕ, Option, None, Some, codes, bytes_eq, nat_lt, option_and_then, if◌then◌else◌}
 use Rattle.std.specs.Bool.{nat_eq}
 use Rattle.std.specs.List.{starts_with}
 use Rattle.json.specs.Json.{Json, string}
