@@ -8,7 +8,8 @@
  * At GEOARROW_REFUSED what is written is one line, with a line feed behind it: a JSON object without blanks, whose keys are in
  * alphabetical order, and say why the bytes are refused. `error` is a code, which stands for one message alone, and `message`
  * says what is wrong; `place` says in words where, and so do the numbers `byte`, `column`, `element` and `line`; `found` says
- * what stands there, and `help` what to try; `file` is the name that was given. A key that does not apply is left out. As `{"error":"EmptyFile","message":"is empty"}`, or
+ * what stands there, and `help` what to try; `file` is the name that was given. A key that does not apply is left out. As
+ * `{"error":"EmptyFile","message":"is empty"}`, or
  * `{"byte":4,"error":"FooterNegative","file":"a.parquet","message":"a number is negative","place":"byte 4 of the footer"}`.
  * docs/FORMAT.md, 2.8, has all codes, and where lines, bytes, elements and columns are counted from.
  *
@@ -37,8 +38,8 @@ extern "C" {
 /* What is asked of a line. */
 enum { GEOARROW_READ = 0, GEOARROW_INFER = 1, GEOARROW_CANON = 2, GEOARROW_COLUMNS = 3 };
 
-/* Options of geoarrow_report, 0 or a sum of these: infer a type for columns without an extension name; notes among the warnings
- * (docs/FORMAT.md, 2.6). */
+/* Options of geoarrow_report, 0 or a sum of these: infer a type for columns without an extension name; notes among the warnings of
+ * columns and the findings (docs/FORMAT.md, 2.6 and 5). */
 enum { GEOARROW_INFER_TYPES = 1, GEOARROW_NOTES = 2 };
 
 /* Statuses. */
@@ -63,7 +64,7 @@ uint8_t geoarrow_answer(uint8_t command, const uint8_t *line, size_t line_len, u
 uint8_t geoarrow_run(uint8_t command, const uint8_t *input, size_t input_len, uint8_t *out, size_t out_len, size_t *len);
 
 /* The report of a file, from its bytes: a line of JSON for each of its columns (docs/FORMAT.md, 2.5 to 2.7), and behind them, of a
- * Parquet file, one for each check of its GeoParquet metadata that does not hold (5.1), or one that says that it has columns of
+ * Parquet file, one for each finding in its GeoParquet metadata (5.1), or one that says that it has columns of
  * geometries and no such metadata; each with a line feed behind it. Where the file is refused, the line that says why (2.8).
  * `options` is 0 to 3, a sum of GEOARROW_INFER_TYPES and GEOARROW_NOTES. `name` is the name of the file in UTF-8, which the lines
  * have at `file`; where `name_len` is 0 they have none. Of an Arrow or Parquet file its end may stand for the file; a byte of an

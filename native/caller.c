@@ -6,7 +6,7 @@
  * number past a list is sent as it is.
  *   answers  calls with room, with each size of buffer that is too small (of long texts some), and between guards; writes for each
  *            request its status in a byte (255 for a number that the header does not name), `*len` in eight, and the text
- *   faults   over the library of bin/faults: each request for memory refused, one at a time
+ *   faults   over the library of bin/faults: each request for memory refused, one at a time, which is told, or changes nothing of the answer
  *   threads  all calls from eight threads at once
  *   stack    all calls from a thread with GEOARROW_STACK bytes of stack
  *   leaks    no calls: it forgets blocks of memory, so that a detector of leaks shows whether it works
@@ -153,9 +153,10 @@ static void faults(request_t *of) {
         void *was = take((size_t)1 << 61);
         if (!was) break;
         give(was);
-        int is_right = status == GEOARROW_MEMORY && len == UNSET;
-        for (size_t i = 0; i < least; i++) is_right = is_right && out[i] == 0xa5;
-        judge(is_right, of, "a refused request for memory");
+        int is_answer = status == of->status && len == of->len && (!least || !memcmp(out, of->text, least));
+        int is_told = status == GEOARROW_MEMORY && len == UNSET;
+        for (size_t i = 0; i < least; i++) is_told = is_told && out[i] == 0xa5;
+        judge(is_told || is_answer, of, "a refused request for memory");
     }
     judge(status == of->status && len == of->len && (!least || !memcmp(out, of->text, least)), of, "another answer behind a refused request");
     give(out);

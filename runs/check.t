@@ -76,7 +76,7 @@ Columns of Parquet files
   $ geoarrow_check ../crates/geoarrow_check/data/stored.parquet
   column  holds          CRS  edges
   g       large_wkb - -       planar
-  NoGeoMetadata: the file has columns of geometries, but no metadata of GeoParquet
+  warning[NoGeoMetadata]: expected metadata of GeoParquet at the key geo
 
   $ geoarrow_check --json - < ../crates/geoarrow_check/data/plain.parquet
   {"column":"g","index":0,"state":"plain","type":"binary"}
@@ -467,34 +467,82 @@ With --json the fault is a line of JSON too, alone, or behind the lines of colum
   nowhere: No such file or directory (os error 2)
   2
 
-The checks of GeoParquet metadata behind the columns: those that do not hold, or all
+What is found in GeoParquet metadata, behind the columns
 
   $ geoarrow_check ../crates/geoarrow_check/data/geo.parquet
   column  holds    CRS        edges
   geom    wkb - -  OGC:CRS84  planar
   place   wkb - -  EPSG:4326  planar
   region  wkb - -  OGC:CRS84  karney
-  GeoTypes of geom does not hold: geometry_types are different names of geometry types that fit the encoding
-  GeoBbox of geom does not hold: bbox is absent, or four or six numbers in order
+  error[GeoTypes] column geom, geo /columns/geom/geometry_types/1: found "Dot"; expected Point, LineString, Polygon, MultiPoint, MultiLineString, MultiPolygon or GeometryCollection, alone or with " Z", each at most once
+  error[GeoBboxOrder] column geom, geo /columns/geom/bbox/1: found 3; expected at most the greatest bound (2). Only a box of a geographic CRS has an xmin above its xmax, where it crosses the antimeridian.
+  warning[GeoColumnUndeclared] column place, geo /columns: found "place"; expected a member for the column. Readers of GeoParquet do not see the column.
+  warning[GeoColumnUndeclared] column region, geo /columns: found "region"; expected a member for the column. Readers of GeoParquet do not see the column.
   [1]
 
-  $ geoarrow_check --all-checks ../crates/geoarrow_check/data/geo.parquet | grep Geo | sed 's/:.*//'
-  GeoObject holds
-  GeoVersion holds
-  GeoPrimaryColumn holds
-  GeoColumns holds
-  GeoEncoding of geom holds
-  GeoTypes of geom does not hold
-  GeoCrs of geom holds
-  GeoCrsAgrees of geom holds
-  GeoEdges of geom holds
-  GeoOrientation of geom holds
-  GeoBbox of geom does not hold
-  GeoEpoch of geom holds
-  GeoCovering of geom holds
+  $ geoarrow_check --json --notes ../crates/geoarrow_check/data/geo.parquet | sed -n 's/.*"code":"\([A-Za-z]*\)".*/\1/p'
+  GeoTypes
+  GeoBboxOrder
+  GeoColumnUndeclared
+  GeoColumnUndeclared
 
-  $ geoarrow_check --json --all-checks ../crates/geoarrow_check/data/geo.parquet | grep -c '"ok":true'
-  11
+The status by what is found, notes too, of the files of a row each: how many, the codes, and the status
+
+  $ cd "$TMPDIR" && sed -n 's/^report_file //p' "$top/crates/file_rows/data/reports/geo_files.rows" | while read -r digits
+  > do
+  >     python3 -c 'import sys; sys.stdout.buffer.write(bytes.fromhex(sys.argv[1]))' "$digits" > file
+  >     geoarrow_check --json --notes file | sed -n 's/^{"severity":"[a-z]*","code":"\([A-Za-z]*\)".*/\1/p' | LC_ALL=C sort -u | tr '\n' ' '
+  >     geoarrow_check --quiet file
+  >     echo $?
+  > done | LC_ALL=C sort | uniq -c
+       24 0
+        3 CrsContradicts 1
+        2 CrsMalformed 1
+        2 CrsNotCompared 0
+        2 EdgesContradict 1
+        1 EncodingContradicts 1
+        1 GeoColumnMissing 1
+        1 GeoCoveringColumn 1
+        3 GeoCoveringName 1
+        2 GeoCoveringShape 0
+        2 GeoCoveringType 1
+        1 GeoCrs 1
+        1 GeoEdges 1
+        2 GeoEncoding 1
+        4 GeoLayout 1
+        1 GeoNewVersion 0
+        4 GeoNotJson 1
+        2 GeoOldVersion 0
+        1 GeoTypes 1
+        1 GeoTypesVersion 1
+        1 GeoVersion 1
+        1 TypesContradict 1
+
+The codes of findings, without a file: as many as docs/FORMAT.md, 5 and 2.6, have
+
+  $ geoarrow_check --codes | sed 's/:.*//' | head -3
+  error[GeoNotJson]
+  error[GeoNotObject]
+  error[GeoVersion]
+
+  $ geoarrow_check --codes | sed -E 's/^([a-z]+)\[(.*)\]: (.*)/| `\2` | \1 | `\3` /' | head -37 > "$TMPDIR/codes"
+  > grep -oE '^\| `[A-Za-z]+` \| (error|warning|note) \| `[^`]*` ' ../docs/FORMAT.md | cmp - "$TMPDIR/codes"
+  $ geoarrow_check --codes x --json | wc -l
+  44
+
+  $ geoarrow_check --explain GeoEpoch && geoarrow_check --explain=CrsNotWhole && geoarrow_check --explain NoGeoMetadata
+  error[GeoEpoch]: epoch is neither absent nor a number
+  expected: a number
+  help: A number has no quotes.
+  docs/FORMAT.md, 5
+  note[CrsNotWhole]: CRS has a number that is not whole
+  docs/FORMAT.md, 2.6
+  warning[NoGeoMetadata]: the file has columns of geometries, and no text at the key geo
+  expected: metadata of GeoParquet at the key geo
+  docs/FORMAT.md, 5.1
+
+  $ geoarrow_check --explain GeoEpocs 2>&1 | head -1
+  error: 'GeoEpocs' is no code
 
 Words that are answered at once
 
@@ -529,7 +577,7 @@ Options behind files, options that stand twice, and what is expected behind `=`,
 
 Words that are refused
 
-  $ for word in --jsno --line --ip --infre --note --all-check --quite --require-geometri --expct --hlep --versoin
+  $ for word in --jsno --line --ip --infre --note --code --explian --quite --require-geometri --expct --hlep --versoin
   > do
   >     geoarrow_check $word x 2>&1 | sed '/Usage/,$d' | grep .
   > done
@@ -543,8 +591,10 @@ Words that are refused
     tip: a similar argument exists: '--infer'
   error: unexpected argument '--note' found
     tip: a similar argument exists: '--notes'
-  error: unexpected argument '--all-check' found
-    tip: a similar argument exists: '--all-checks'
+  error: unexpected argument '--code' found
+    tip: a similar argument exists: '--codes'
+  error: unexpected argument '--explian' found
+    tip: a similar argument exists: '--explain'
   error: unexpected argument '--quite' found
     tip: a similar argument exists: '--quiet'
   error: unexpected argument '--require-geometri' found
@@ -562,22 +612,22 @@ Words that are refused
   > done
   error: unexpected argument '-q' found
     tip: to pass '-q' as a value, use '-- -q'
-  Usage: geoarrow_check [OPTIONS] <FILE>...
+  Usage: geoarrow_check [OPTIONS] [FILE]...
   For more information, try '--help'.
   error: unexpected argument '-j' found
     tip: to pass '-j' as a value, use '-- -j'
-  Usage: geoarrow_check [OPTIONS] <FILE>...
+  Usage: geoarrow_check [OPTIONS] [FILE]...
   For more information, try '--help'.
   error: unexpected argument '--xyzzy' found
     tip: to pass '--xyzzy' as a value, use '-- --xyzzy'
-  Usage: geoarrow_check [OPTIONS] <FILE>...
+  Usage: geoarrow_check [OPTIONS] [FILE]...
   For more information, try '--help'.
   error: unexpected argument '--a?b?[1m' found
     tip: to pass '--a?b?[1m' as a value, use '-- --a?b?[1m'
-  Usage: geoarrow_check [OPTIONS] <FILE>...
+  Usage: geoarrow_check [OPTIONS] [FILE]...
   For more information, try '--help'.
   error: unexpected value 'a' for '--json' found; no more were expected
-  Usage: geoarrow_check --json <FILE>...
+  Usage: geoarrow_check --json [FILE]...
   For more information, try '--help'.
 
   $ for words in '--json --lines' '--lines --json' '--json --ipc' '--ipc --json' '--lines --ipc' '--ipc --lines' '--ipc --lines --json'
@@ -616,14 +666,14 @@ Words that are refused
   For more information, try '--help'.
   status 2
   error: --ipc takes one file
-  Usage: geoarrow_check [OPTIONS] <FILE>...
+  Usage: geoarrow_check [OPTIONS] [FILE]...
   For more information, try '--help'.
   status 2
   error: a value is required for '--expect <COLUMN=WANT>' but none was supplied
   For more information, try '--help'.
   status 2
   error: 'point' is no COLUMN=WANT
-  Usage: geoarrow_check [OPTIONS] <FILE>...
+  Usage: geoarrow_check [OPTIONS] [FILE]...
   For more information, try '--help'.
   status 2
 

@@ -112,10 +112,10 @@ Words of the other program for which nothing is built, without `rt`: the first l
   >     $script "$(printf 'no\033where\nat all')" 2>&1 || ls build crates/geoarrow_check
   > done
   Says what each column of each file holds, and why it is invalid;
-  and which checks of GeoParquet metadata do not hold
+  and what is wrong with GeoParquet metadata
   status 0
   Says what each column of each file holds, and why it is invalid;
-  and which checks of GeoParquet metadata do not hold
+  and what is wrong with GeoParquet metadata
   status 0
   geoarrow_check 2.0.0 (rattle-kit-13f)
   status 0
@@ -128,13 +128,13 @@ Words of the other program for which nothing is built, without `rt`: the first l
     <FILE>...
   status 2
   error: unexpected argument '--jsno' found
-  Usage: geoarrow_check [OPTIONS] <FILE>...
+  Usage: geoarrow_check [OPTIONS] [FILE]...
   status 2
   error: unexpected argument '-q' found
-  Usage: geoarrow_check [OPTIONS] <FILE>...
+  Usage: geoarrow_check [OPTIONS] [FILE]...
   status 2
   error: unexpected argument '--jsno=b' found
-  Usage: geoarrow_check [OPTIONS] <FILE>...
+  Usage: geoarrow_check [OPTIONS] [FILE]...
   status 2
   nowhere: No such file or directory (os error 2)
   a: No such file or directory (os error 2)
@@ -150,10 +150,10 @@ Words of the other program for which nothing is built, without `rt`: the first l
   crates/geoarrow_check:
   src
   Says what each column of each file holds, and why it is invalid;
-  and which checks of GeoParquet metadata do not hold
+  and what is wrong with GeoParquet metadata
   status 0
   Says what each column of each file holds, and why it is invalid;
-  and which checks of GeoParquet metadata do not hold
+  and what is wrong with GeoParquet metadata
   status 0
   geoarrow_check 2.0.0 (rattle-kit-13f)
   status 0
@@ -166,13 +166,13 @@ Words of the other program for which nothing is built, without `rt`: the first l
     <FILE>...
   status 2
   error: unexpected argument '--jsno' found
-  Usage: geoarrow_check [OPTIONS] <FILE>...
+  Usage: geoarrow_check [OPTIONS] [FILE]...
   status 2
   error: unexpected argument '-q' found
-  Usage: geoarrow_check [OPTIONS] <FILE>...
+  Usage: geoarrow_check [OPTIONS] [FILE]...
   status 2
   error: unexpected argument '--jsno=b' found
-  Usage: geoarrow_check [OPTIONS] <FILE>...
+  Usage: geoarrow_check [OPTIONS] [FILE]...
   status 2
   nowhere: No such file or directory (os error 2)
   a: No such file or directory (os error 2)

@@ -13,13 +13,13 @@ from typing import Any, Iterable, Union
 
 from . import library, sources
 from .c_schema import SchemaError
-from .columns import Check, Column, Columns, FileWarning, Reason, columns_of
+from .columns import Column, Columns, Finding, Reason, columns_of
 from .library import Command
 from .refusals import InvalidColumns, RefusedSource, moved
 from .schema_lines import Schema, lines
 
 __all__ = [
-    "Check", "Column", "Columns", "FileWarning", "InvalidColumns", "Reason", "RefusedSource", "Schema", "SchemaError", "canon", "check", "lines", "read", "write_schema"]
+    "Column", "Columns", "Finding", "InvalidColumns", "Reason", "RefusedSource", "Schema", "SchemaError", "canon", "check", "lines", "read", "write_schema"]
 
 __version__ = "2.0.0"
 
@@ -34,9 +34,9 @@ def check(source: Any, infer: bool = False, strict: bool = False, notes: bool = 
     - the bytes of one, or an object whose buffer they are, as an array of bytes;
     - lines in a list or a tuple;
     - an object that gives a schema, a field or an array over Arrow's C data interface, such as one of pyarrow or polars (`lines`).
-    Of a file only the bytes that say what its columns are are read. `checks` of what is answered are the checks of a Parquet file's GeoParquet metadata that do
-    not hold, and `warnings` are what is doubtful of the file as a whole. With `infer`, a column without an extension name is taken for what is inferred from
-    its data type. With `strict`, `InvalidColumns` is raised where one is invalid. With `notes`, what is only to be noted of a column is among its warnings.
+    Of a file only the bytes that say what its columns are are read. `findings` of what is answered are what is found in a Parquet file's GeoParquet
+    metadata, or that it has none. With `infer`, a column without an extension name is taken for what is inferred from its data type. With `strict`,
+    `InvalidColumns` is raised where one is invalid. With `notes`, what is only worth to know is among the warnings of a column and the findings.
 
     A list without lines and a schema without columns have no columns; a file or bytes that are empty, or blank lines alone, are refused.
 

@@ -1,8 +1,8 @@
 """The command: python -m geoarrow_fields check [--infer] [--notes] [--json] FILE..
 
 Prints what each column of each file holds, as `geoarrow_check` does with these options; the others are that program's alone. Why a file cannot be read is
-said on standard error; with --json the line of one that is refused stands on standard output too. The status is 1 where a column is invalid or a check of
-GeoParquet metadata does not hold, and 2 where a file is refused, a file or the words cannot be read, or the output fails. Where nobody reads the output any
+said on standard error; with --json the line of one that is refused stands on standard output too. The status is 1 where a column is invalid or a finding in
+GeoParquet metadata is an error, and 2 where a file is refused, a file or the words cannot be read, or the output fails. Where nobody reads the output any
 more, the command ends without a word, with the status 141.
 """
 import argparse
@@ -17,11 +17,11 @@ from .tables import shown
 
 INVALID, FAILED = 1, 2
 NO_READER = 128 + 13  # what a shell says of a command that the signal SIGPIPE ends
-OF_THE_PROGRAM = ("--all-checks", "--expect", "--ipc", "--lines", "--quiet", "--require-geometry")
+OF_THE_PROGRAM = ("--codes", "--expect", "--explain", "--ipc", "--lines", "--quiet", "--require-geometry")
 
 
 class _OfTheProgram(argparse.Action):
-    """An option that is refused, since the report of the library has no more than the checks that do not hold."""
+    """An option that is refused, since the report of the library says nothing of it."""
 
     def __call__(self, parser: argparse.ArgumentParser, namespace: Any, values: Any, option: Optional[str] = None) -> NoReturn:
         parser.error(f"{option} is an option of the program geoarrow_check alone")
@@ -36,7 +36,7 @@ def main(words: Optional[List[str]] = None) -> int:
     of_check.add_argument(
         "files", metavar="FILE", nargs="+", help="an Arrow file (Feather), an Arrow stream, a Parquet file, or lines of fields; - is standard input")
     of_check.add_argument("--infer", action="store_true", help="infer a type for columns without an extension name")
-    of_check.add_argument("--notes", action="store_true", help="say also what is only to be noted of a column")
+    of_check.add_argument("--notes", action="store_true", help="print notes too: of what is allowed, and only worth to know")
     of_check.add_argument("--json", action="store_true", help="a line of JSON for each column, in place of a table")
     for word in OF_THE_PROGRAM:
         of_check.add_argument(word, action=_OfTheProgram, nargs="?", help=argparse.SUPPRESS)
@@ -74,11 +74,11 @@ def _checked(file: str, asked: argparse.Namespace) -> int:
         _say(f"{name}: {said}")
         return FAILED
     if asked.json:
-        for one in (*columns, *columns.checks, *columns.warnings):
+        for one in (*columns, *columns.findings):
             print(one.json)
     else:
         print(*([f"{name}:"] if len(asked.files) > 1 else []), repr(columns), sep="\n")
-    return INVALID if columns.checks or any(one.is_invalid for one in columns) else 0
+    return INVALID if any(one.is_error for one in columns.findings) or any(one.is_invalid for one in columns) else 0
 
 
 def _input() -> bytes:

@@ -24,31 +24,32 @@ class Reason:
 
 
 @dataclasses.dataclass(frozen=True)
-class Check:
-    """A check of a Parquet file's GeoParquet metadata that does not hold: its code, what it asks, the key of `columns` that it is on, if it is on
-    one, and the keys down to the member that it is about (docs/FORMAT.md, 5). `json` is the line of the report."""
+class Finding:
+    """What is found in a file: its severity, `error`, `warning` or `note`, and its code; the place, that is the name of the column, the source, `geo` of
+    GeoParquet metadata, and the JSON pointer into it; what stands there, what is expected, and what helps. What does not apply is None
+    (docs/FORMAT.md, 5.1). `json` is the line of the report."""
 
+    severity: str
     code: str
-    message: str
     column: Optional[str] = None
-    path: Tuple[str, ...] = ()
+    source: Optional[str] = None
+    pointer: Optional[str] = None
+    found: Optional[str] = None
+    expected: Optional[str] = None
+    help: Optional[str] = None
     json: str = dataclasses.field(default="", repr=False, compare=False)
 
-    def __str__(self) -> str:
-        of_column = "" if self.column is None else f" of {self.column}"
-        return f"{self.code}{of_column} does not hold: {self.message}"
-
-
-@dataclasses.dataclass(frozen=True)
-class FileWarning:
-    """What is doubtful of a file as a whole: its code, and what it says (docs/FORMAT.md, 2.5). `json` is the line of the report."""
-
-    code: str
-    message: str
-    json: str = dataclasses.field(default="", repr=False, compare=False)
+    @property
+    def is_error(self) -> bool:
+        return self.severity == "error"
 
     def __str__(self) -> str:
-        return f"{self.code}: {self.message}"
+        column = [] if self.column is None else [f"column {self.column}"]
+        source = [] if self.source is None else [f"{self.source} {self.pointer}" if self.pointer else self.source]
+        place = ", ".join(column + source)
+        found = "" if self.found is None else f"found {self.found}; "
+        help = "" if self.help is None else f". {self.help}"
+        return f"{self.severity}[{self.code}]{' ' if place else ''}{place}: {found}expected {self.expected}{help}"
 
 
 def _none() -> None:
@@ -109,24 +110,23 @@ _ATTRIBUTES = frozenset(field.name for field in dataclasses.fields(Column) if fi
 
 
 class Columns(List[Column]):
-    """Columns, which are shown as a table: of text, and in a notebook of HTML. `checks` are those of the GeoParquet metadata of a Parquet file that
-    do not hold, and `warnings` are what is doubtful of the file as a whole; both stand behind the table."""
+    """Columns, which are shown as a table: of text, and in a notebook of HTML. `findings` are what is found in the GeoParquet metadata of a Parquet file,
+    or that there are none; they stand behind the table."""
 
-    checks: Tuple[Check, ...] = ()
-    warnings: Tuple[FileWarning, ...] = ()
+    findings: Tuple[Finding, ...] = ()
 
     def __repr__(self) -> str:
-        return tables.text(map(_row, self), map(str, (*self.checks, *self.warnings)))
+        return tables.text(map(_row, self), map(str, self.findings))
 
     def _repr_html_(self) -> str:
-        return tables.html(map(_row, self), map(str, (*self.checks, *self.warnings)))
+        return tables.html(map(_row, self), map(str, self.findings))
 
 
 _json = json.JSONDecoder().raw_decode
 
 
 def columns_of(report: str) -> Columns:
-    """The columns of a report, of which each line is one, and is not read yet; behind them stand the checks and the warnings of the file."""
+    """The columns of a report, of which each line is one, and is not read yet; behind them stand the findings."""
     lines = report.split("\n")
     lines.pop()  # behind the last line feed
     behind: List[str] = []
@@ -135,8 +135,7 @@ def columns_of(report: str) -> Columns:
     behind.reverse()
     columns = Columns(map(object.__new__, itertools.repeat(Column, len(lines))))
     collections.deque(map(_put_line, columns, lines), maxlen=0)  # (a loop, without a step of Python for each)
-    columns.checks = tuple(_check(line) for line in behind if line.startswith('{"check":'))
-    columns.warnings = tuple(_file_warning(line) for line in behind if not line.startswith('{"check":'))
+    columns.findings = tuple(map(_finding, behind))
     return columns
 
 
@@ -150,16 +149,12 @@ def _attributes(line: str) -> Dict[str, Any]:
         "warnings": _reasons(said["warnings"]) if "warnings" in said else ()}
 
 
-def _check(line: str) -> Check:
-    """The check of a line."""
+def _finding(line: str) -> Finding:
+    """The finding of a line."""
     said = _json(line)[0]
-    return Check(said["check"], said["message"], said.get("column"), tuple(said["path"]), line)
-
-
-def _file_warning(line: str) -> FileWarning:
-    """The warning of a line."""
-    said = _json(line)[0]
-    return FileWarning(said["warning"], said["message"], line)
+    known = said.get
+    return Finding(
+        said["severity"], said["code"], known("column"), known("in"), known("pointer"), known("found"), known("expected"), known("help"), line)
 
 
 def _reasons(said: List[Dict[str, Any]]) -> Tuple[Reason, ...]:

@@ -3,8 +3,8 @@
     reports(paths)         a report for each file; what is wrong with one is said in its report, and never raised
     paths_of(words)        the files that paths and folders name
 
-A report is a dict that JSON can hold: the `file`, its number of `columns`, its `geometries` and its `invalid` columns in words, the `checks` of its
-GeoParquet metadata that do not hold, the `warnings` of the file as a whole, and an `error` where it cannot be read, else None.
+A report is a dict that JSON can hold: the `file`, its number of `columns`, its `geometries`, its `invalid` columns and what is found in its GeoParquet
+metadata in words, the `errors` apart from the `warnings`, and an `error` where it cannot be read, else None.
 """
 import os
 from typing import Any, Dict, Iterable, Iterator, List
@@ -27,15 +27,16 @@ def report(path: str, infer: bool = False) -> Report:
         return failed(path, error)
     geometries = [f"{one.name}: {one.type}" for one in columns if one.state in ("geometry", "inferred")]
     invalid = [f"{one.name}: {', '.join(map(str, one.reasons))}" for one in columns if one.is_invalid]
+    errors = [str(one) for one in columns.findings if one.is_error]
+    warnings = [str(one) for one in columns.findings if not one.is_error]
     return {
-        "file": path, "columns": len(columns), "geometries": geometries, "invalid": invalid, "checks": list(map(str, columns.checks)),
-        "warnings": list(map(str, columns.warnings)), "error": None}
+        "file": path, "columns": len(columns), "geometries": geometries, "invalid": invalid, "errors": errors, "warnings": warnings, "error": None}
 
 
 def failed(path: str, error: BaseException) -> Report:
     """The report of a file that was not read."""
     said = getattr(error, "strerror", None) or str(error) or type(error).__name__
-    return {"file": path, "columns": 0, "geometries": [], "invalid": [], "checks": [], "warnings": [], "error": said}
+    return {"file": path, "columns": 0, "geometries": [], "invalid": [], "errors": [], "warnings": [], "error": said}
 
 
 def paths_of(words: Iterable[str]) -> Iterator[str]:

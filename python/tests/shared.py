@@ -3,7 +3,7 @@ import contextlib
 import io
 import pathlib
 
-from geoarrow_fields import FileWarning
+from geoarrow_fields import Finding
 from geoarrow_fields.__main__ import main
 
 TOP = pathlib.Path(__file__).resolve().parent.parent.parent
@@ -16,7 +16,17 @@ OTHER = '{"name":"at","nullable":true,"type":{"other":"timestamp[ms, tz=UTC]"}}'
 BROKEN = '{"metadata":{"ARROW:extension:metadata":"{\\"edges\\":1}","ARROW:extension:name":"geoarrow.linestring"},"name":"b","nullable":true,"type":{"list":{"name":"v","nullable":true,"type":{"struct":[]}}}}'
 CRS = '{"metadata":{"ARROW:extension:metadata":"{\\"crs\\":{\\"id\\":{\\"authority\\":\\"OGC\\",\\"code\\":\\"CRS84\\"},\\"scope\\":1.50},\\"crs_type\\":\\"projjson\\",\\"edges\\":\\"spherical\\"}","ARROW:extension:name":"geoarrow.wkb"},"name":"g","nullable":true,"type":"binary"}'
 
-NO_GEO_METADATA = FileWarning("NoGeoMetadata", "the file has columns of geometries, but no metadata of GeoParquet")
+NO_GEO_METADATA = Finding("warning", "NoGeoMetadata", expected="metadata of GeoParquet at the key geo")
+# What is found in geo.parquet, in words (docs/FORMAT.md, 5.1).
+TYPES = "Point, LineString, Polygon, MultiPoint, MultiLineString, MultiPolygon or GeometryCollection"
+FOUND = [
+    f'error[GeoTypes] column geom, geo /columns/geom/geometry_types/1: found "Dot"; expected {TYPES}, alone or with " Z", each at most once',
+    "error[GeoBboxOrder] column geom, geo /columns/geom/bbox/1: found 3; expected at most the greatest bound (2). "
+    "Only a box of a geographic CRS has an xmin above its xmax, where it crosses the antimeridian.",
+    'warning[GeoColumnUndeclared] column place, geo /columns: found "place"; expected a member for the column. '
+    "Readers of GeoParquet do not see the column.",
+    'warning[GeoColumnUndeclared] column region, geo /columns: found "region"; expected a member for the column. '
+    "Readers of GeoParquet do not see the column."]
 
 
 def with_crs(crs):

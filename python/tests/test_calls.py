@@ -1,6 +1,7 @@
 """Tests of the calls: what they answer, and what they raise."""
 import copy
 import dataclasses
+import html
 import io
 import json
 import mmap
@@ -13,9 +14,9 @@ from unittest import mock
 
 import geoarrow_fields
 from geoarrow_fields import (
-    Column, InvalidColumns, Reason, Schema, SchemaError, canon, check, library, lines, read, write_schema)
+    Column, Finding, InvalidColumns, Reason, Schema, SchemaError, canon, check, library, lines, read, write_schema)
 
-from .shared import BROKEN, CANON, CRS, DATA, NO_GEO_METADATA, OTHER, POINT, TEXT, TOP, with_crs
+from .shared import BROKEN, CANON, CRS, DATA, FOUND, NO_GEO_METADATA, OTHER, POINT, TEXT, TOP, with_crs
 
 
 class Answers(unittest.TestCase):
@@ -84,7 +85,7 @@ class Checks(unittest.TestCase):
             with open(DATA / name, "rb") as file, mmap.mmap(file.fileno(), 0, access=mmap.ACCESS_READ) as mapped:
                 for source in (file, io.BytesIO(file.read()), mapped):
                     found = check(source)
-                    self.assertEqual((found, found.checks, found.warnings), (wanted, wanted.checks, wanted.warnings))
+                    self.assertEqual((found, found.findings), (wanted, wanted.findings))
 
     def test_notes(self):
         self.assertEqual([one.code for one in check([CRS])[0].warnings], [])
@@ -148,20 +149,56 @@ class Checks(unittest.TestCase):
             self.assertEqual(check(DATA / name), check((DATA / name).read_bytes()))
         self.assertEqual([one.type for one in check(DATA / "stored.parquet")], ["large_wkb - -"])
 
-    def test_the_checks_of_a_file_of_parquet(self):
+    def test_the_findings_of_a_file_of_parquet(self):
         columns = check(DATA / "geo.parquet")
-        self.assertEqual([(one.code, one.column, one.path) for one in columns.checks], [
-            ("GeoTypes", "geom", ("columns", "geom", "geometry_types")), ("GeoBbox", "geom", ("columns", "geom", "bbox"))])
+        self.assertEqual([(one.severity, one.code, one.column, one.source, one.pointer, one.found) for one in columns.findings[:2]], [
+            ("error", "GeoTypes", "geom", "geo", "/columns/geom/geometry_types/1", '"Dot"'),
+            ("error", "GeoBboxOrder", "geom", "geo", "/columns/geom/bbox/1", "3")])
+        self.assertEqual([one.is_error for one in columns.findings], [True, True, False, False])
         self.assertEqual([one.type for one in columns], ["wkb - -", "wkb - -", "wkb - -"])
-        self.assertEqual(repr(columns).split("\n")[-1], f"GeoBbox of geom does not hold: {columns.checks[1].message}")
-        self.assertIn(columns.checks[0].message, columns._repr_html_())
-        for file in (columns, check(DATA / "plain.parquet"), check(DATA / "file.arrow")):
-            self.assertEqual(file.warnings, ())
-        self.assertEqual(check(DATA / "plain.parquet").checks, ())
+        self.assertEqual(repr(columns).split("\n")[4:], FOUND)
+        self.assertIn(html.escape(FOUND[0]), columns._repr_html_())
+        for file in (check(DATA / "plain.parquet"), check(DATA / "file.arrow")):
+            self.assertEqual(file.findings, ())
+
+    def test_the_findings_that_all_languages_share(self):
+        """Each case of native/findings.rows: the bytes of a file, and each finding, its line and its words."""
+        parts, content, count = Finding.__annotations__.keys() - {"json", "source"}, b"", 0
+        for line in (TOP / "native/findings.rows").read_text(encoding="utf-8").split("\n"):
+            if line.startswith("{"):
+                said, one = json.loads(line), next(findings)
+                self.assertEqual({key: getattr(one, key) for key in parts}, {key: said.get(key) for key in parts})
+                self.assertEqual((one.source, one.json), (said.get("in"), line))
+                self.assertEqual(one.is_error, said["severity"] == "error")
+                count += 1
+            elif line.startswith(("error[", "warning[", "note[")):
+                self.assertEqual(str(one), line)
+            elif line and not line.startswith("#"):
+                self.assertEqual(list(findings) if content else [], [])
+                content = bytes.fromhex(line)
+                findings = iter(check(content, notes=True).findings)
+        self.assertEqual(list(findings), [])
+        self.assertGreater(count, 7)
+
+    def test_the_files_of_rows(self):
+        """The columns and findings of each file have the lines of its row, and name their parts; notes are found where they are asked for."""
+        rows = iter((TOP / "crates/file_rows/data/reports/geo_files.rows").read_text(encoding="utf-8").splitlines())
+        noted = []
+        for asked in rows:
+            if asked.startswith("report_file "):
+                file, wanted = bytes.fromhex(asked.partition(" ")[2]), next(rows)
+                columns = check(file)
+                self.assertEqual(" & ".join(one.json for one in (*columns, *columns.findings)), wanted)
+                noted += [one for one in check(file, notes=True).findings if one not in columns.findings]
+                for one in columns.findings:
+                    said = {"in": one.source, **{key: getattr(one, key) for key in ("severity", "code", "column", "pointer", "found", "expected", "help")}}
+                    self.assertEqual({key: value for key, value in said.items() if value is not None}, json.loads(one.json))
+        self.assertEqual([(one.code, one.severity) for one in noted], [
+            ("CrsNotCompared", "note"), ("CrsNotCompared", "note"), ("GeoNewVersion", "note")])
 
     def test_a_file_of_parquet_without_metadata_of_geoparquet(self):
         columns = check(DATA / "stored.parquet")
-        self.assertEqual((columns.checks, columns.warnings), ((), (NO_GEO_METADATA,)))
+        self.assertEqual(columns.findings, (NO_GEO_METADATA,))
         self.assertEqual(repr(columns).split("\n")[-1], str(NO_GEO_METADATA))
         self.assertIn(str(NO_GEO_METADATA), columns._repr_html_())
 

@@ -163,13 +163,13 @@ class Command(unittest.TestCase):
 class Printed(unittest.TestCase):
     def test_lines_of_json_are_those_of_the_report(self):
         column = '{"column":"g","index":0,"state":"plain","type":"binary"}'
-        check_ = '{"check":"GeoBbox","column":"g","message":"m","ok":false,"path":["columns"]}'
-        warning = '{"message":"w","warning":"NoGeoMetadata"}'
-        for report, status in ((f"{column}\n{column}\n{warning}\n", 0), (f"{column}\n{check_}\n{check_}\n{warning}\n", 1)):
+        error = '{"severity":"error","code":"GeoBbox","column":"g","in":"geo","pointer":"/columns/g/bbox","expected":"m"}'
+        warning = '{"severity":"warning","code":"NoGeoMetadata","expected":"w"}'
+        for report, status in ((f"{column}\n{column}\n{warning}\n", 0), (f"{column}\n{error}\n{error}\n{warning}\n", 1)):
             with mock.patch("geoarrow_fields.__main__.check", lambda *given, **more: columns_of(report)):
                 self.assertEqual(printed(["check", "--json", "a"]), (report, "", status))
                 self.assertEqual(printed(["check", "--json", "a", "b"]), (report * 2, "", status))
-                self.assertEqual(printed(["check", "a", "b"])[0].split("\n")[-2], "NoGeoMetadata: w")
+                self.assertEqual(printed(["check", "a", "b"])[0].split("\n")[-2], "warning[NoGeoMetadata]: expected w")
 
     def test_lines_of_json_name_the_file(self):
         for name in ("stream.arrows", "geo.parquet", "columns.jsonl"):
@@ -177,10 +177,10 @@ class Printed(unittest.TestCase):
             with open(path, "rb") as file:
                 unnamed = check(file)
             named = check(path)
-            for ours, others in ((named, unnamed), (named.checks, unnamed.checks), (named.warnings, unnamed.warnings)):
+            for ours, others in ((named, unnamed), (named.findings, unnamed.findings)):
                 self.assertEqual([json.loads(one.json) for one in ours], [{**json.loads(one.json), "file": path} for one in others])
-            self.assertEqual(printed(["check", "--json", path])[0], "".join(f"{one.json}\n" for one in (*named, *named.checks, *named.warnings)))
-            self.assertNotIn('"file"', "".join(one.json for one in (*unnamed, *unnamed.checks, *unnamed.warnings)))
+            self.assertEqual(printed(["check", "--json", path])[0], "".join(f"{one.json}\n" for one in (*named, *named.findings)))
+            self.assertNotIn('"file"', "".join(one.json for one in (*unnamed, *unnamed.findings)))
 
 
 if __name__ == "__main__":

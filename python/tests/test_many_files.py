@@ -16,7 +16,7 @@ from unittest import mock
 
 from geoarrow_fields import files
 
-from .shared import BROKEN, CRS, DATA, TEXT, TOP
+from .shared import BROKEN, CRS, DATA, FOUND, TEXT, TOP
 
 SCRIPT = TOP / "examples/many_files.py"
 NO_JSON = "line 1, byte 1: is no JSON, or nests more than 127 levels"
@@ -48,14 +48,12 @@ class ManyFiles(unittest.TestCase):
             self.report("below/c", error="is empty"), self.report("d\n", 1), self.report("e", 1, ["g: linestring interleaved XYM"]),
             self.report("f", error=f"byte {(DATA / 'file.arrow').stat().st_size - 11}: no whole message"),
             self.report("g", error="No such file or directory"),
-            self.report("h", 3, ["geom: wkb - -", "place: wkb - -", "region: wkb - -"], checks=[
-                "GeoTypes of geom does not hold: geometry_types are different names of geometry types that fit the encoding",
-                "GeoBbox of geom does not hold: bbox is absent, or four or six numbers in order"])]
+            self.report("h", 3, ["geom: wkb - -", "place: wkb - -", "region: wkb - -"], FOUND[:2], FOUND[2:])]
 
-    def report(self, name, columns=0, geometries=(), invalid=(), checks=(), error=None):
+    def report(self, name, columns=0, geometries=(), errors=(), warnings=(), invalid=(), error=None):
         return {
-            "file": str(self.folder / name), "columns": columns, "geometries": list(geometries), "invalid": list(invalid), "checks": list(checks),
-            "warnings": [], "error": error}
+            "file": str(self.folder / name), "columns": columns, "geometries": list(geometries), "invalid": list(invalid), "errors": list(errors),
+            "warnings": list(warnings), "error": error}
 
     def ran(self, *words):
         """The reports, by the names of the files, the summary and the status."""
@@ -70,7 +68,7 @@ class ManyFiles(unittest.TestCase):
         found, last, status = self.ran("--with", way, self.folder)
         self.assertEqual(found, self.wanted)
         self.assertRegex(last, (
-            r"^8 files: 8 columns, 5 of them geometries; 1 files with invalid columns, 1 with checks that do not hold, 3 not read; \d+\.\d s$"))
+            r"^8 files: 8 columns, 5 of them geometries; 1 files with invalid columns, 1 with errors in metadata, 3 not read; \d+\.\d s$"))
         self.assertEqual(status, 2)
 
     def test_a_loop(self):

@@ -216,7 +216,7 @@ class Lines(unittest.TestCase):
     def test_no_lines_are_no_columns(self):
         for source in ([], (), Schema([])):
             found = check(source, infer=True, strict=True)
-            self.assertEqual((found, found.checks, found.warnings), ([], (), ()))
+            self.assertEqual((found, found.findings), ([], ()))
             self.assertEqual(repr(found), "column  holds  CRS  edges")
 
     def test_what_is_no_line(self):

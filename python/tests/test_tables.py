@@ -3,14 +3,16 @@ import html.parser
 import re
 import unittest
 
-from geoarrow_fields import Check, check
+from geoarrow_fields import Finding, check
 from geoarrow_fields.columns import columns_of
 
 from .shared import BROKEN, CRS, NO_GEO_METADATA, TEXT, TOP, with_crs
 
 COLUMN = '{"column":"t","index":0,"state":"plain","type":"utf8"}'
-CHECK = '{"check":"GeoBbox","column":"t","message":"m","ok":false,"path":["columns","t","bbox"]}'
-WARNING = '{"message":"%s","warning":"NoGeoMetadata"}' % NO_GEO_METADATA.message
+ERROR = '{"severity":"error","code":"GeoBbox","column":"t","in":"geo","pointer":"/columns/t/bbox","found":"[1]","expected":"m","help":"h?"}'
+NOTE = '{"severity":"note","code":"GeoNewVersion","in":"geo","pointer":"/version","found":"\\"2.0.0\\"","expected":"1.0.0 or 1.1.0"}'
+WHOLE = '{"severity":"error","code":"GeoNotObject","in":"geo","pointer":"","found":"[]","expected":"an object"}'
+WARNING = '{"severity":"warning","code":"NoGeoMetadata","expected":"%s"}' % NO_GEO_METADATA.expected
 
 
 class Cells(html.parser.HTMLParser):
@@ -81,25 +83,30 @@ t       taken for wkt - -                       planar""")
 
 
 class Behind(unittest.TestCase):
-    """What stands behind the lines of the columns: checks, and warnings of the file."""
+    """What stands behind the lines of the columns: findings."""
 
     def test_each_line_is_what_it_begins_as(self):
-        columns = columns_of(f"{COLUMN}\n{CHECK}\n{CHECK}\n{WARNING}\n")
+        columns = columns_of(f"{COLUMN}\n{ERROR}\n{ERROR}\n{WARNING}\n")
         self.assertEqual([one.name for one in columns], ["t"])
-        self.assertEqual(columns.checks, (Check("GeoBbox", "m", "t", ("columns", "t", "bbox")),) * 2)
-        self.assertEqual(columns.warnings, (NO_GEO_METADATA,))
-        self.assertEqual([one.json for one in (*columns, *columns.checks, *columns.warnings)], [COLUMN, CHECK, CHECK, WARNING])
+        error = Finding("error", "GeoBbox", "t", "geo", "/columns/t/bbox", "[1]", "m", "h?")
+        self.assertEqual(columns.findings, (error, error, NO_GEO_METADATA))
+        self.assertEqual([one.json for one in (*columns, *columns.findings)], [COLUMN, ERROR, ERROR, WARNING])
         for report in ("", f"{COLUMN}\n"):
             columns = columns_of(report)
-            self.assertEqual((len(columns), columns.checks, columns.warnings), (report.count("\n"), (), ()))
-        self.assertEqual((columns_of(f"{WARNING}\n"), columns_of(f"{WARNING}\n").warnings), ([], (NO_GEO_METADATA,)))
+            self.assertEqual((len(columns), columns.findings), (report.count("\n"), ()))
+        self.assertEqual((columns_of(f"{WARNING}\n"), columns_of(f"{WARNING}\n").findings), ([], (NO_GEO_METADATA,)))
 
     def test_words(self):
-        columns = columns_of(f"{COLUMN}\n{CHECK}\n{WARNING}\n")
-        behind = ["GeoBbox of t does not hold: m", "NoGeoMetadata: the file has columns of geometries, but no metadata of GeoParquet"]
+        columns = columns_of(f"{COLUMN}\n{ERROR}\n{NOTE}\n{WHOLE}\n{WARNING}\n")
+        behind = [
+            "error[GeoBbox] column t, geo /columns/t/bbox: found [1]; expected m. h?",
+            'note[GeoNewVersion] geo /version: found "2.0.0"; expected 1.0.0 or 1.1.0',
+            "error[GeoNotObject] geo: found []; expected an object",
+            "warning[NoGeoMetadata]: expected metadata of GeoParquet at the key geo"]
         self.assertEqual(repr(columns).split("\n")[2:], behind)
+        self.assertEqual([one.is_error for one in columns.findings], [True, False, True, False])
         found = Cells(columns._repr_html_())
-        self.assertEqual((found.cells[-2:], found.spans), (behind, [4] * 4))
+        self.assertEqual((found.cells[-4:], found.spans), (behind, [4] * 6))
 
 
 class Html(unittest.TestCase):

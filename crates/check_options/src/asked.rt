@@ -1,4 +1,5 @@
 //! What the words ask.
+use crate::codes::{codes_text, explained};
 use crate::command::command;
 use crate::flags::flags_of;
 use clap::error::ErrorKind;
@@ -9,7 +10,7 @@ use std::alloc::{AllocError, Global};
 /// What is said in place of a report.
 #[derive(Debug, Drop)]
 pub struct Said {
-    /// The lines: the help, the version, or why the words are refused.
+    /// The lines: the help, the version, codes, or why the words are refused.
     pub text: String,
     /// Whether the words are refused.
     pub is_refusal: bool,
@@ -28,14 +29,17 @@ impl Said {
     }
 }
 
-/// Returns what the words behind the name of the program ask; or the help or the version, where
-/// these are asked for; or why the words are refused, with `?` in place of their control
+/// Returns what the words behind the name of the program ask; or the help, the version or codes,
+/// where these are asked for; or why the words are refused, with `?` in place of their control
 /// characters. Errs only when out of memory.
 ///
 /// ```rust
 /// let words = vec![in alloc; String::from_str(alloc, "--ipc")?, String::from_str(alloc, "-")?]?;
 /// let asked = asked_by(alloc, words.as_slice())?;
 /// assert!(rt; matches!(asked, Ok(asked) if asked.flags.ipc && asked.files.len() == 1));
+/// let words = vec![in alloc; String::from_str(alloc, "--explain=GeoEpoch")?]?;
+/// let said = asked_by(alloc, words.as_slice())?;
+/// assert!(rt; matches!(said, Err(said) if said.text.as_str().starts_with("error[GeoEpoch]: ")));
 /// ```
 pub fn asked_by(alloc: Global, words: &[String]) -> Result<Result<Asked, Said>, AllocError> {
     match read_words(alloc, words)? {
@@ -63,6 +67,12 @@ fn read_words(alloc: Global, words: &[String]) -> Result<Result<Asked, Said>, Al
         Ok(matches) => matches,
         Err(error) => return Ok(Err(Said::of(alloc, &error)?)),
     };
+    if let Some(text) = codes_asked(alloc, &matches)? {
+        return Ok(Err(Said {
+            text,
+            is_refusal: false,
+        }));
+    }
     let reason = match asked_of(alloc, &matches)? {
         Ok(asked) => return Ok(Ok(asked)),
         Err(reason) => reason,
@@ -71,8 +81,22 @@ fn read_words(alloc: Global, words: &[String]) -> Result<Result<Asked, Said>, Al
     Ok(Err(Said::of(alloc, &error)?))
 }
 
+/// The codes that are asked for: all, or one that is known.
+fn codes_asked(alloc: Global, matches: &ArgMatches<'_>) -> Result<Option<String>, AllocError> {
+    if matches.get_flag("codes") {
+        return Ok(Some(codes_text(alloc)?));
+    }
+    match matches.get_str("explain") {
+        Some(word) => explained(alloc, word),
+        None => Ok(None),
+    }
+}
+
 /// What is asked; or why it cannot be done.
 fn asked_of(alloc: Global, matches: &ArgMatches<'_>) -> Result<Result<Asked, String>, AllocError> {
+    if let Some(word) = matches.get_str("explain") {
+        return Ok(Err(format!(in alloc; "'{word}' is no code")?));
+    }
     let mut wants = Vec::new(alloc);
     for word in matches.get_strs("expect").unwrap_or(&[]) {
         match word.split_once('=') {

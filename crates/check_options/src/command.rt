@@ -9,8 +9,8 @@ const AFTER: &str = "--json, --lines and --ipc exclude one another.
 commas between: a kind, a coordinate type, a dimension, an encoding (native, WKB, WKT), a CRS;
 as outline=point,XY,EPSG:4326.
 
-Status: 0 if no column is invalid, each check holds and all that is expected is met, 1 otherwise,
-2 if a file or the words cannot be read or the output fails,
+Status: 0 if no column is invalid, no finding is an error and all that is expected is met, 1
+otherwise, 2 if a file or the words cannot be read or the output fails,
 141 if nobody reads the output any more.";
 
 /// An option that stands alone.
@@ -39,12 +39,10 @@ fn with_outputs<'a>(alloc: Global, command: Command<'a>) -> Result<Command<'a>, 
 /// The options that add to what is said.
 fn with_more<'a>(alloc: Global, command: Command<'a>) -> Result<Command<'a>, AllocError> {
     let infer = "Infer a type for columns without an extension name";
-    let notes = "Also warn of what is allowed: a number in a CRS that is not whole";
-    let all_checks = "Also print the checks of GeoParquet metadata that hold";
+    let notes = "Also print notes: of what is allowed, and only worth to know";
     command
         .arg(flag(alloc, "infer", infer))?
-        .arg(flag(alloc, "notes", notes))?
-        .arg(flag(alloc, "all-checks", all_checks))
+        .arg(flag(alloc, "notes", notes))
 }
 
 /// The options for which the status counts.
@@ -65,13 +63,26 @@ fn with_demands<'a>(alloc: Global, command: Command<'a>) -> Result<Command<'a>, 
         )
 }
 
+/// The options that are answered without a file.
+fn with_codes<'a>(alloc: Global, command: Command<'a>) -> Result<Command<'a>, AllocError> {
+    let codes = "Print the codes of findings, and read no file";
+    let explain = "Print what a code stands for, and read no file";
+    command.arg(flag(alloc, "codes", codes))?.arg(
+        Arg::new(alloc, "explain")
+            .long("explain")
+            .value_name("CODE")
+            .help(explain)
+            .action(ArgAction::Set),
+    )
+}
+
 /// The command: its options, and the files.
 pub(crate) fn command<'a>(alloc: Global) -> Result<Command<'a>, AllocError> {
     let command = Command::new(alloc, "geoarrow_check")
         .version("2.0.0 (rattle-kit-13f)")
         .about(
             "Says what each column of each file holds, and why it is invalid;
-and which checks of GeoParquet metadata do not hold",
+and what is wrong with GeoParquet metadata",
         )
         .after_help(AFTER)
         .no_binary_name(true)
@@ -79,13 +90,15 @@ and which checks of GeoParquet metadata do not hold",
     let command = with_outputs(alloc, command)?;
     let command = with_more(alloc, command)?;
     let command = with_demands(alloc, command)?;
+    let command = with_codes(alloc, command)?;
     command.arg(
         Arg::new(alloc, "FILE")
             .help(
                 "An Arrow file (Feather), an Arrow stream, a Parquet file, or lines of fields;
 - is standard input",
             )
-            .required(true)
+            .required_unless_present("codes")?
+            .required_unless_present("explain")?
             .action(ArgAction::Append),
     )
 }

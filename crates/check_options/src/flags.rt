@@ -10,7 +10,6 @@ pub(crate) fn flags_of(matches: &ArgMatches<'_>) -> Flags {
         ipc: matches.get_flag("ipc"),
         infer: matches.get_flag("infer"),
         notes: matches.get_flag("notes"),
-        all_checks: matches.get_flag("all-checks"),
         quiet: matches.get_flag("quiet"),
         require_geometry: matches.get_flag("require-geometry"),
     }

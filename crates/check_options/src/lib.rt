@@ -2,6 +2,7 @@
 #![tactic(auto)]
 
 mod asked;
+mod codes;
 mod command;
 mod flags;
 

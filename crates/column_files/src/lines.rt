@@ -13,8 +13,9 @@ use memchr::memchr;
 use std::alloc::{AllocError, Global};
 
 /// Returns the columns that the lines of a text denote (docs/FORMAT.md, 2.7); no columns where
-/// there are no lines, or blank ones alone. A byte order mark before them is passed over. Errs with `NoField` at the first line that is not blank
-/// and denotes no column, with how many lines stand before it, and why; and when out of memory.
+/// there are no lines, or blank ones alone. A byte order mark before them is passed over. Errs with
+/// `NoField` at the first line that is not blank and denotes no column, with how many lines stand
+/// before it, and why; and when out of memory.
 ///
 /// ```rust
 /// let columns = columns_of_lines(alloc, b" \n");

@@ -1,12 +1,10 @@
 -- The lines of a report, from those of its columns; and the report of a file, from the file that was opened.
-use Rattle.std.proofs.Common.{◌≡◌, ◌++◌, ◌<◌, ℕ, false, List, length, map, Option, Result, Ok, Err, inl, inr, ap, arith}
+use Rattle.std.proofs.Common.{◌++◌, ℕ, List, length, Option, Result, Ok, Err, inl, inr, arith}
 use Rattle.std.proofs.lemmas.List.{length-append}
 use Rattle.std.specs.Prelude.{String}
 use Rattle.std.specs.declared.alloc.Global.{Global}
 use Rattle.arrow_values.specs.Tree.{Text}
-use Rattle.column_files.specs.Files.{IsOpened}
 use Rattle.column_files.specs.declared.columns.FileFault.{FileFault}
-use Rattle.column_files.specs.declared.columns.FileFault.TheVariants.{ReportTooLarge}
 use Rattle.parquet_columns.specs.Budget.{budget}
 use Rattle.column_reports.specs.FileReport.{IsReportOf, IsWithin, Reports, report_text}
 use Rattle.column_reports.specs.declared.file.FileReport.{FileReport}
@@ -19,6 +17,6 @@ longer limit front back fault (inr (large, past)) = inr (large, omega (arith, pa
 
 -- the lines of the report of the file that was opened are those of the bytes
 pub of_bytes : (file : Option Text) (o : Options) (bytes : List ℕ) (r : FileReport) (result : Result (String Global) FileFault) → IsReportOf o bytes r
-    → IsWithin (budget (length bytes)) (report_text file false r) result → Reports file o bytes result
+    → IsWithin (budget (length bytes)) (report_text file o.notes r) result → Reports file o bytes result
 of_bytes file o bytes r (Ok lines) is within = (r, is, within)
 of_bytes file o bytes r (Err fault) is within = inr (inr (r, is, within))

@@ -1,5 +1,5 @@
--- The report of a file: its columns with what is said of each, and the checks of its GeoParquet metadata; and its lines of JSON.
-use Rattle.std.specs.Prelude.{◌≡◌, ◌⊎◌, ◌<◌, ◌≤◌, ◌+◌, ◌++◌, ℕ, ⊤, Bool, false, List, [], ◌∷◌, codes, length, map, Option, None, Some, option_map, Result, Ok, Err, String, string_bytes, if◌then◌else◌}
+-- The report of a file: its columns with what is said of each, and what is found in its GeoParquet metadata; and its lines of JSON.
+use Rattle.std.specs.Prelude.{◌≡◌, ◌⊎◌, ◌<◌, ◌≤◌, ◌+◌, ◌++◌, ℕ, ⊤, Bool, List, [], ◌∷◌, codes, length, map, Option, None, Some, Result, Ok, Err, String, string_bytes, if◌then◌else◌}
 use Rattle.std.specs.Global.{Global}
 use Rattle.json.specs.Print.{print}
 use Rattle.json.specs.Tree.{json_tokens}
@@ -12,7 +12,7 @@ use Rattle.column_files.specs.declared.form.Form.TheVariants.{Parquet}
 use Rattle.column_files.specs.declared.opening.File.{File}
 use Rattle.column_files.specs.declared.columns.FileFault.{FileFault}
 use Rattle.column_files.specs.declared.columns.FileFault.TheVariants.{ReportTooLarge, OutOfMemory}
-use Rattle.geoparquet.specs.declared.finding.GeoFinding.{GeoFinding}
+use Rattle.geoparquet.specs.declared.finding.GeoReport.{GeoReport}
 use Rattle.parquet_columns.specs.Budget.{budget}
 use Rattle.column_reports.specs.Checks.{AreByMetadata, has_failed}
 use Rattle.column_reports.specs.Columns.{IsColumnReport}
@@ -30,9 +30,6 @@ AreReported o [] [] = ⊤
 AreReported o (c ∷ cs) (r ∷ rs) = IsColumnReport o c r × AreReported o cs rs
 AreReported o _ _ = ⊥
 
-abbrev pub findings_in : FileReport → Option (List GeoFinding)
-findings_in r = option_map (λ fs. fs.items) r.findings
-
 -- the report of a file in that format, which has that text at the key `geo`, if any, and denotes these columns
 pub record IsReport (o : Options) (form : Form) (geo : Option Text) (cs : List ColumnTree) (r : FileReport) : Type 0 where
   pub form_is : r.form ≡ form
@@ -40,7 +37,7 @@ pub record IsReport (o : Options) (form : Form) (geo : Option Text) (cs : List C
   pub by : List ColumnTree
   pub are : AreByMetadata geo cs r.findings by
   pub columns : AreReported o by r.columns.items
-  pub summary : IsSummary r.columns.items (has_failed (findings_in r)) r.summary
+  pub summary : IsSummary r.columns.items (has_failed r.findings) r.summary
 
 -- ---- as lines of JSON
 
@@ -57,17 +54,17 @@ abbrev pub warning_in : Option Text → Form → Bool → Text
 warning_in file Parquet has_geometry = if has_geometry then no_geo_text file ++ codes "\n" else []
 warning_in file form has_geometry = []
 
--- what stands behind the lines of the columns: those of the checks; or, where there are none, the warning
-abbrev pub behind_in : Option Text → Bool → Option (List GeoFinding) → Form → Bool → Text
-behind_in file all (Some fs) form has_geometry = lines_text file all fs
-behind_in file all None form has_geometry = warning_in file form has_geometry
+-- what stands behind the lines of the columns: those of the findings; or, where there are no metadata, the warning
+abbrev pub behind_in : Option Text → Bool → Option GeoReport → Form → Bool → Text
+behind_in file notes (Some report) form has_geometry = lines_text file report.version notes report.findings.items
+behind_in file notes None form has_geometry = warning_in file form has_geometry
 
 abbrev pub behind : Option Text → Bool → FileReport → Text
-behind file all r = behind_in file all (findings_in r) r.form r.summary.has_geometry
+behind file notes r = behind_in file notes r.findings r.form r.summary.has_geometry
 
--- the lines of a report, of the checks those that do not hold or all
+-- the lines of a report, with those of notes or without
 abbrev pub report_text : Option Text → Bool → FileReport → Text
-report_text file all r = lines_of file 0 r.columns.items ++ behind file all r
+report_text file notes r = lines_of file 0 r.columns.items ++ behind file notes r
 
 -- what a call answers of a text within a limit of bytes: the text; or that it has more, or that memory is lacking
 abbrev pub IsWithin : ℕ → Text → Result (String Global) FileFault → Type 0
@@ -84,7 +81,7 @@ pub record IsReportOf (o : Options) (bytes : List ℕ) (r : FileReport) : Type 0
 
 -- what a call answers of the bytes of a file: the lines of its report within the budget of the bytes; or why there are none
 abbrev pub ReportsOf : Option Text → Options → List ℕ → Result (String Global) FileFault → Type 0
-ReportsOf file o bytes result = (r : FileReport) × IsReportOf o bytes r × IsWithin (budget (length bytes)) (report_text file false r) result
+ReportsOf file o bytes result = (r : FileReport) × IsReportOf o bytes r × IsWithin (budget (length bytes)) (report_text file o.notes r) result
 
 abbrev pub Reports : Option Text → Options → List ℕ → Result (String Global) FileFault → Type 0
 Reports file o bytes (Ok lines) = ReportsOf file o bytes (Ok lines)

@@ -1,42 +1,47 @@
--- The findings on the metadata of GeoParquet as lines of JSON.
-use Rattle.std.specs.Prelude.{◌||◌, not, Bool, List, [], ◌∷◌, ◌++◌, codes, map, Option, None, Some, option_map, string_bytes, if◌then◌else◌}
-use Rattle.json.specs.Token.{Token, begin_object, end_object, begin_array, end_array, key, string, boolean}
+-- Findings on the metadata of GeoParquet as lines of JSON (docs/FORMAT.md, 5.1).
+use Rattle.std.specs.Prelude.{Bool, List, [], ◌∷◌, ◌++◌, codes, Option, Some, option_map, string_bytes, if◌then◌else◌}
+use Rattle.json.specs.Json.{Json}
 use Rattle.json.specs.Print.{print}
+use Rattle.json.specs.Tree.{json_tokens}
 use Rattle.arrow_values.specs.Tree.{Text}
-use Rattle.geoparquet.specs.Words.{code_of, message_of, path_of}
+use Rattle.geoparquet.specs.Codes.{code_of, severity_of}
+use Rattle.geoparquet.specs.Weights.{is_shown}
+use Rattle.geoparquet.specs.Words.{severity_text, expected_text, help_text}
 use Rattle.geoparquet.specs.declared.finding.GeoFinding.{GeoFinding}
+use Rattle.geoparquet.specs.declared.finding.Version.{Version}
+use Rattle.column_reports.specs.Objects.{object_of}
+use Rattle.column_reports.specs.Report.{string_if}
 
--- the tokens of a member whose value is a text, if there is one
-abbrev pub text_tokens : Text → Option Text → List Token
-text_tokens name None = []
-text_tokens name (Some s) = key name ∷ string s ∷ []
+-- what is said of a finding: the rule and the file, the place, and what stands there
+abbrev pub rule_members : Option Text → GeoFinding → List (Text × Json)
+rule_members file f =
+    string_if (codes "severity") (Some (severity_text (severity_of f.code)))
+    ++ string_if (codes "code") (Some (code_of f.code))
+    ++ string_if (codes "file") file
 
--- the tokens of the path
-abbrev pub path_tokens : List Text → List Token
-path_tokens path = (key (codes "path") ∷ []) ++ ((begin_array ∷ []) ++ (map string path ++ end_array ∷ []))
+abbrev pub place_members : GeoFinding → List (Text × Json)
+place_members f =
+    string_if (codes "column") (option_map string_bytes f.column)
+    ++ string_if (codes "in") (Some (codes "geo"))
+    ++ string_if (codes "pointer") (Some (string_bytes f.pointer))
 
--- the tokens of a finding with a path: an object with its members in the order of their keys
-abbrev pub finding_tokens : Option Text → GeoFinding → List Text → List Token
-finding_tokens file f path =
-    (begin_object ∷ [])
-    ++ (text_tokens (codes "check") (Some (code_of f.check))
-    ++ (text_tokens (codes "column") (option_map string_bytes f.column)
-    ++ (text_tokens (codes "file") file
-    ++ (text_tokens (codes "message") (Some (message_of f.check))
-    ++ ((key (codes "ok") ∷ boolean f.ok ∷ [])
-    ++ (path_tokens path
-    ++ end_object ∷ []))))))
+abbrev pub words_members : Version → GeoFinding → List (Text × Json)
+words_members version f =
+    string_if (codes "found") (option_map string_bytes f.found)
+    ++ string_if (codes "expected") (Some (expected_text version f.code (option_map string_bytes f.wanted)))
+    ++ string_if (codes "help") (help_text version f.code (option_map string_bytes f.found))
 
-abbrev pub line_tokens : Option Text → GeoFinding → List Token
-line_tokens file f = finding_tokens file f (path_of f.check (option_map string_bytes f.column))
+-- a finding on metadata of a version: an object of these
+abbrev pub finding_value : Option Text → Version → GeoFinding → Json
+finding_value file version f = object_of (rule_members file f ++ place_members f ++ words_members version f)
 
-abbrev pub line_text : Option Text → GeoFinding → Text
-line_text file f = print (line_tokens file f)
+abbrev pub line_text : Option Text → Version → GeoFinding → Text
+line_text file version f = print (json_tokens (finding_value file version f))
 
--- the line with its line feed, where the check does not hold or all are asked for
-abbrev pub shown_text : Option Text → Bool → GeoFinding → Text
-shown_text file all f = if all || not f.ok then line_text file f ++ codes "\n" else []
+-- the line with its line feed, where the finding is shown
+abbrev pub shown_text : Option Text → Version → Bool → GeoFinding → Text
+shown_text file version notes f = if is_shown notes f then line_text file version f ++ 10 ∷ [] else []
 
-abbrev pub lines_text : Option Text → Bool → List GeoFinding → Text
-lines_text file all [] = []
-lines_text file all (f ∷ fs) = shown_text file all f ++ lines_text file all fs
+abbrev pub lines_text : Option Text → Version → Bool → List GeoFinding → Text
+lines_text file version notes [] = []
+lines_text file version notes (f ∷ fs) = shown_text file version notes f ++ lines_text file version notes fs

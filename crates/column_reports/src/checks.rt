@@ -1,29 +1,28 @@
-//! The checks of a Parquet file's GeoParquet metadata, and the columns that it has by them.
-ghost use Rattle.std.specs.Prelude.{◌≡◌, false, IfOk, map, option_map};
-ghost use Rattle.std.specs.List.{list_any};
+//! What is found in a Parquet file's GeoParquet metadata, and the columns that it has by them.
+ghost use Rattle.std.specs.Prelude.{◌≡◌, IfOk, map};
 ghost use Rattle.arrow_values.specs.Texts.{text_of};
 ghost use Rattle.arrow_columns.specs.Column.{column_tree};
-ghost use Rattle.column_reports.specs.Checks.{is_failed, has_failed, AreChecked};
+ghost use Rattle.column_reports.specs.Checks.{has_failed, AreChecked};
 
 use arrow_columns::SchemaColumn;
-use geoparquet::{GeoFinding, check_geo, geo_columns};
+use geoparquet::{GeoReport, check_geo, geo_columns};
 use std::alloc::{AllocError, Global};
 
-/// The columns that a Parquet file has by its GeoParquet metadata, and what the rules of GeoParquet
-/// say of these metadata.
+/// The columns that a Parquet file has by its GeoParquet metadata, and what is found in these
+/// metadata.
 #[derive(Debug, Drop)]
 pub(crate) struct Checked {
     /// The columns, as `geo_columns` of `geoparquet` answers them.
     pub(crate) columns: Vec<SchemaColumn>,
-    /// What the rules say, as `check_geo` of `geoparquet` answers it of the columns that the file
+    /// What is found, as `check_geo` of `geoparquet` answers it of the columns that the file
     /// denotes; none where the file has no text at the key `geo`. The columns are then those that
     /// the file denotes.
-    pub(crate) findings: Option<Vec<GeoFinding>>,
+    pub(crate) findings: Option<GeoReport>,
 }
 
 /// Returns what a file that denotes these columns has by the text of its GeoParquet metadata: its
-/// columns (docs/FORMAT.md, 5.2), and the checks of the metadata (docs/FORMAT.md, 5). Errs only when
-/// out of memory.
+/// columns (docs/FORMAT.md, 5.2), and what is found in the metadata (docs/FORMAT.md, 5). Errs only
+/// when out of memory.
 pub(crate) fn checked_columns(
     alloc: Global,
     geo: Option<&str>,
@@ -45,20 +44,13 @@ pub(crate) fn checked_columns(
     })
 }
 
-/// Returns whether one of the checks of a file does not hold; of a file without GeoParquet metadata
-/// there are none.
-pub(crate) fn has_failed(findings: &Option<Vec<GeoFinding>>) -> bool
-    ensures { result ≡ has_failed (option_map (λ fs. fs.items) findings.now) }
+/// Returns whether what is found in a file is an error, or some of it; of a file without GeoParquet
+/// metadata nothing is.
+pub(crate) fn has_failed(findings: &Option<GeoReport>) -> bool
+    ensures { result ≡ has_failed findings.now }
 {
     match findings {
-        Some(findings) => is_one_failed(findings.as_slice()),
+        Some(report) => report.has_error(),
         None => false,
     }
-}
-
-/// Whether one of these checks does not hold.
-fn is_one_failed(findings: &[GeoFinding]) -> bool
-    ensures { result ≡ list_any is_failed findings.now }
-{
-    findings.iter().any(|finding| !finding.ok)
 }

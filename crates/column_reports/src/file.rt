@@ -12,7 +12,7 @@ use crate::report::{ColumnReport, Options, report_column};
 use crate::summary::Summary;
 use arrow_columns::SchemaColumn;
 use column_files::{File, FileFault, Form, open};
-use geoparquet::GeoFinding;
+use geoparquet::GeoReport;
 use json::Scratch;
 use parquet_columns::report_budget;
 use std::alloc::{AllocError, Global};
@@ -24,16 +24,16 @@ pub struct FileReport {
     pub form: Form,
     /// Its columns, by its GeoParquet metadata (docs/FORMAT.md, 5.2), each with what is said of it.
     pub columns: Vec<ColumnReport>,
-    /// What the rules of GeoParquet say of its metadata (docs/FORMAT.md, 5); none where it has no
-    /// text at the key `geo`.
-    pub findings: Option<Vec<GeoFinding>>,
-    /// What counts of the columns and of the checks.
+    /// What is found in its GeoParquet metadata (docs/FORMAT.md, 5); none where it has no text at the
+    /// key `geo`.
+    pub findings: Option<GeoReport>,
+    /// What counts of the columns and of the findings.
     pub summary: Summary,
 }
 
 /// Returns the report of a file that was opened: what each of its columns holds and what is doubtful
-/// of it, where the columns are those by its GeoParquet metadata; and what the rules of GeoParquet
-/// say of these. Errs only when out of memory.
+/// of it, where the columns are those by its GeoParquet metadata; and what is found in these. Errs
+/// only when out of memory.
 ///
 /// ```rust
 /// let bytes = br#"{"name":"id","nullable":true,"type":"int64"}"#;
@@ -79,7 +79,7 @@ fn report_columns(
     Ok(reported)
 }
 
-/// Returns what counts of columns, and of whether one of their checks does not hold.
+/// Returns what counts of columns, and of whether a finding is an error.
 fn summary_of(columns: &[ColumnReport], has_failed: bool) -> Summary
     ensures invalid { result.has_invalid ≡ list_any (λ r. is_invalid r.finding) columns.now }
     ensures geometry { result.has_geometry ≡ list_any (λ r. is_geometry r.finding) columns.now }
@@ -106,10 +106,11 @@ fn is_one_geometry(columns: &[ColumnReport]) -> bool
     columns.iter().any(|said| said.finding.is_geometry())
 }
 
-/// Returns the report of a file, from its bytes, as lines of JSON: what each of its columns holds and
-/// what is doubtful of it; and behind these lines one for each check of GeoParquet metadata that does
-/// not hold, or, where a Parquet file has no such metadata and a column holds geometries, the line of
-/// a warning (docs/FORMAT.md, 2.5 and 5.1). `file` is the name that the lines give the file, if any.
+/// Returns the report of a file, from its bytes, as lines of JSON: what each of its columns holds
+/// and what is doubtful of it; and behind these lines one for each finding in its GeoParquet
+/// metadata, of notes where notes are asked for; or, where a Parquet file has no such metadata and a
+/// column holds geometries, the line of a warning (docs/FORMAT.md, 2.5 and 5.1). `file` is the name
+/// that the lines give the file, if any.
 ///
 /// Errs as `open` of `column_files` does; with `ReportTooLarge` where the lines have more bytes than
 /// `report_budget` of the length of the file (docs/FORMAT.md, 2.5); and when out of memory.
@@ -133,7 +134,7 @@ pub fn report_file(
     match open(alloc, bytes) {
         Ok(opened) => {
             let report = report_of(alloc, opened, options)?;
-            json_lines(alloc, file, &report, false, limit)
+            json_lines(alloc, file, &report, options.notes, limit)
         }
         Err(fault) => Err(fault),
     }

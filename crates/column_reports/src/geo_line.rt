@@ -1,103 +1,106 @@
 //! The line of a finding.
-ghost use Rattle.std.specs.Prelude.{◌≡◌, ◌≢◌, All, ◌∷◌, [], ◌++◌, IfOk, OnOk, Some, codes, map, option_map, string_bytes};
-ghost use Rattle.json.specs.Token.{key, string, boolean};
+ghost use Rattle.std.specs.Prelude.{◌≡◌, ◌≢◌, All, IfOk, OnOk, option_map, string_bytes};
 ghost use Rattle.arrow_values.specs.Texts.{text_of};
+ghost use Rattle.json.specs.Tree.{json_tokens};
 ghost use Rattle.value_tokens.specs.Adds.{Adds};
-ghost use Rattle.column_reports.specs.GeoLines.{text_tokens, path_tokens, finding_tokens, line_text};
+ghost use Rattle.column_reports.specs.Objects.{AddsMembers};
+ghost use Rattle.column_reports.specs.GeoLines.{rule_members, place_members, words_members};
+ghost use Rattle.column_reports.specs.GeoLines.{finding_value, line_text};
 
-use geoparquet::GeoFinding;
+use crate::put::{put_text, put_text_if};
+use geoparquet::{GeoFinding, Version};
 use json::Writer;
 use std::alloc::{AllocError, Global};
 use value_tokens::text_of;
 
-/// Returns the line of a finding: a JSON object with the keys `check`, `column`, `file`, `message`,
-/// `ok` and `path`, in this order and without blanks (`docs/FORMAT.md`, 5.1), and without a line
-/// feed. `column` is left out of a finding on all the metadata, and `file` where none is named. Errs
-/// only when out of memory.
+/// Returns the line of a finding on metadata of a version: a JSON object with the keys `severity`,
+/// `code`, `file`, `column`, `in`, `pointer`, `found`, `expected` and `help`, in this order and
+/// without blanks (docs/FORMAT.md, 5.1), and without a line feed. What does not apply is left out,
+/// and `file` where none is named. Errs only when out of memory.
 ///
 /// ```rust
-/// let finding = GeoFinding { check: GeoCheck::Version, column: None, ok: true };
-/// let line = check_line(alloc, None, &finding)?;
-/// assert_eq!(rt; line.as_str(), r#"{"check":"GeoVersion","message":"version is a text","ok":true,"path":["version"]}"#);
+/// let finding = GeoFinding {
+///     code: GeoCode::Version,
+///     column: None,
+///     pointer: String::from_str(alloc, "/version")?,
+///     found: Some(String::from_str(alloc, "1")?),
+///     wanted: None,
+/// };
+/// let line = finding_line(alloc, None, Version::V1_1, &finding)?;
+/// let text = r#"{"severity":"error","code":"GeoVersion","in":"geo","pointer":"/version","found":"1","expected":"1.1.0","help":"The rules of 1.1.0 are used."}"#;
+/// assert_eq!(rt; line.as_str(), text);
 /// ```
-pub fn check_line(
+pub fn finding_line(
     alloc: Global,
     file: Option<&str>,
+    version: Version,
     finding: &GeoFinding,
 ) -> Result<String, AllocError>
-    ensures text { IfOk result (λ line. string_bytes line ≡ line_text (text_of file.entry) finding.now) }
+    ensures text { IfOk result (λ line. string_bytes line ≡ line_text (text_of file.entry) version finding.now) }
     ensures one_line { IfOk result (λ line. All (λ b. b ≢ 10) (string_bytes line)) }
 {
-    let path = finding.path(alloc)?;
     let mut out = Writer::new(Vec::new(alloc));
-    put_finding(&mut out, file, finding, path.as_slice())?;
+    put_finding(alloc, &mut out, file, version, finding)?;
     Ok(text_of(out))
 }
 
-/// Writes the object of a finding with that path.
+/// Writes the object of a finding.
 fn put_finding(
+    alloc: Global,
     out: &mut Writer,
     file: Option<&str>,
+    version: Version,
     finding: &GeoFinding,
-    path: &[String],
 ) -> Result<(), AllocError>
-    ensures { OnOk result (Adds (finding_tokens (text_of file.entry) finding.now (map string_bytes path.now)) out.old out.new) }
+    ensures { OnOk result (Adds (json_tokens (finding_value (text_of file.entry) version finding.now)) out.old out.new) }
 {
     out.begin_object()?;
-    put_text(out, "check", Some(finding.check.code()))?;
-    put_text(out, "column", column_of(finding))?;
-    put_text(out, "file", file)?;
-    put_text(out, "message", Some(finding.check.message()))?;
-    put_ok(out, finding.ok)?;
-    put_path(out, path)?;
+    put_rule(out, file, finding)?;
+    put_place(out, finding)?;
+    put_words(alloc, out, version, finding)?;
     out.end_object()
 }
 
-/// The column that a finding is on.
-fn column_of(finding: &GeoFinding) -> Option<&str>
-    ensures { text_of result ≡ option_map string_bytes finding.now.column }
+/// Writes the rule, and the file.
+fn put_rule(out: &mut Writer, file: Option<&str>, finding: &GeoFinding) -> Result<(), AllocError>
+    ensures { OnOk result (AddsMembers (rule_members (text_of file.entry) finding.now) out.old out.new) }
 {
-    match &finding.column {
-        Some(column) => Some(column.as_str()),
+    put_text(out, "severity", finding.code.severity().word())?;
+    put_text(out, "code", finding.code.code())?;
+    put_text_if(out, "file", file)
+}
+
+/// Writes the place.
+fn put_place(out: &mut Writer, finding: &GeoFinding) -> Result<(), AllocError>
+    ensures { OnOk result (AddsMembers (place_members finding.now) out.old out.new) }
+{
+    put_text_if(out, "column", text_in(&finding.column))?;
+    put_text(out, "in", "geo")?;
+    put_text(out, "pointer", finding.pointer.as_str())
+}
+
+/// Writes what is found, what is expected, and what helps.
+fn put_words(
+    alloc: Global,
+    out: &mut Writer,
+    version: Version,
+    finding: &GeoFinding,
+) -> Result<(), AllocError>
+    ensures { OnOk result (AddsMembers (words_members version finding.now) out.old out.new) }
+{
+    let expected = finding.expected(alloc, version)?;
+    let help = finding.help(alloc, version)?;
+    put_text_if(out, "found", text_in(&finding.found))?;
+    put_text(out, "expected", expected.as_str())?;
+    put_text_if(out, "help", text_in(&help))
+}
+
+/// A text, if there is one.
+fn text_in(text: &Option<String>) -> Option<&str>
+    ensures { text_of result ≡ option_map string_bytes text.now }
+{
+    match text {
+        Some(text) => Some(text.as_str()),
         None => None,
     }
-}
-
-/// Writes a member whose value is a text, if there is one.
-pub(crate) fn put_text(out: &mut Writer, name: &str, text: Option<&str>) -> Result<(), AllocError>
-    ensures { OnOk result (Adds (text_tokens name.now (text_of text.entry)) out.old out.new) }
-{
-    if let Some(text) = text {
-        out.key(name)?;
-        return out.string(text);
-    }
-    Ok(())
-}
-
-/// Writes whether the check holds.
-fn put_ok(out: &mut Writer, ok: bool) -> Result<(), AllocError>
-    ensures { OnOk result (Adds (key (codes "ok") ∷ boolean ok ∷ []) out.old out.new) }
-{
-    out.key("ok")?;
-    out.boolean(ok)
-}
-
-/// Writes the path.
-fn put_path(out: &mut Writer, path: &[String]) -> Result<(), AllocError>
-    ensures { OnOk result (Adds (path_tokens (map string_bytes path.now)) out.old out.new) }
-{
-    out.key("path")?;
-    out.begin_array()?;
-    put_names(out, path)?;
-    out.end_array()
-}
-
-/// Writes the names of a path.
-fn put_names(out: &mut Writer, path: &[String]) -> Result<(), AllocError>
-    ensures { OnOk result (Adds (map (λ name. string (string_bytes name)) path.now) out.old out.new) }
-{
-    for name in path {
-        out.string(name.as_str())?;
-    }
-    Ok(())
 }

@@ -3,32 +3,52 @@ ghost use Rattle.std.specs.Prelude.{◌≡◌, ◌++◌, IfOk, OnOk, string_byte
 ghost use Rattle.arrow_values.specs.Texts.{text_of};
 ghost use Rattle.column_reports.specs.GeoLines.{shown_text, lines_text};
 
-use crate::geo_line::check_line;
-use geoparquet::GeoFinding;
+use crate::geo_line::finding_line;
+use geoparquet::{GeoFinding, GeoReport, Version};
 use std::alloc::{AllocError, Global};
 
-/// Returns the lines of findings, each with a line feed: of those whose check does not hold, or with
-/// `all` of all. `file` is the name that the lines give the file, if any. Errs only when out of
-/// memory.
+/// Returns the lines of the findings that are shown, each with a line feed: of errors and
+/// warnings, and with `notes` of notes too. `file` is the name that the lines give the file, if
+/// any. Errs only when out of memory.
 ///
 /// ```rust
-/// let mut findings = Vec::new(alloc);
-/// findings.push(GeoFinding { check: GeoCheck::Version, column: None, ok: true })?;
-/// findings.push(GeoFinding { check: GeoCheck::Object, column: None, ok: false })?;
-/// assert_eq!(rt; check_lines(alloc, None, findings.as_slice(), false)?.as_str().lines().count(), 1);
-/// assert_eq!(rt; check_lines(alloc, None, findings.as_slice(), true)?.as_str().lines().count(), 2);
+/// let pointer = String::from_str(alloc, "/version")?;
+/// let code = GeoCode::NewVersion;
+/// let note = GeoFinding { code, column: None, pointer, found: None, wanted: None };
+/// let report = GeoReport { version: Version::V1_1, findings: vec![in alloc; note]? };
+/// assert_eq!(rt; finding_lines(alloc, None, &report, false)?.as_str().lines().count(), 0);
+/// assert_eq!(rt; finding_lines(alloc, None, &report, true)?.as_str().lines().count(), 1);
 /// ```
-pub fn check_lines(
+pub fn finding_lines(
     alloc: Global,
     file: Option<&str>,
-    findings: &[GeoFinding],
-    all: bool,
+    report: &GeoReport,
+    notes: bool,
 ) -> Result<String, AllocError>
-    ensures { IfOk result (λ text. string_bytes text ≡ lines_text (text_of file.entry) all findings.now) }
+    ensures { IfOk result (λ text. string_bytes text ≡ lines_text (text_of file.entry) report.now.version notes report.now.findings.items) }
+{
+    lines_of(
+        alloc,
+        file,
+        report.version,
+        report.findings.as_slice(),
+        notes,
+    )
+}
+
+/// The lines of findings on metadata of a version.
+fn lines_of(
+    alloc: Global,
+    file: Option<&str>,
+    version: Version,
+    findings: &[GeoFinding],
+    notes: bool,
+) -> Result<String, AllocError>
+    ensures { IfOk result (λ text. string_bytes text ≡ lines_text (text_of file.entry) version notes findings.now) }
 {
     let mut text = String::new(alloc);
     for finding in findings {
-        add_shown(alloc, &mut text, file, finding, all)?;
+        add_shown(alloc, &mut text, file, version, finding, notes)?;
     }
     Ok(text)
 }
@@ -38,13 +58,14 @@ fn add_shown(
     alloc: Global,
     text: &mut String,
     file: Option<&str>,
+    version: Version,
     finding: &GeoFinding,
-    all: bool,
+    notes: bool,
 ) -> Result<(), AllocError>
-    ensures { OnOk result (string_bytes text.new ≡ string_bytes text.old ++ shown_text (text_of file.entry) all finding.now) }
+    ensures { OnOk result (string_bytes text.new ≡ string_bytes text.old ++ shown_text (text_of file.entry) version notes finding.now) }
 {
-    if all || !finding.ok {
-        let line = check_line(alloc, file, finding)?;
+    if finding.is_shown(notes) {
+        let line = finding_line(alloc, file, version, finding)?;
         text.push_str(line.as_str())?;
         text.push_str("\n")?;
     }

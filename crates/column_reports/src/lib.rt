@@ -23,9 +23,9 @@ mod words;
 
 pub use fault::{fault_line, fault_text};
 pub use file::{FileReport, report_file, report_of};
-pub use geo_line::check_line;
-pub use geo_lines::check_lines;
-pub use geo_warning::{no_geo_code, no_geo_line, no_geo_message};
+pub use geo_line::finding_line;
+pub use geo_lines::finding_lines;
+pub use geo_warning::{no_geo_code, no_geo_expected, no_geo_line, no_geo_rule};
 pub use line::json_line;
 pub use lines::json_lines;
 pub use parquet_columns::report_budget;

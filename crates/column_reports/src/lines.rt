@@ -1,10 +1,10 @@
 //! The report of a file as lines of JSON.
-ghost use Rattle.std.specs.Prelude.{◌≡◌, ◌≤◌, ◌<◌, ◌++◌, IfOk, OnOk, MatchBool, length, option_map, string_bytes};
+ghost use Rattle.std.specs.Prelude.{◌≡◌, ◌≤◌, ◌<◌, ◌++◌, IfOk, OnOk, MatchBool, length, string_bytes};
 ghost use Rattle.arrow_values.specs.Texts.{text_of};
 ghost use Rattle.column_reports.specs.FileReport.{line_of, lines_of, behind, warning_in, report_text, IsWithin};
 
 use crate::file::FileReport;
-use crate::geo_lines::check_lines;
+use crate::geo_lines::finding_lines;
 use crate::geo_warning::no_geo_line;
 use crate::line::json_line;
 use crate::report::ColumnReport;
@@ -13,10 +13,10 @@ use json::Scratch;
 use std::alloc::{AllocError, Global};
 
 /// Returns the report of a file as lines of JSON, each with its line feed: one for each column
-/// (docs/FORMAT.md, 2.5), and behind them one for each check of GeoParquet metadata that does not
-/// hold, or with `all` for each check; or, where a Parquet file has no such metadata and a column
-/// holds geometries, the line of a warning (docs/FORMAT.md, 5.1). `file` is the name that the lines
-/// give the file, if any.
+/// (docs/FORMAT.md, 2.5), and behind them one for each finding in its GeoParquet metadata that is
+/// an error or a warning, and with `notes` for each note too; or, where a Parquet file has no such
+/// metadata and a column holds geometries, the line of a warning (docs/FORMAT.md, 5.1). `file` is
+/// the name that the lines give the file, if any.
 ///
 /// Errs with `ReportTooLarge` where the lines have more than `limit` bytes, as soon as those of the
 /// first columns have; and when out of memory.
@@ -24,14 +24,14 @@ pub fn json_lines(
     alloc: Global,
     file: Option<&str>,
     report: &FileReport,
-    all: bool,
+    notes: bool,
     limit: u128,
 ) -> Result<String, FileFault>
-    ensures { IsWithin limit (report_text (text_of file.entry) all report.now) result }
+    ensures { IsWithin limit (report_text (text_of file.entry) notes report.now) result }
 {
     match column_lines(alloc, file, report.columns.as_slice(), limit) {
         Ok(lines) => {
-            let behind = lines_behind(alloc, file, report, all)?;
+            let behind = lines_behind(alloc, file, report, notes)?;
             let mut text = lines;
             text.push_str(behind.as_str())?;
             within(text, limit)
@@ -100,12 +100,12 @@ fn lines_behind(
     alloc: Global,
     file: Option<&str>,
     report: &FileReport,
-    all: bool,
+    notes: bool,
 ) -> Result<String, AllocError>
-    ensures { IfOk result (λ text. string_bytes text ≡ behind (text_of file.entry) all report.now) }
+    ensures { IfOk result (λ text. string_bytes text ≡ behind (text_of file.entry) notes report.now) }
 {
     match &report.findings {
-        Some(findings) => check_lines(alloc, file, findings.as_slice(), all),
+        Some(findings) => finding_lines(alloc, file, findings, notes),
         None => warning_of(alloc, file, report),
     }
 }

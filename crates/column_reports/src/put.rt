@@ -1,5 +1,5 @@
 //! The members of a JSON object, written one after another.
-ghost use Rattle.std.specs.Prelude.{◌≡◌, ◌∷◌, [], OnOk, codes, decimal, map, string_bytes};
+ghost use Rattle.std.specs.Prelude.{◌∷◌, [], OnOk, decimal, map, string_bytes};
 ghost use Rattle.json.specs.Json.{number, string};
 ghost use Rattle.arrow_values.specs.Texts.{text_of};
 ghost use Rattle.column_reports.specs.Objects.{array_of, AddsMembers};

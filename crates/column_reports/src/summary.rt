@@ -1,11 +1,11 @@
-//! What counts of the columns of a file, and of its checks.
+//! What counts of the columns of a file, and of what is found in its GeoParquet metadata.
 ghost use Rattle.std.specs.Prelude.{◌≡◌, ◌||◌, false};
 ghost use Rattle.column_check.specs.States.{is_invalid, is_geometry};
 ghost use Rattle.column_reports.specs.Summary.{status};
 
 use column_check::Finding;
 
-/// What counts of the columns of a file and of its checks.
+/// What counts of the columns of a file and of what is found in its GeoParquet metadata.
 #[derive(Debug, Clone, Copy)]
 pub struct Summary {
     /// Whether a column is invalid.
@@ -13,12 +13,12 @@ pub struct Summary {
     /// Whether a column holds geometries by its extension name: its state is `geometry`, and not
     /// `inferred`.
     pub has_geometry: bool,
-    /// Whether a check of GeoParquet metadata does not hold.
+    /// Whether a finding in its GeoParquet metadata is an error.
     pub has_failed: bool,
 }
 
 impl Summary {
-    /// Returns that of no column and no check.
+    /// Returns that of no column and no finding.
     pub fn new() -> Summary
         ensures invalid { result.has_invalid ≡ false }
         ensures geometry { result.has_geometry ≡ false }
@@ -41,18 +41,9 @@ impl Summary {
         self.has_geometry = self.has_geometry | finding.is_geometry();
     }
 
-    /// Adds whether one of some more checks does not hold.
-    pub fn add_checks(&mut self, has_failed: bool)
-        ensures invalid { self.new.has_invalid ≡ self.old.has_invalid }
-        ensures geometry { self.new.has_geometry ≡ self.old.has_geometry }
-        ensures failed { self.new.has_failed ≡ (has_failed || self.old.has_failed) }
-    {
-        self.has_failed = has_failed | self.has_failed;
-    }
-
     /// Returns the status of a file that is reported to its end (`docs/FORMAT.md`, 2.7): 1 where a
-    /// column is invalid, where a check does not hold, or where what is asked of the file is not met,
-    /// and else 0.
+    /// column is invalid, where a finding is an error, or where what is asked of the file is not
+    /// met, and else 0.
     ///
     /// ```rust
     /// let mut summary = Summary::new();

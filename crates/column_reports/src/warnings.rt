@@ -1,5 +1,5 @@
 //! The warnings of a column.
-ghost use Rattle.std.specs.Prelude.{◌≡◌, ◌∷◌, [], OnOk, codes};
+ghost use Rattle.std.specs.Prelude.{◌∷◌, [], OnOk, codes};
 ghost use Rattle.column_reports.specs.Warnings.{warning_value, warnings_in};
 ghost use Rattle.column_reports.specs.Objects.{member_if, AddsMembers, AddsValues};
 

@@ -1,8 +1,8 @@
 pub mod Asked
-pub mod Checks
 pub mod Columns
 pub mod Crs
 pub mod Shown
+pub mod Findings
 pub mod Names
 pub mod Wants
 pub mod Counted

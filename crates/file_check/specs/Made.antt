@@ -23,7 +23,7 @@ use Rattle.file_check.specs.declared.print.Made.{Made}
 
 -- the lines of JSON of a report
 abbrev pub json_text : Asked → Text → FileReport → Text
-json_text asked file r = report_text (name_of file) asked.flags.all_checks r
+json_text asked file r = report_text (name_of file) asked.flags.notes r
 
 abbrev pub IsPastTable : FileFault → Type 0
 IsPastTable fault = (fault ≡ OutOfMemory) ⊎ (fault ≡ ReportTooLarge)

@@ -35,10 +35,8 @@ pub struct Flags {
     pub ipc: bool,
     /// `--infer`: types are inferred for columns without an extension name.
     pub infer: bool,
-    /// `--notes`: what is only to be noted of a column is said too.
+    /// `--notes`: what is only to be noted of a column or of GeoParquet metadata is said too.
     pub notes: bool,
-    /// `--all-checks`: the checks that hold are printed too.
-    pub all_checks: bool,
     /// `--quiet`: nothing is printed of columns.
     pub quiet: bool,
     /// `--require-geometry`: a file has a column of geometries.

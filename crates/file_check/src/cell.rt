@@ -1,5 +1,5 @@
 //! The cells of a table.
-ghost use Rattle.std.specs.Prelude.{◌≡◌, ◌++◌, IfOk, codes, string_bytes, take};
+ghost use Rattle.std.specs.Prelude.{◌≡◌, IfOk, string_bytes, take};
 ghost use Rattle.std.specs.Str.{chars, encode_utf8_all};
 ghost use Rattle.file_check.specs.Table.{width, cut};
 

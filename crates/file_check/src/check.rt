@@ -33,9 +33,9 @@ pub struct Answer {
 /// `--json`, and the status whatever is printed; of lines it says neither.
 ///
 /// ```rust
-/// let flags = Flags { json: true, lines: false, ipc: false, infer: false, notes: false, all_checks: false, quiet: false, require_geometry: false };
+/// let flags = Flags { json: true, lines: false, ipc: false, infer: false, notes: false, quiet: false, require_geometry: false };
 /// let asked = Asked { flags, wants: Vec::new(alloc), files: Vec::new(alloc) };
-/// let answer = check_bytes(alloc, &asked, "-", b"{}")?;
+/// let answer = check_bytes(alloc, &asked, "-", b"\xef\xbb\xbf{}")?;
 /// let line = b"{\"error\":\"LineName\",\"line\":1,\"message\":\"is JSON, but no field: \\\"name\\\" is no text\",\"place\":\"line 1\"}\n";
 /// assert!(rt; answer.output.as_slice() == line.as_slice());
 /// assert_eq!(rt; answer.status, 2);
@@ -73,10 +73,7 @@ fn check_whole<W: Write, E: Write>(
 {
     let form = form_of(bytes);
     match form {
-        Form::Lines => {
-            let lines = LineColumns::new(alloc, Vec::new(alloc), bytes);
-            check_lines(alloc, asked, file, lines, out, err)
-        }
+        Form::Lines => check_source(alloc, asked, file, bytes, out, err),
         Form::ArrowFile | Form::ArrowStream | Form::Parquet | Form::Foreign(_) => {
             check_end(alloc, asked, file, form, 0, bytes, out, err)
         }

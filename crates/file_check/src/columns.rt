@@ -2,7 +2,6 @@
 ghost use Rattle.std.specs.Prelude.{◌≡◌, ◌++◌, [], None, Some, IfOk, OnOk, map, option_map, string_bytes};
 ghost use Rattle.std.specs.Option.{unwrap_or};
 ghost use Rattle.arrow_columns.specs.Column.{column_tree};
-ghost use Rattle.column_check.specs.States.{geometry_in};
 ghost use Rattle.column_reports.specs.Report.{edges_of};
 ghost use Rattle.column_reports.specs.Warnings.{warning_words};
 ghost use Rattle.file_check.specs.Table.{line_of, cut};

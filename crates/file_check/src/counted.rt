@@ -12,7 +12,7 @@ use std::alloc::{AllocError, Global};
 use std::io;
 use std::io::Write;
 
-/// What counts of a file for the status: of its columns and checks, and what is found of each
+/// What counts of a file for the status: of its columns and findings, and what is found of each
 /// expectation.
 #[derive(Debug, Drop)]
 pub(crate) struct Counted {

@@ -4,7 +4,7 @@ ghost use Rattle.serde_json.specs.Read.{of_json};
 ghost use Rattle.serde_json.specs.View.{view};
 ghost use Rattle.arrow_values.specs.Texts.{text_of};
 ghost use Rattle.geoparquet.specs.Identifiers.{code_text};
-ghost use Rattle.geoparquet.specs.Values.{at, text_of_value};
+ghost use Rattle.geoparquet.specs.Values.{at};
 ghost use Rattle.file_check.specs.Crs.{in_id, code_shown, identifier_shown, name_shown, value_shown, crs_shown, crs_name};
 
 use crate::cell::cut;

@@ -1,16 +1,16 @@
 //! The report of a file as people and programs are given it: [`check_source`] and [`check_file`] print
 //! what its columns hold, as lines of JSON or as a table, say why it is refused or what is asked of it
 //! and not met, and return the status; [`check_bytes`] does so of bytes. Beside them the words: of
-//! columns as rows and as their table, of checks, and of expectations.
+//! columns as rows and as their table, of findings, and of expectations.
 #![tactic(auto)]
 
 mod asked;
 mod cell;
 mod check;
-mod checks;
 mod columns;
 mod counted;
 mod crs;
+mod findings;
 mod lines;
 mod names;
 mod print;
@@ -23,9 +23,9 @@ mod wants;
 pub use asked::{Asked, Flags, Output, Want};
 pub use cell::cut;
 pub use check::{Answer, check_bytes, check_file, check_source};
-pub use checks::checked_text;
 pub use columns::row_of;
 pub use crs::crs_name;
+pub use findings::findings_text;
 pub use refusal::refuse;
 pub use table::{Row, table_text};
 pub use text::shown;

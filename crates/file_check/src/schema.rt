@@ -1,11 +1,11 @@
 //! What is made of a file that has a schema, by the bytes that hold it.
-ghost use Rattle.std.specs.Prelude.{IfOk, IfErr};
+ghost use Rattle.std.specs.Prelude.{IfErr};
 ghost use Rattle.file_check.specs.Made.{IsPastTable, MakesText, MakesOf, MakesOfEnd};
 
 use crate::asked::{Asked, Output};
-use crate::checks::checked_text;
 use crate::columns::row_of;
 use crate::counted::{Counted, found_in};
+use crate::findings::findings_text;
 use crate::names::named;
 use crate::print::{Made, named_table};
 use crate::table::row_bytes;
@@ -68,7 +68,7 @@ fn text_of_report(
     ensures { MakesText asked.now file.now limit report.now result }
 {
     match asked.flags.output() {
-        Output::Json => { json_lines(alloc, named(file), report, asked.flags.all_checks, limit) }
+        Output::Json => json_lines(alloc, named(file), report, asked.flags.notes, limit),
         Output::Table => table_of(alloc, asked, file, report, limit),
         Output::Lines | Output::Ipc | Output::Nothing => Ok(String::new(alloc)),
     }
@@ -89,7 +89,7 @@ fn kept_columns(
     Ok(columns)
 }
 
-/// The table of columns, with the checks behind it, where both have at most that many bytes.
+/// The table of columns, with the findings behind it, where both have at most that many bytes.
 fn table_of(
     alloc: Global,
     asked: &Asked,
@@ -99,9 +99,9 @@ fn table_of(
 ) -> Result<String, FileFault>
     ensures { IfErr result IsPastTable }
 {
-    let checks = checks_of(alloc, asked, report)?;
+    let findings = findings_of(alloc, asked, report)?;
     let mut rows = Vec::new(alloc);
-    let mut size = checks.len() as u128;
+    let mut size = findings.len() as u128;
     for said in &report.columns {
         let row = row_of(alloc, said)?;
         size = size.saturating_add(row_bytes(&row) as u128);
@@ -111,21 +111,16 @@ fn table_of(
         }
     }
     let mut text = named_table(alloc, asked, file, rows.as_slice())?;
-    text.push_str(checks.as_str())?;
+    text.push_str(findings.as_str())?;
     Ok(text)
 }
 
-/// The checks of a Parquet file in words.
-fn checks_of(alloc: Global, asked: &Asked, report: &FileReport) -> Result<String, AllocError> {
+/// What is found in the GeoParquet metadata of a Parquet file, in words.
+fn findings_of(alloc: Global, asked: &Asked, report: &FileReport) -> Result<String, AllocError> {
     match report.form {
         Form::Parquet => {
             let has_geometry = report.summary.has_geometry;
-            checked_text(
-                alloc,
-                &report.findings,
-                has_geometry,
-                asked.flags.all_checks,
-            )
+            findings_text(alloc, &report.findings, has_geometry, asked.flags.notes)
         }
         Form::ArrowFile | Form::ArrowStream | Form::Lines | Form::Foreign(_) => {
             Ok(String::new(alloc))

@@ -1,6 +1,5 @@
 //! What a column is expected to hold.
 ghost use Rattle.std.specs.Prelude.{◌≡◌, ◌↔◌, ◌==◌, IfOk, OnOk, IsTrue, Some, map, option_map, string_bytes};
-ghost use Rattle.std.specs.List.{slice_split};
 ghost use Rattle.column_check.specs.States.{geometry_in};
 ghost use Rattle.file_check.specs.Crs.{crs_of_geometry};
 ghost use Rattle.file_check.specs.Wants.{parts_of, encoding_word, Meets, no_geometries, crs_or_none, unmet, IsUnmet, IsUnmetText, IsFound, is_unmet, said_of};

@@ -4,8 +4,7 @@ use column_files::{column_line, columns_of_lines};
 use geoparquet::{GeoFinding, check_geo, geo_columns};
 use rows::asked::Asked;
 use rows::said::Said;
-use rows::say;
-use std::alloc::{AllocError, Global};
+use std::alloc::AllocError;
 use std::mem::ManuallyDrop;
 
 /// Says the answer to a text under a command. It is lacking when out of memory before the call, and where the lines are no fields.
@@ -17,7 +16,7 @@ pub fn answer(it: &mut Asked<'_>) {
     };
     let columns = ManuallyDrop::new(columns);
     match it.command {
-        "check_geo" => say_checks(it, geo, columns.as_slice()),
+        "check_geo" => say_report(it, geo, columns.as_slice()),
         "geo_columns" => {
             let made = geo_columns(it.alloc, geo, ManuallyDrop::into_inner(columns));
             say_columns(it, made);
@@ -26,16 +25,14 @@ pub fn answer(it: &mut Asked<'_>) {
     }
 }
 
-/// Says how many checks there are, and which do not hold.
-fn say_checks(it: &mut Asked<'_>, geo: &str, columns: &[SchemaColumn]) {
+/// Says the version by which the metadata are judged, and the findings, with ` & ` between them.
+fn say_report(it: &mut Asked<'_>, geo: &str, columns: &[SchemaColumn]) {
     match check_geo(it.alloc, geo, columns) {
-        Ok(findings) => {
-            let count = findings.len();
-            say!(it.said, "{count}");
-            for finding in &findings {
-                if !finding.ok {
-                    say_finding(it.alloc, &mut it.said, finding);
-                }
+        Ok(report) => {
+            it.said.name(&report.version);
+            for (place, finding) in report.findings.iter().enumerate() {
+                it.said.push(if place > 0 { " & " } else { " " });
+                say_finding(&mut it.said, finding);
             }
         }
         Err(AllocError) => it.said.fail(),
@@ -58,17 +55,23 @@ fn say_columns(it: &mut Asked<'_>, made: Result<Vec<SchemaColumn>, AllocError>) 
     }
 }
 
-/// Says a finding by its code and its path.
-fn say_finding(alloc: Global, said: &mut Said, finding: &GeoFinding) {
-    said.push(" ");
-    said.push(finding.check.code());
-    match finding.path(alloc) {
-        Ok(path) => {
-            for key in &path {
-                said.push("/");
-                said.push(key.as_str());
-            }
-        }
-        Err(AllocError) => said.fail(),
+/// Says the parts of a finding, with a bar between them.
+fn say_finding(said: &mut Said, finding: &GeoFinding) {
+    said.push(finding.code.code());
+    said.push("|");
+    say_part(said, &finding.column);
+    said.push("|");
+    said.push(finding.pointer.as_str());
+    said.push("|");
+    say_part(said, &finding.found);
+    said.push("|");
+    say_part(said, &finding.wanted);
+}
+
+/// Says a part of a finding, or `-` where it is absent.
+fn say_part(said: &mut Said, part: &Option<String>) {
+    match part {
+        Some(part) => said.push(part.as_str()),
+        None => said.push("-"),
     }
 }

@@ -1,7 +1,8 @@
-pub mod Answering
-pub mod Floats
-pub mod Sizes
-pub mod Naming
-pub mod Soundness
-pub mod Members
+pub mod Items
+pub mod KeptMembers
 pub mod Marking
+pub mod Putting
+pub mod Naming
+pub mod Among
+pub mod Claims
+pub mod Counted

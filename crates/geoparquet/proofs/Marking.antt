@@ -22,7 +22,7 @@ use Rattle.geoparquet.specs.Encodings.{IsEncodedAs}
 use Rattle.geoparquet.specs.Extensions.{IsExtensionText, IsJson, IsRead, crs_of, edges_of, member_named, member_text, named_in, text_at, text_with}
 use Rattle.geoparquet.specs.GeoColumns.{AreGeoColumns, AreGeoColumnsFrom, IsGeoColumn, IsGeoColumnOf, left_for, value_in}
 use Rattle.geoparquet.specs.Values.{at, text_of_value}
-use Rattle.geoparquet.proofs.Members.{member_is_read, named_read, text_at_read}
+use Rattle.geoparquet.proofs.KeptMembers.{member_is_read, named_read, text_at_read}
 use Rattle.value_tokens.proofs.Kept.{Reads}
 
 -- ---- one more column

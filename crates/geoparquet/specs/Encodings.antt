@@ -37,8 +37,3 @@ IsStoredAs n t = (k : Kind) × TypeAccepted n t k × IsStored k
 abbrev pub IsEncodedAs : Option Text → ExtensionName → ColumnTree → Type 0
 IsEncodedAs (Some s) n c = (encoding_text n ≡ Some s) × IsStoredAs n c.data_type
 IsEncodedAs None n c = ⊥
-
--- there are an encoding and a column, and the column has a type of it
-abbrev pub IsEncoding : Option Text → Option ColumnTree → Type 0
-IsEncoding encoding (Some c) = (n : ExtensionName) × IsEncodedAs encoding n c
-IsEncoding encoding None = ⊥

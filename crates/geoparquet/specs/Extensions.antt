@@ -16,9 +16,8 @@ use Rattle.geoarrow_meta.specs.declared.edges.Edges.TheVariants.{Spherical}
 use Rattle.geoarrow_meta.specs.declared.crs.crs_type.CrsType.{CrsType}
 use Rattle.geoarrow_meta.specs.declared.crs.crs_type.CrsType.TheVariants.{Projjson, AuthorityCode}
 use Rattle.geoarrow_meta.specs.MetadataText.{metadata_tokens}
-use Rattle.geoparquet.specs.Checks.{geo_value}
 use Rattle.geoparquet.specs.Identifiers.{default_identifier}
-use Rattle.geoparquet.specs.Values.{at, text_of_value}
+use Rattle.geoparquet.specs.Values.{at, geo_value, text_of_value}
 
 -- the member of `columns` with that name
 abbrev pub member_named : Text → Text → Option Data

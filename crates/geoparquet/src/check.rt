@@ -1,27 +1,41 @@
-//! The checks, one after another.
-ghost use Rattle.std.specs.Prelude.{◌≡◌, [], ◌++◌, IfOk, OnOk, Some, None, map};
-ghost use Rattle.serde_json.specs.View.{view};
-ghost use Rattle.arrow_columns.specs.Column.{column_tree};
+//! What is found of the metadata at the key `geo`.
+ghost use Rattle.std.specs.Prelude.{◌≡◌, ◌++◌, List, IfOk, OnOk, map, None, option_and_then};
+ghost use Rattle.json.specs.Find.{as_str, get};
+ghost use Rattle.json.specs.Value.{value_view};
+ghost use Rattle.value_tokens.specs.Values.{IsReadable};
 ghost use Rattle.arrow_values.specs.Texts.{text_of};
-ghost use Rattle.geoparquet.specs.Checks.{checks_of_all, checks_of_column, places_in, Holds, answer_of, given, AreHeld, AreAnswers, AreFindings};
+ghost use Rattle.serde_json.specs.Read.{read};
+ghost use Rattle.arrow_columns.specs.Column.{ColumnTree, column_tree};
+ghost use Rattle.geoparquet.specs.CoveringAbsent.{first_box};
+ghost use Rattle.geoparquet.specs.Findings.{finding};
+ghost use Rattle.geoparquet.specs.Extensions.{IsJson};
+ghost use Rattle.geoparquet.specs.Ordered.{columns_of, members_entries};
+ghost use Rattle.geoparquet.specs.Versions.{version_of};
+ghost use Rattle.geoparquet.specs.GeoFindings.{columns_findings, is_primary, has_primary, primary_findings, members_findings, missing_findings, object_findings, geo_findings, AreGeoFindings, AreRead};
 
-use crate::columns::SchemaColumns;
-use crate::crs::crs_agree;
-use crate::encoding::{are_types, is_encoding};
-use crate::finding::{GeoCheck, GeoFinding};
-use crate::schema::{are_columns, is_covering, is_primary, own_metadata};
-use crate::values::{
-    columns_in, copied, geo_value, is_bbox, is_crs, is_edges, is_epoch, is_orientation, member_at,
-    member_of_column, present_at, text_in,
-};
-use arrow_columns::SchemaColumn;
-use serde_json::Value;
+use crate::adding::add_at;
+use crate::code::GeoCode;
+use crate::column::{add_member, is_object};
+use crate::covering_absent::first_box;
+use crate::finding::{GeoFinding, GeoReport, Version};
+use crate::ordered::{ByKey, are_some, has_member, members_in};
+use crate::place::shown;
+use crate::undeclared::add_undeclared;
+use crate::version::{add_version, version_of};
+use arrow_columns::{ColumnNames, SchemaColumn};
+use json::{Scratch, Value};
 use std::alloc::{AllocError, Global};
+use value_tokens::{Refusal, member_of, read_json};
 
-/// What the rules of GeoParquet 1.1 say of the metadata `geo`, the text at the key `geo` of a Parquet file with these columns: one finding
-/// for each rule of all the metadata, in the order of `GeoCheck`, then for each key of `columns`, in ascending order, one for each rule of a
-/// column. A text that is no JSON counts as null; where a key of an object is repeated, its last value counts. Errs only when
-/// out of memory.
+/// Returns what is found of the metadata `geo`, the text at the key `geo` of a file with these columns
+/// (docs/FORMAT.md, 5): the version by which they are judged, and a finding for each rule that is not
+/// kept, where it is not. Of a text that is no JSON, and of one that is no object, that alone is
+/// found. Where a key of an object is repeated, its last value counts. Errs only when out of memory.
+///
+/// Takes time that grows with the length of the text and the number of columns, times the logarithm
+/// of the number of members of `columns`; with the number of coverings times that of the children of
+/// their groups; and with the number of columns that have an extension name of geometries and no
+/// member, times that of members.
 ///
 /// ```rust
 /// let column = SchemaColumn {
@@ -32,104 +46,238 @@ use std::alloc::{AllocError, Global};
 /// };
 /// let columns = vec![in alloc; column]?;
 /// let geo = r#"{"version":"1.1.0","primary_column":"geom","columns":{"geom":{"encoding":"WKB","geometry_types":["Dot"]}}}"#;
-/// let findings = check_geo(alloc, geo, columns.as_slice())?;
-/// for finding in &findings {
-///     assert_eq!(rt; finding.ok, finding.check != GeoCheck::Types);
-/// }
+/// let report = check_geo(alloc, geo, columns.as_slice())?;
+/// assert_eq!(rt; report.findings.len(), 1);
+/// assert_eq!(rt; report.findings[0].pointer.as_str(), "/columns/geom/geometry_types/0");
 /// ```
 pub fn check_geo(
     alloc: Global,
     geo: &str,
     columns: &[SchemaColumn],
-) -> Result<Vec<GeoFinding>, AllocError>
-    ensures { IfOk result (λ findings. AreFindings geo.now (map column_tree columns.now) findings.items) }
+) -> Result<GeoReport, AllocError>
+    ensures { IfOk result (λ report. AreGeoFindings geo.now (map column_tree columns.now) report.version (map finding report.findings.items)) }
 {
-    let value = geo_value(alloc, geo)?;
-    let names = SchemaColumns::new(alloc, columns)?;
-    let mut findings = Vec::new(alloc);
-    add_all(alloc, &mut findings, &value, &names)?;
-    Ok(findings)
+    let mut scratch = Scratch::new(alloc);
+    match read_json(alloc, geo, &mut scratch) {
+        Ok(value) => report_of(alloc, geo, &value, columns),
+        Err(Refusal::Text) => unread_report(alloc, geo),
+        Err(Refusal::Memory) => Err(AllocError),
+    }
 }
 
-/// Adds the findings of all checks to none. Errs only when out of memory.
+/// Returns what is found of a text that is no JSON. Errs only when out of memory.
+fn unread_report(alloc: Global, geo: &str) -> Result<GeoReport, AllocError>
+    requires { read geo.now ≡ None }
+    ensures { IfOk result (λ report. (cs : List ColumnTree) → AreGeoFindings geo.now cs report.version (map finding report.findings.items)) }
+{
+    let found = GeoFinding {
+        code: GeoCode::NotJson,
+        column: None,
+        pointer: String::new(alloc),
+        found: Some(shown(alloc, geo)?),
+        wanted: None,
+    };
+    let version = Version::V1_1;
+    let mut findings = Vec::new(alloc);
+    findings.push(found)?;
+    Ok(GeoReport { version, findings })
+}
+
+/// Returns what is found of the JSON value that a text is. Errs only when out of memory.
+fn report_of(
+    alloc: Global,
+    geo: &str,
+    value: &Value<'_>,
+    columns: &[SchemaColumn],
+) -> Result<GeoReport, AllocError>
+    requires is { IsJson geo.now (value_view value.now) }
+    requires read { IsReadable (value_view value.now) }
+    ensures { IfOk result (λ report. AreGeoFindings geo.now (map column_tree columns.now) report.version (map finding report.findings.items)) }
+{
+    let version = version_of(value);
+    let mut findings = Vec::new(alloc);
+    add_all(alloc, &mut findings, value, columns)?;
+    Ok(GeoReport { version, findings })
+}
+
+/// Adds what is found of a JSON value. Errs only when out of memory.
 fn add_all(
     alloc: Global,
     findings: &mut Vec<GeoFinding>,
-    value: &Value,
-    columns: &SchemaColumns<'_>,
+    value: &Value<'_>,
+    columns: &[SchemaColumn],
 ) -> Result<(), AllocError>
-    requires { findings.now.items ≡ [] }
-    ensures { OnOk result (AreAnswers (view value.now) (map column_tree columns.now) (places_in (view value.now)) (map answer_of findings.new.items)) }
+    requires { IsReadable (value_view value.now) }
+    ensures { OnOk result (map finding findings.new.items ≡ map finding findings.old.items
+        ++ geo_findings (map column_tree columns.now) (value_view value.now)) }
 {
-    add_findings(alloc, findings, None, &checks_of_all(value, columns))?;
-    let Some(members) = columns_in(value) else {
-        return Ok(());
-    };
-    for (key, _member) in members.iter() {
-        let key = key.as_str();
-        let of_column = checks_of_column(alloc, value, columns, key)?;
-        add_findings(alloc, findings, Some(key), &of_column)?;
+    if is_object(value) {
+        return add_object(alloc, findings, value, columns);
     }
-    Ok(())
+    add_at(
+        alloc,
+        findings,
+        GeoCode::NotObject,
+        None,
+        "",
+        Some(value),
+        None,
+    )
 }
 
-/// What holds of all the metadata.
-fn checks_of_all(value: &Value, columns: &SchemaColumns<'_>) -> [(GeoCheck, bool); 4]
-    ensures { AreHeld (Holds (view value.now) (map column_tree columns.now) None) checks_of_all result }
-{
-    [
-        (GeoCheck::Object, value.is_object()),
-        (GeoCheck::Version, text_in(value.get("version")).is_some()),
-        (GeoCheck::PrimaryColumn, is_primary(value)),
-        (GeoCheck::Columns, are_columns(columns_in(value), columns)),
-    ]
-}
-
-/// What holds of the column with a key: of its member of `columns`, the column of the schema and the metadata of its field. Errs only
-/// when out of memory.
-fn checks_of_column(
-    alloc: Global,
-    value: &Value,
-    columns: &SchemaColumns<'_>,
-    key: &str,
-) -> Result<[(GeoCheck, bool); 9], AllocError>
-    ensures { IfOk result (AreHeld (Holds (view value.now) (map column_tree columns.now) (Some key.now)) checks_of_column) }
-{
-    let column = columns.first(key);
-    let own = own_metadata(alloc, column)?;
-    let member = member_of_column(value, key);
-    let crs = member_at(member, "crs");
-    let edges = member_at(member, "edges");
-    let encoding = text_in(member_at(member, "encoding"));
-    let types = member_at(member, "geometry_types");
-    let is_own_crs = crs_agree(alloc, crs, present_at(&own, "crs"))?;
-    let orientation = member_at(member, "orientation");
-    let covering = member_at(member, "covering");
-    Ok([
-        (GeoCheck::Encoding, is_encoding(encoding, column)),
-        (GeoCheck::Types, are_types(encoding, types)),
-        (GeoCheck::Crs, is_crs(crs)),
-        (GeoCheck::CrsAgrees, is_own_crs),
-        (GeoCheck::Edges, is_edges(edges, &own)),
-        (GeoCheck::Orientation, is_orientation(orientation)),
-        (GeoCheck::Bbox, is_bbox(member_at(member, "bbox"))),
-        (GeoCheck::Epoch, is_epoch(member_at(member, "epoch"))),
-        (GeoCheck::Covering, is_covering(columns, covering)),
-    ])
-}
-
-/// Adds a finding for each check and whether it holds, in order. Errs only when out of memory.
-fn add_findings(
+/// Adds what is found of an object. Errs only when out of memory.
+fn add_object(
     alloc: Global,
     findings: &mut Vec<GeoFinding>,
-    key: Option<&str>,
-    held: &[(GeoCheck, bool)],
+    value: &Value<'_>,
+    columns: &[SchemaColumn],
 ) -> Result<(), AllocError>
-    ensures { OnOk result (map answer_of findings.new.items ≡ map answer_of findings.old.items ++ map (given (text_of key.entry)) held.now) }
+    requires { IsReadable (value_view value.now) }
+    ensures { OnOk result (map finding findings.new.items ≡ map finding findings.old.items
+        ++ object_findings (map column_tree columns.now) (value_view value.now)) }
 {
-    for &(check, ok) in held {
-        let column = copied(alloc, key)?;
-        findings.push(GeoFinding { check, column, ok })?;
+    let members = members_in(alloc, member_of(value, "columns"))?;
+    let names = ColumnNames::new(alloc, columns)?;
+    let boxed = first_box(columns);
+    add_version(alloc, findings, value)?;
+    add_columns(alloc, findings, value, &members)?;
+    add_primary(alloc, findings, value, &members)?;
+    add_members(alloc, findings, value, &names, boxed, &members)?;
+    add_missing(alloc, findings, value, columns, &members)
+}
+
+/// Adds what is found of `columns`. Errs only when out of memory.
+fn add_columns(
+    alloc: Global,
+    findings: &mut Vec<GeoFinding>,
+    value: &Value<'_>,
+    members: &ByKey<'_, '_>,
+) -> Result<(), AllocError>
+    requires read { IsReadable (value_view value.now) }
+    requires members { members_entries members.now.entries ≡ columns_of (value_view value.now) }
+    ensures { OnOk result (map finding findings.new.items ≡ map finding findings.old.items
+        ++ columns_findings (value_view value.now)) }
+{
+    if are_some(members) {
+        return Ok(());
+    }
+    let found = member_of(value, "columns");
+    add_at(
+        alloc,
+        findings,
+        GeoCode::Columns,
+        None,
+        "/columns",
+        found,
+        None,
+    )
+}
+
+/// Whether there is a text, and it is a key of the members, if there are any.
+fn is_primary(members: &ByKey<'_, '_>, key: Option<&str>) -> bool
+    ensures { result ≡ is_primary (members_entries members.now.entries) (text_of key.entry) }
+{
+    match key {
+        Some(key) => !are_some(members) || has_member(key, members),
+        None => false,
+    }
+}
+
+/// Returns the text at a key of an object, where there is one.
+fn text_at<'a>(value: &Value<'a>, key: &str) -> Option<&'a str>
+    ensures { text_of result ≡ option_and_then as_str (get key.now (value_view value.now)) }
+{
+    value.get(key)?.as_str()
+}
+
+/// Whether `primary_column` is a text, and a key of the members, if there are any.
+fn has_primary(value: &Value<'_>, members: &ByKey<'_, '_>) -> bool
+    requires { members_entries members.now.entries ≡ columns_of (value_view value.now) }
+    ensures { result ≡ has_primary (value_view value.now) }
+{
+    is_primary(members, text_at(value, "primary_column"))
+}
+
+/// Adds what is found of `primary_column`. Errs only when out of memory.
+fn add_primary(
+    alloc: Global,
+    findings: &mut Vec<GeoFinding>,
+    value: &Value<'_>,
+    members: &ByKey<'_, '_>,
+) -> Result<(), AllocError>
+    requires read { IsReadable (value_view value.now) }
+    requires members { members_entries members.now.entries ≡ columns_of (value_view value.now) }
+    ensures { OnOk result (map finding findings.new.items ≡ map finding findings.old.items
+        ++ primary_findings (value_view value.now)) }
+{
+    if has_primary(value, members) {
+        return Ok(());
+    }
+    let found = member_of(value, "primary_column");
+    add_at(
+        alloc,
+        findings,
+        GeoCode::PrimaryColumn,
+        None,
+        "/primary_column",
+        found,
+        None,
+    )
+}
+
+/// Adds what is found of each member. Errs only when out of memory.
+fn add_each(
+    alloc: Global,
+    findings: &mut Vec<GeoFinding>,
+    version: Version,
+    columns: &ColumnNames<'_>,
+    boxed: Option<&str>,
+    members: &ByKey<'_, '_>,
+) -> Result<(), AllocError>
+    requires boxed { text_of boxed ≡ first_box (map column_tree columns.now) }
+    requires read { AreRead (members_entries members.now.entries) }
+    ensures { OnOk result (map finding findings.new.items ≡ map finding findings.old.items
+        ++ members_findings (map column_tree columns.now) version (members_entries members.now.entries)) }
+{
+    for (key, member) in members.iter() {
+        add_member(alloc, findings, columns, boxed, version, key, member)?;
     }
     Ok(())
+}
+
+/// Adds what is found of the members of `columns`. Errs only when out of memory.
+fn add_members(
+    alloc: Global,
+    findings: &mut Vec<GeoFinding>,
+    value: &Value<'_>,
+    columns: &ColumnNames<'_>,
+    boxed: Option<&str>,
+    members: &ByKey<'_, '_>,
+) -> Result<(), AllocError>
+    requires boxed { text_of boxed ≡ first_box (map column_tree columns.now) }
+    requires read { IsReadable (value_view value.now) }
+    requires members { members_entries members.now.entries ≡ columns_of (value_view value.now) }
+    ensures { OnOk result (map finding findings.new.items ≡ map finding findings.old.items
+        ++ members_findings (map column_tree columns.now) (version_of (value_view value.now)) (columns_of (value_view value.now))) }
+{
+    add_each(alloc, findings, version_of(value), columns, boxed, members)
+}
+
+/// Adds what is found of columns without a member. Errs only when out of memory.
+fn add_missing(
+    alloc: Global,
+    findings: &mut Vec<GeoFinding>,
+    value: &Value<'_>,
+    columns: &[SchemaColumn],
+    members: &ByKey<'_, '_>,
+) -> Result<(), AllocError>
+    requires read { IsReadable (value_view value.now) }
+    requires members { members_entries members.now.entries ≡ columns_of (value_view value.now) }
+    ensures { OnOk result (map finding findings.new.items ≡ map finding findings.old.items
+        ++ missing_findings (map column_tree columns.now) (value_view value.now)) }
+{
+    if !are_some(members) {
+        return Ok(());
+    }
+    add_undeclared(alloc, findings, members, columns)
 }

@@ -19,8 +19,8 @@ use value_tokens::{Refusal, member_of, read_json};
 
 /// Returns the columns of a Parquet file whose metadata at the key `geo` are that text (GeoParquet
 /// 1.1, "Column metadata"; docs/FORMAT.md, 5.2). A column that has no extension name, that is the
-/// first of its name, and of whose member of `columns` the rule `Encoding` of `GeoCheck` holds, has
-/// the extension name of GeoArrow of its encoding, and as its extension metadata the CRS and the
+/// first of its name, and has by [`encoded_as`](crate::encoded_as) the extension name of the encoding
+/// that its member of `columns` says, has that name, and as its extension metadata the CRS and the
 /// edges of that member: a CRS that is absent is `OGC:CRS84`, and PROJJSON keeps its tokens, so each
 /// number stays as it is written, and each key in its place. All else, every other column and the
 /// order are as they were. A text that is no JSON object changes nothing. Errs only when out of

@@ -1,24 +1,45 @@
-//! The metadata of GeoParquet 1.1, which a Parquet file has at the key `geo`: [`check_geo`] says of each rule of the format whether it holds of them and of the
-//! columns of the file, and of which column; and [`geo_columns`] gives each column that the metadata
-//! name, and that has no extension name, the extension name of GeoArrow of its encoding, and the CRS and the edges that the metadata say.
+//! The metadata of GeoParquet, which a Parquet file has at the key `geo`: [`check_geo`] says by which version they are judged, and which of its rules they do
+//! not keep, against the columns of the file, and where; and [`geo_columns`] gives each column that the metadata name, and that has no extension name, the
+//! extension name of GeoArrow of its encoding, and the CRS and the edges that the metadata say.
 #![tactic(auto)]
 
+mod adding;
+mod bounds;
+mod box_range;
+mod boxes;
 mod check;
-mod columns;
-mod crs;
+mod code;
+mod column;
+mod contradictions;
+mod counting;
+mod covering;
+mod covering_absent;
+mod crs_claims;
 mod encoding;
 mod equality_laws;
+mod expected;
 mod extended;
 mod extension;
 mod finding;
-pub mod laws;
-mod schema;
+mod group;
+mod help;
+mod layout;
+mod malformed;
+mod members;
+mod nearest;
+mod ordered;
+mod place;
+mod types;
+mod undeclared;
 mod values;
+mod version;
+mod weight;
 mod words;
 
 pub use check::check_geo;
+pub use code::{GeoCode, Severity};
 pub use encoding::encoded_as;
-pub use equality_laws::geo_check_equality_is_exact;
+pub use equality_laws::geo_code_equality_is_exact;
 pub use extended::geo_columns;
-pub use finding::{GeoCheck, GeoFinding};
+pub use finding::{GeoFinding, GeoReport, Version};
 pub use values::{geo_value, member_of_column, text_in};

@@ -1,109 +1,129 @@
-//! The words of checks and findings.
-ghost use Rattle.std.specs.Prelude.{◌≡◌, IfOk, map, option_map, string_bytes};
-ghost use Rattle.arrow_values.specs.Texts.{text_of};
-ghost use Rattle.geoparquet.specs.Words.{code_of, message_of, key_of, path_of};
+//! Severities as words, and when a code is found.
+ghost use Rattle.std.specs.Prelude.{◌≡◌};
+ghost use Rattle.geoparquet.specs.Words.{severity_text, rule_of};
 
-use crate::finding::{GeoCheck, GeoFinding};
-use std::alloc::{AllocError, Global};
+use crate::code::{GeoCode, Severity};
 
-impl GeoCheck {
-    /// The code of a check, as `GeoVersion`.
+impl Severity {
+    /// Returns the severity as a word: `error`, `warning` or `note`.
     ///
     /// ```rust
-    /// assert_eq!(rt; GeoCheck::Bbox.code(), "GeoBbox");
+    /// assert_eq!(rt; Severity::Note.word(), "note");
     /// ```
-    pub fn code(self) -> &'static str
-        ensures { result.now ≡ code_of self }
+    pub fn word(self) -> &'static str
+        ensures { result.now ≡ severity_text self }
     {
         match self {
-            Self::Object => "GeoObject",
-            Self::Version => "GeoVersion",
-            Self::PrimaryColumn => "GeoPrimaryColumn",
-            Self::Columns => "GeoColumns",
-            Self::Encoding => "GeoEncoding",
-            Self::Types => "GeoTypes",
-            Self::Crs => "GeoCrs",
-            Self::CrsAgrees => "GeoCrsAgrees",
-            Self::Edges => "GeoEdges",
-            Self::Orientation => "GeoOrientation",
-            Self::Bbox => "GeoBbox",
-            Self::Epoch => "GeoEpoch",
-            Self::Covering => "GeoCovering",
-        }
-    }
-
-    /// What a check asks, in words.
-    ///
-    /// ```rust
-    /// assert_eq!(rt; GeoCheck::Epoch.message(), "epoch is a number or absent");
-    /// ```
-    pub fn message(self) -> &'static str
-        ensures { result.now ≡ message_of self }
-    {
-        match self {
-            Self::Object => "the value of the key geo is a JSON object",
-            Self::Version => "version is a text",
-            Self::PrimaryColumn => "primary_column is a key of columns",
-            Self::Columns => {
-                "columns has a member at least, and each key is the name of one column"
-            }
-            Self::Encoding => { "encoding is one of the format, and fits the type of the column" }
-            Self::Types => {
-                "geometry_types are different names of geometry types that fit the encoding"
-            }
-            Self::Crs => "crs is absent, null or an object",
-            Self::CrsAgrees => "crs is that of the column's own metadata",
-            Self::Edges => {
-                "edges is planar, spherical or absent, and that of the column's own metadata"
-            }
-            Self::Orientation => "orientation is counterclockwise or absent",
-            Self::Bbox => "bbox is absent, or four or six numbers in order",
-            Self::Epoch => "epoch is a number or absent",
-            Self::Covering => "covering is absent, or has paths to columns of floats",
-        }
-    }
-
-    /// The key of the member that a check is about; none for all the metadata.
-    fn key(self) -> Option<&'static str>
-        ensures { text_of result ≡ key_of self }
-    {
-        match self {
-            Self::Object => None,
-            Self::Version => Some("version"),
-            Self::PrimaryColumn => Some("primary_column"),
-            Self::Columns => Some("columns"),
-            Self::Encoding => Some("encoding"),
-            Self::Types => Some("geometry_types"),
-            Self::Crs | Self::CrsAgrees => Some("crs"),
-            Self::Edges => Some("edges"),
-            Self::Orientation => Some("orientation"),
-            Self::Bbox => Some("bbox"),
-            Self::Epoch => Some("epoch"),
-            Self::Covering => Some("covering"),
+            Self::Error => "error",
+            Self::Warning => "warning",
+            Self::Note => "note",
         }
     }
 }
 
-impl GeoFinding {
-    /// The keys from the top of the metadata down to the member that the check is about. Errs only when out of memory.
+impl GeoCode {
+    /// Each code, in the order of docs/FORMAT.md, 5.
+    pub const ALL: [GeoCode; 36] = [
+        GeoCode::NotJson,
+        GeoCode::NotObject,
+        GeoCode::Version,
+        GeoCode::OldVersion,
+        GeoCode::NewVersion,
+        GeoCode::Columns,
+        GeoCode::ColumnMissing,
+        GeoCode::ColumnRepeated,
+        GeoCode::Member,
+        GeoCode::ColumnUndeclared,
+        GeoCode::PrimaryColumn,
+        GeoCode::Encoding,
+        GeoCode::Layout,
+        GeoCode::Types,
+        GeoCode::TypesVersion,
+        GeoCode::TypesContradict,
+        GeoCode::Crs,
+        GeoCode::CrsMalformed,
+        GeoCode::Edges,
+        GeoCode::Orientation,
+        GeoCode::Epoch,
+        GeoCode::Bbox,
+        GeoCode::BboxOrder,
+        GeoCode::BboxRange,
+        GeoCode::BboxDimension,
+        GeoCode::Covering,
+        GeoCode::CoveringName,
+        GeoCode::CoveringColumn,
+        GeoCode::CoveringType,
+        GeoCode::CoveringShape,
+        GeoCode::CoveringAbsent,
+        GeoCode::EncodingContradicts,
+        GeoCode::CrsContradicts,
+        GeoCode::CrsNotCompared,
+        GeoCode::EdgesContradict,
+        GeoCode::EdgesOnProjected,
+    ];
+
+    /// Returns when the code is found, in words (docs/FORMAT.md, 5).
     ///
     /// ```rust
-    /// let column = Some(String::from_str(alloc, "geom")?);
-    /// let finding = GeoFinding { check: GeoCheck::Crs, column, ok: true };
-    /// let path = finding.path(alloc)?;
-    /// assert_eq!(rt; path.join(alloc, "/")?.as_str(), "columns/geom/crs");
+    /// assert_eq!(rt; GeoCode::Epoch.rule(), "epoch is neither absent nor a number");
     /// ```
-    pub fn path(&self, alloc: Global) -> Result<Vec<String>, AllocError>
-        ensures { IfOk result (λ path. map string_bytes path.items ≡ path_of self.now.check (option_map string_bytes self.now.column)) }
+    pub fn rule(self) -> &'static str
+        ensures { result.now ≡ rule_of self }
     {
-        let mut path = Vec::new(alloc);
-        if let Some(column) = &self.column {
-            path.push(String::from_str(alloc, "columns")?)?;
-            path.push(String::from_str(alloc, column.as_str())?)?;
+        match self {
+            Self::NotJson => "the value of geo is absent, no UTF-8, or no JSON within 127 levels",
+            Self::NotObject => "the value of geo is JSON, and no object",
+            Self::Version => "version is absent, no text, or no version of the format",
+            Self::OldVersion => "the version is before 1.0.0",
+            Self::NewVersion => "the version is a pre-release, or after 1.1.0",
+            Self::Columns => "columns is absent, no object, or without a member",
+            Self::ColumnMissing => "a key of columns is the name of no column",
+            Self::ColumnRepeated => "a key of columns is the name of several columns",
+            Self::Member => "a member of columns is no object",
+            Self::ColumnUndeclared => "a column holds geometries, and has no member of columns",
+            Self::PrimaryColumn => "primary_column is absent, no text, or no key of columns",
+            Self::Encoding => "encoding is absent, no text, or no encoding of the version",
+            Self::Layout => "the type of the column is not the layout of its encoding",
+            Self::Types => {
+                "geometry_types is absent or no array, or an item is no text, no name of a type, \
+                 or there twice"
+            }
+            Self::TypesVersion => "a type has a dimension that the version does not have",
+            Self::TypesContradict => "a type does not go with the layout of the column",
+            Self::Crs => "crs is neither absent, null nor an object",
+            Self::CrsMalformed => "an object at crs is no PROJJSON",
+            Self::Edges => "edges is no text, or none of the version's",
+            Self::Orientation => "orientation is neither absent nor counterclockwise",
+            Self::Epoch => "epoch is neither absent nor a number",
+            Self::Bbox => {
+                "bbox is neither absent nor an array of as many finite numbers as the version takes"
+            }
+            Self::BboxOrder => "a least bound of bbox is greater than the greatest",
+            Self::BboxRange => "a longitude or a latitude of bbox is out of range",
+            Self::BboxDimension => "bbox has another dimension than the geometry types",
+            Self::Covering => {
+                "covering is no object, or lacks a part, or a path in it is no array of two texts"
+            }
+            Self::CoveringName => "a path of a covering ends in another name than its bound's",
+            Self::CoveringColumn => "a path of a covering leads to no child of one group",
+            Self::CoveringType => {
+                "a path of a covering leads to another type than floats, or than the other paths"
+            }
+            Self::CoveringShape => {
+                "the group of a covering has other children, or another repetition"
+            }
+            Self::CoveringAbsent => {
+                "a group has the children of a covering, and no covering names it"
+            }
+            Self::EncodingContradicts => {
+                "encoding is another than the extension name of the column says"
+            }
+            Self::CrsContradicts => "crs is another than the column's own metadata say",
+            Self::CrsNotCompared => {
+                "it is not known whether crs and that of the column's own metadata are one"
+            }
+            Self::EdgesContradict => "edges are others than the column's own metadata say",
+            Self::EdgesOnProjected => "the edges are not planar, and the CRS is projected",
         }
-        if let Some(key) = self.check.key() {
-            path.push(String::from_str(alloc, key)?)?;
-        }
-        Ok(path)
     }
 }

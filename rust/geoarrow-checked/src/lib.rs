@@ -22,6 +22,7 @@
 mod calls;
 mod error;
 mod fault;
+mod finding;
 mod members;
 
 #[cfg(feature = "arrow-schema")]
@@ -29,6 +30,7 @@ pub mod arrow;
 
 pub use error::Error;
 pub use fault::Fault;
+pub use finding::{findings, Finding, Severity};
 
 /// What is asked of a line.
 #[derive(Debug, Clone, Copy, PartialEq, Eq, Hash)]
@@ -67,12 +69,12 @@ pub fn run(command: Command, input: &[u8]) -> Result<String, Error> {
 pub struct Options {
     /// A column without an extension name is taken for what is inferred from its data type.
     pub infer: bool,
-    /// What is only to be noted of a column is said among its warnings.
+    /// What is only worth to know is said: among the warnings of a column, and of GeoParquet metadata.
     pub notes: bool,
 }
 
-/// The report of a file, from its bytes: a line of JSON for each of its columns, each with a line feed behind it (docs/FORMAT.md, 2.5 to
-/// 2.7). An Arrow file (Feather), an Arrow stream, a Parquet file and lines are told apart by their first bytes.
+/// The report of a file, from its bytes: a line of JSON for each of its columns, and for each finding in its GeoParquet metadata, each with
+/// a line feed behind it (docs/FORMAT.md, 2.5 to 2.7, 5.1). An Arrow file (Feather), an Arrow stream, a Parquet file and lines are told apart by their first bytes.
 ///
 /// # Errors
 ///

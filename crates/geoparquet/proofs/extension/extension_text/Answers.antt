@@ -1,7 +1,7 @@
 use Rattle.std.proofs.Common.{◌≡◌, None, IfOk, codes, string_bytes, sym, ap, ◌∙◌, subst, arith}
 use Rattle.json.specs.Value.{value_view}
 use Rattle.geoparquet.specs.Extensions.{crs_of, edges_of, text_at, text_with}
-use Rattle.geoparquet.proofs.Members.{member_is_read, shallower}
+use Rattle.geoparquet.proofs.KeptMembers.{member_is_read, shallower}
 use Rattle.geoparquet.proofs.extension.extension_text.Goals as goal
 
 pub text_with-requires-clause-read : goal.text_with-requires-clause-read

@@ -2,7 +2,7 @@ use Rattle.std.proofs.Common.{◌≡◌, IfOk, string_bytes, ap, ◌∙◌, subs
 use Rattle.json.specs.Print.{print}
 use Rattle.json.specs.Tree.{json_tokens}
 use Rattle.json.specs.Value.{value_view}
-use Rattle.geoparquet.proofs.Members.{next_read, object_text}
+use Rattle.geoparquet.proofs.KeptMembers.{next_read, object_text}
 use Rattle.geoparquet.proofs.extension.text_with.Goals as goal
 
 pub metadata_text-requires : goal.metadata_text-requires

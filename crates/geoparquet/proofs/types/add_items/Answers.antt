@@ -1,0 +1,32 @@
+use Rattle.std.proofs.Common.{ap, map, sym, ◌++◌, ◌∙◌, take, arith}
+use Rattle.json.specs.Value.{value_view}
+use Rattle.geoparquet.specs.Findings.{finding}
+use Rattle.geoparquet.specs.Rules.{item_finding, unless}
+use Rattle.geoparquet.specs.TypeRules.{is_new_type, is_text}
+use Rattle.std.specs.List.{list_any}
+use Rattle.std.specs.Prelude.{◌||◌}
+use Rattle.std.proofs.lemmas.List.Folds.{list_any_more}
+use Rattle.geoparquet.specs.declared.code.GeoCode.TheVariants.{Types}
+use Rattle.geoparquet.proofs.Items.{one_item, readable_at, value_at}
+use Rattle.geoparquet.proofs.types.add_items.Goals as goal
+
+pub add_item-requires : goal.add_item-requires
+add_item-requires c = readable_at c.args.items.now c.loop-index.index c.index-items-index.result (omega arith) c.index-items-index.is c.requires
+
+pub loop-index-preserved : goal.loop-index-preserved
+loop-index-preserved c =
+    let js = map value_view c.args.items.now in
+    let i = c.loop-index.index in
+    let now = map finding c.loop-index.findings.items in
+    let j = value_view c.index-items-index.result in
+    let here = value_at c.args.items.now i c.index-items-index.result (omega arith) c.index-items-index.is in
+    let key = c.args.key.now in
+    let place = c.args.place.now in
+    let way = c.loop-index.invariant in
+    let same = c.in_ok-add_item.ensures ∙ ap (λ b. now ++ unless b (item_finding Types key place i j)) (c.is_new_type-kept.ensures (take i js) way.texts) in
+    record {
+      so_far = one_item is_new_type Types key place js (map finding c.args.findings.now.items) now _ i j here.0 here.1 same way.so_far;
+      texts = λ s.
+          c.in_ok-add_text.ensures s ∙ ap (λ b. b || is_text s j) (way.texts s)
+          ∙ sym (list_any_more (is_text s) js i j here.0 ∙ ap (λ v. list_any (is_text s) (take i js) || is_text s v) (sym here.1));
+    }

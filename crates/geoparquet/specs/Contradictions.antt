@@ -1,0 +1,143 @@
+-- What `geo` says of a column against the column itself (docs/FORMAT.md, 5.1).
+use Rattle.std.specs.Prelude.{◌&&◌, ◌||◌, Bool, true, false, not, List, [], ◌∷◌, codes, bytes_eq, Option, None, Some, is_some, option_and_then, if◌then◌else◌}
+use Rattle.json.specs.Json.{Json}
+use Rattle.json.specs.Find.{get, as_str}
+use Rattle.serde_json.specs.Data as own
+use Rattle.serde_json.specs.Data.{Data}
+use Rattle.serde_json.specs.Find.{get as get_data}
+use Rattle.arrow_values.specs.Tree.{Text}
+use Rattle.arrow_columns.specs.Column.{ColumnTree, name_on, metadata_on}
+use Rattle.geoarrow_layout.specs.declared.dimensions.Dimension.{Dimension}
+use Rattle.geoarrow_layout.specs.declared.native_kinds.NativeKind.{NativeKind}
+use Rattle.geoarrow_layout.specs.declared.native_kinds.NativeKind.TheVariants.{Point, LineString, Polygon, MultiPoint, MultiLineString, MultiPolygon}
+use Rattle.geoparquet.specs.Findings.{Finding}
+use Rattle.geoparquet.specs.Rules.{found_at, part_place, items_findings, unless}
+use Rattle.geoparquet.specs.MemberRules.{encoding_of, is_edges_value}
+use Rattle.geoparquet.specs.StrictLayouts.{layout_of}
+use Rattle.geoparquet.specs.TypeNames.{type_text}
+use Rattle.geoparquet.specs.TypeRules.{types_in, type_of, is_text}
+use Rattle.geoparquet.specs.Values.{geo_value}
+use Rattle.geoparquet.specs.declared.layout.Layout.{Layout}
+use Rattle.geoparquet.specs.declared.layout.Layout.TheVariants.{Binary, Native}
+use Rattle.geoparquet.specs.declared.code.GeoCode.{GeoCode}
+use Rattle.geoparquet.specs.declared.code.GeoCode.TheVariants.{Layout as NoLayout, TypesContradict, EncodingContradicts, EdgesContradict}
+use Rattle.geoparquet.specs.declared.finding.Version.{Version}
+
+-- ---- the layout
+
+-- the layout of the encoding, where the column has it
+abbrev pub layout_in : Option Text → Option ColumnTree → Option Layout
+layout_in (Some s) (Some c) = layout_of s c.data_type
+layout_in _ _ = None
+
+abbrev pub stored_layout : Version → Option ColumnTree → Json → Option Layout
+stored_layout version c j = layout_in (encoding_of version j) c
+
+-- a finding at `encoding`
+abbrev pub encoding_finding : GeoCode → Text → Json → Text → Finding
+encoding_finding code key j wanted = found_at code (Some key) (part_place key (codes "encoding")) (get (codes "encoding") j) (Some wanted)
+
+-- the column has another layout than that of its encoding; not judged where there is no column, or no encoding
+abbrev pub encoding_layout_findings : Text → Option Text → Option ColumnTree → Json → List Finding
+encoding_layout_findings key (Some s) (Some c) j = unless (is_some (layout_of s c.data_type)) (encoding_finding NoLayout key j s)
+encoding_layout_findings key _ _ j = []
+
+abbrev pub layout_findings : Version → Text → Option ColumnTree → Json → List Finding
+layout_findings version key c j = encoding_layout_findings key (encoding_of version j) c j
+
+-- ---- the geometry types, against a native layout
+
+-- the other kind of which types may be in columns of a kind
+abbrev pub single_of : NativeKind → NativeKind
+single_of MultiPoint = Point
+single_of MultiLineString = LineString
+single_of MultiPolygon = Polygon
+single_of k = k
+
+-- a type goes with a native layout by its kind and its dimension; what is no type is not judged
+abbrev pub goes_with : NativeKind → Dimension → List Json → Json → Bool
+goes_with k d before j = not (is_some (type_of j)) || (is_text (type_text k d) j || is_text (type_text (single_of k) d) j)
+
+abbrev pub types_beside_findings : Text → NativeKind → Dimension → Option (List Json) → List Finding
+types_beside_findings key k d (Some js) = items_findings (goes_with k d) TypesContradict key (part_place key (codes "geometry_types")) [] js
+types_beside_findings key k d None = []
+
+abbrev pub types_of_layout_findings : Text → Option Layout → Json → List Finding
+types_of_layout_findings key (Some (Native k d)) j = types_beside_findings key k d (types_in j)
+types_of_layout_findings key _ j = []
+
+abbrev pub types_contradict_findings : Version → Text → Option ColumnTree → Json → List Finding
+types_contradict_findings version key c j = types_of_layout_findings key (stored_layout version c j) j
+
+-- ---- the extension name
+
+-- the encoding that an extension name says
+abbrev pub own_encoding : Text → Option Text
+own_encoding s =
+    if bytes_eq s (codes "geoarrow.wkb") then Some (codes "WKB")
+    else if bytes_eq s (codes "geoarrow.wkt") then Some (codes "WKT")
+    else if bytes_eq s (codes "geoarrow.point") then Some (codes "point")
+    else if bytes_eq s (codes "geoarrow.linestring") then Some (codes "linestring")
+    else if bytes_eq s (codes "geoarrow.polygon") then Some (codes "polygon")
+    else if bytes_eq s (codes "geoarrow.multipoint") then Some (codes "multipoint")
+    else if bytes_eq s (codes "geoarrow.multilinestring") then Some (codes "multilinestring")
+    else if bytes_eq s (codes "geoarrow.multipolygon") then Some (codes "multipolygon")
+    else if bytes_eq s (codes "geoarrow.geometrycollection") then Some (codes "geometrycollection")
+    else if bytes_eq s (codes "geoarrow.geometry") then Some (codes "geometry")
+    else if bytes_eq s (codes "geoarrow.box") then Some (codes "box")
+    else if bytes_eq s (codes "ogc.wkb") then Some (codes "WKB")
+    else if bytes_eq s (codes "ogc.wkt") then Some (codes "WKT")
+    else None
+
+abbrev pub named_encoding : Option ColumnTree → Option Text
+named_encoding None = None
+named_encoding (Some c) = option_and_then own_encoding (name_on c)
+
+abbrev pub encodings_findings : Text → Json → Option Text → Option Text → List Finding
+encodings_findings key j (Some said) (Some own) = unless (bytes_eq said own) (encoding_finding EncodingContradicts key j own)
+encodings_findings key j _ _ = []
+
+-- `encoding` and the extension name say two; not judged where the column has not the layout of the encoding
+abbrev pub encoding_contradicts_findings : Version → Text → Option ColumnTree → Json → List Finding
+encoding_contradicts_findings version key c j =
+    if is_some (stored_layout version c j) then encodings_findings key j (encoding_of version j) (named_encoding c) else []
+
+-- ---- the edges
+
+-- the edges that a member says: its text, where that is one of the version's, and planar where it is absent
+abbrev pub edges_or_planar : Option Json → Option Text
+edges_or_planar None = Some (codes "planar")
+edges_or_planar (Some j) = as_str j
+
+abbrev pub said_edges : Version → Option Json → Option Text
+said_edges version found = if is_edges_value version found then edges_or_planar found else None
+
+-- the extension metadata of a column, as JSON; null where there are none
+abbrev pub metadata_value : Option Text → Data
+metadata_value None = own.null
+metadata_value (Some s) = geo_value s
+
+abbrev pub own_metadata : Option ColumnTree → Data
+own_metadata None = own.null
+own_metadata (Some c) = metadata_value (metadata_on c)
+
+-- the edges that extension metadata say, where they are an object: the text at `edges`, and planar where there are none
+abbrev pub edges_at : Option Data → Option Text
+edges_at None = Some (codes "planar")
+edges_at (Some own.null) = Some (codes "planar")
+edges_at (Some (own.string s)) = Some s
+edges_at (Some d) = None
+
+abbrev pub own_edges : Data → Option Text
+own_edges (own.object ms) = edges_at (get_data (codes "edges") (own.object ms))
+own_edges d = None
+
+abbrev pub two_edges_findings : Text → Option Json → Option Text → Option Text → List Finding
+two_edges_findings key found (Some said) (Some own) =
+    unless (bytes_eq said own) (found_at EdgesContradict (Some key) (part_place key (codes "edges")) found (Some own))
+two_edges_findings key found _ _ = []
+
+-- `edges` and the column's own metadata say two
+abbrev pub edges_contradict_findings : Version → Text → Option ColumnTree → Json → List Finding
+edges_contradict_findings version key c j =
+    two_edges_findings key (get (codes "edges") j) (said_edges version (get (codes "edges") j)) (own_edges (own_metadata c))

@@ -1,0 +1,53 @@
+-- Columns that hold geometries by their extension name, and have no member of `columns` (docs/FORMAT.md, 5.1).
+use Rattle.std.specs.Prelude.{◌&&◌, ◌||◌, Bool, true, false, not, List, codes, bytes_eq, Option, None, Some, is_some, flat_map, option_and_then}
+use Rattle.std.specs.List.{list_any}
+use Rattle.json.specs.Json.{Json, string}
+use Rattle.json.specs.Find.{get, at, as_str}
+use Rattle.arrow_values.specs.Tree.{Text}
+use Rattle.arrow_columns.specs.Column.{ColumnTree, name_on}
+use Rattle.geoparquet.specs.Findings.{Finding}
+use Rattle.geoparquet.specs.Rules.{found_at, unless}
+use Rattle.geoparquet.specs.Ordered.{has_member}
+use Rattle.geoparquet.specs.Contradictions.{own_encoding}
+use Rattle.geoparquet.specs.declared.code.GeoCode.TheVariants.{ColumnUndeclared}
+
+-- an extension name of geometries: each that says an encoding, but for that of boxes
+abbrev pub is_geometry_name : Text → Bool
+is_geometry_name s = is_some (own_encoding s) && not (bytes_eq s (codes "geoarrow.box"))
+
+abbrev pub is_geometry : Option Text → Bool
+is_geometry None = false
+is_geometry (Some s) = is_geometry_name s
+
+-- the path of a bound begins with the name of the column
+abbrev pub is_name : Text → Option Text → Bool
+is_name name None = false
+is_name name (Some s) = bytes_eq s name
+
+abbrev pub is_bound_in : Text → Json → Text → Bool
+is_bound_in name bbox bound = is_name name (option_and_then as_str (option_and_then (at 0) (get bound bbox)))
+
+abbrev pub is_box_in : Text → Option Json → Bool
+is_box_in name None = false
+is_box_in name (Some bbox) =
+    is_bound_in name bbox (codes "xmin") || is_bound_in name bbox (codes "ymin") || is_bound_in name bbox (codes "xmax")
+    || is_bound_in name bbox (codes "ymax") || is_bound_in name bbox (codes "zmin") || is_bound_in name bbox (codes "zmax")
+
+abbrev pub covers : Text → Json → Bool
+covers name j = is_box_in name (option_and_then (get (codes "bbox")) (get (codes "covering") j))
+
+-- a path of some covering names the column
+abbrev pub is_covered : Text → List (Text × Json) → Bool
+is_covered name ms = list_any (λ m. covers name m.1) ms
+
+-- a column that holds no geometries, has a member, or is that of a covering
+abbrev pub is_declared : List (Text × Json) → ColumnTree → Bool
+is_declared ms c = not (is_geometry (name_on c)) || (has_member c.name ms || is_covered c.name ms)
+
+-- the name of the column is what is found
+abbrev pub column_undeclared_findings : List (Text × Json) → ColumnTree → List Finding
+column_undeclared_findings ms c =
+    unless (is_declared ms c) (found_at ColumnUndeclared (Some c.name) (codes "/columns") (Some (string c.name)) None)
+
+abbrev pub undeclared_findings : List (Text × Json) → List ColumnTree → List Finding
+undeclared_findings ms cs = flat_map (column_undeclared_findings ms) cs

@@ -1,0 +1,58 @@
+//! Findings, added one by one.
+ghost use Rattle.std.specs.Prelude.{◌≡◌, [], ◌∷◌, ◌++◌, IfSome, OnOk, Some, None, map, option_map};
+ghost use Rattle.json.specs.Value.{value_view};
+ghost use Rattle.arrow_values.specs.Texts.{text_of};
+ghost use Rattle.value_tokens.specs.Values.{IsReadable};
+ghost use Rattle.geoparquet.specs.Findings.{finding};
+ghost use Rattle.geoparquet.specs.Rules.{found_at, part_place};
+
+use crate::code::GeoCode;
+use crate::finding::GeoFinding;
+use crate::place::{finding_at, part_place};
+use json::Value;
+use std::alloc::{AllocError, Global};
+
+/// Adds a finding of a column, or of all the metadata, at a place. Errs only when out of memory.
+pub(crate) fn add_at(
+    alloc: Global,
+    findings: &mut Vec<GeoFinding>,
+    code: GeoCode,
+    column: Option<&str>,
+    place: &str,
+    found: Option<&Value<'_>>,
+    wanted: Option<&str>,
+) -> Result<(), AllocError>
+    requires { IfSome found (λ v. IsReadable (value_view v.now)) }
+    ensures { OnOk result (map finding findings.new.items ≡ map finding findings.old.items
+        ++ found_at code (text_of column.entry) place.now (option_map (λ v. value_view v.now) found.entry) (text_of wanted.entry) ∷ []) }
+{
+    let place = String::from_str(alloc, place)?;
+    findings.push(finding_at(alloc, code, column, place, found, wanted)?)?;
+    Ok(())
+}
+
+/// Adds a finding at a member, with that name, of a column's member. Errs only when out of memory.
+pub(crate) fn add_part(
+    alloc: Global,
+    findings: &mut Vec<GeoFinding>,
+    code: GeoCode,
+    key: &str,
+    name: &str,
+    found: Option<&Value<'_>>,
+    wanted: Option<&str>,
+) -> Result<(), AllocError>
+    requires { IfSome found (λ v. IsReadable (value_view v.now)) }
+    ensures { OnOk result (map finding findings.new.items ≡ map finding findings.old.items
+        ++ found_at code (Some key.now) (part_place key.now name.now) (option_map (λ v. value_view v.now) found.entry) (text_of wanted.entry) ∷ []) }
+{
+    let place = part_place(alloc, key, name)?;
+    add_at(
+        alloc,
+        findings,
+        code,
+        Some(key),
+        place.as_str(),
+        found,
+        wanted,
+    )
+}

@@ -1,0 +1,230 @@
+//! What is found of a member of `columns`.
+ghost use Rattle.std.specs.Prelude.{◌≡◌, ◌++◌, ◌∷◌, [], OnOk, map, option_map};
+ghost use Rattle.json.specs.Value.{value_view};
+ghost use Rattle.value_tokens.specs.Values.{IsReadable, is_object};
+ghost use Rattle.arrow_values.specs.Texts.{text_of};
+ghost use Rattle.arrow_columns.specs.Column.{column_tree};
+ghost use Rattle.geoparquet.specs.CoveringAbsent.{first_box};
+ghost use Rattle.geoparquet.specs.Findings.{finding};
+ghost use Rattle.geoparquet.specs.declared.code.GeoCode.{GeoCode};
+ghost use Rattle.geoparquet.specs.GeoFindings.{key_finding, key_findings, storage_findings, fact_findings, box_findings, column_findings, part_findings, value_findings, member_findings};
+
+use crate::adding::add_at;
+use crate::box_range::add_bbox_range;
+use crate::boxes::{add_bbox, add_bbox_dimension, add_bbox_order};
+use crate::code::GeoCode;
+use crate::contradictions::{
+    add_edges_contradict, add_encoding_contradicts, add_layout, add_types_contradict,
+};
+use crate::counting::add_edges_on_projected;
+use crate::covering::add_covering;
+use crate::covering_absent::add_covering_absent;
+use crate::crs_claims::add_crs_contradicts;
+use crate::finding::{GeoFinding, Version};
+use crate::malformed::add_malformed;
+use crate::members::{add_crs, add_edges, add_encoding, add_epoch, add_orientation};
+use crate::place::column_place;
+use crate::types::add_types;
+use arrow_columns::{ColumnNames, SchemaColumn};
+use json::Value;
+use std::alloc::{AllocError, Global};
+
+/// Adds a finding of a key. Errs only when out of memory.
+fn add_key_finding(
+    alloc: Global,
+    findings: &mut Vec<GeoFinding>,
+    code: GeoCode,
+    key: &str,
+    member: &Value<'_>,
+) -> Result<(), AllocError>
+    requires { IsReadable (value_view member.now) }
+    ensures { OnOk result (map finding findings.new.items ≡ map finding findings.old.items
+        ++ key_finding code key.now (value_view member.now) ∷ []) }
+{
+    let place = column_place(alloc, key)?;
+    add_at(
+        alloc,
+        findings,
+        code,
+        Some(key),
+        place.as_str(),
+        Some(member),
+        None,
+    )
+}
+
+/// Adds what is found of a key: whether it is the name of one column. Errs only when out of memory.
+fn add_key(
+    alloc: Global,
+    findings: &mut Vec<GeoFinding>,
+    columns: &ColumnNames<'_>,
+    key: &str,
+    member: &Value<'_>,
+) -> Result<(), AllocError>
+    requires { IsReadable (value_view member.now) }
+    ensures { OnOk result (map finding findings.new.items ≡ map finding findings.old.items
+        ++ key_findings (map column_tree columns.now) key.now (value_view member.now)) }
+{
+    let Some(_column) = columns.first(key) else {
+        return add_key_finding(alloc, findings, GeoCode::ColumnMissing, key, member);
+    };
+    if columns.is_one(key) {
+        return Ok(());
+    }
+    add_key_finding(alloc, findings, GeoCode::ColumnRepeated, key, member)
+}
+
+/// Adds what is found of how the geometries are stored. Errs only when out of memory.
+fn add_storage(
+    alloc: Global,
+    findings: &mut Vec<GeoFinding>,
+    version: Version,
+    key: &str,
+    column: Option<&SchemaColumn>,
+    member: &Value<'_>,
+) -> Result<(), AllocError>
+    requires { IsReadable (value_view member.now) }
+    ensures { OnOk result (map finding findings.new.items ≡ map finding findings.old.items
+        ++ storage_findings version key.now (option_map (λ c. column_tree c.now) column.entry) (value_view member.now)) }
+{
+    add_encoding(alloc, findings, version, key, member)?;
+    add_layout(alloc, findings, version, key, column, member)?;
+    add_types(alloc, findings, version, key, member)?;
+    add_types_contradict(alloc, findings, version, key, column, member)
+}
+
+/// Adds what is found of what is said of the geometries. Errs only when out of memory.
+fn add_facts(
+    alloc: Global,
+    findings: &mut Vec<GeoFinding>,
+    version: Version,
+    key: &str,
+    member: &Value<'_>,
+) -> Result<(), AllocError>
+    requires { IsReadable (value_view member.now) }
+    ensures { OnOk result (map finding findings.new.items ≡ map finding findings.old.items
+        ++ fact_findings version key.now (value_view member.now)) }
+{
+    add_crs(alloc, findings, version, key, member)?;
+    add_malformed(alloc, findings, version, key, member)?;
+    add_edges(alloc, findings, version, key, member)?;
+    add_orientation(alloc, findings, version, key, member)?;
+    add_epoch(alloc, findings, version, key, member)
+}
+
+/// Adds what is found of the box. Errs only when out of memory.
+fn add_box(
+    alloc: Global,
+    findings: &mut Vec<GeoFinding>,
+    version: Version,
+    key: &str,
+    column: Option<&SchemaColumn>,
+    member: &Value<'_>,
+) -> Result<(), AllocError>
+    requires { IsReadable (value_view member.now) }
+    ensures { OnOk result (map finding findings.new.items ≡ map finding findings.old.items
+        ++ box_findings version key.now (option_map (λ c. column_tree c.now) column.entry) (value_view member.now)) }
+{
+    add_bbox(alloc, findings, version, key, member)?;
+    add_bbox_order(alloc, findings, version, key, column, member)?;
+    add_bbox_range(alloc, findings, version, key, column, member)?;
+    add_bbox_dimension(alloc, findings, version, key, member)
+}
+
+/// Adds what is found against other columns, and the column itself. Errs only when out of memory.
+fn add_against_columns(
+    alloc: Global,
+    findings: &mut Vec<GeoFinding>,
+    columns: &ColumnNames<'_>,
+    boxed: Option<&str>,
+    version: Version,
+    key: &str,
+    column: Option<&SchemaColumn>,
+    member: &Value<'_>,
+) -> Result<(), AllocError>
+    requires boxed { text_of boxed ≡ first_box (map column_tree columns.now) }
+    requires read { IsReadable (value_view member.now) }
+    ensures { OnOk result (map finding findings.new.items ≡ map finding findings.old.items
+        ++ column_findings (map column_tree columns.now) version key.now (option_map (λ c. column_tree c.now) column.entry) (value_view member.now)) }
+{
+    add_covering(alloc, findings, columns, version, key, column, member)?;
+    add_covering_absent(alloc, findings, boxed, version, key, column, member)?;
+    add_encoding_contradicts(alloc, findings, version, key, column, member)?;
+    add_crs_contradicts(alloc, findings, version, key, column, member)?;
+    add_edges_contradict(alloc, findings, version, key, column, member)?;
+    add_edges_on_projected(alloc, findings, version, key, column, member)
+}
+
+/// Adds what is found of the parts of a member. Errs only when out of memory.
+fn add_parts(
+    alloc: Global,
+    findings: &mut Vec<GeoFinding>,
+    columns: &ColumnNames<'_>,
+    boxed: Option<&str>,
+    version: Version,
+    key: &str,
+    column: Option<&SchemaColumn>,
+    member: &Value<'_>,
+) -> Result<(), AllocError>
+    requires boxed { text_of boxed ≡ first_box (map column_tree columns.now) }
+    requires read { IsReadable (value_view member.now) }
+    ensures { OnOk result (map finding findings.new.items ≡ map finding findings.old.items
+        ++ part_findings (map column_tree columns.now) version key.now (option_map (λ c. column_tree c.now) column.entry) (value_view member.now)) }
+{
+    add_storage(alloc, findings, version, key, column, member)?;
+    add_facts(alloc, findings, version, key, member)?;
+    add_box(alloc, findings, version, key, column, member)?;
+    add_against_columns(
+        alloc, findings, columns, boxed, version, key, column, member,
+    )
+}
+
+/// Whether a value is an object.
+pub(crate) fn is_object(value: &Value<'_>) -> bool
+    ensures { result ≡ is_object (value_view value.now) }
+{
+    matches!(value, Value::Object(_))
+}
+
+/// Adds what is found of the value of a key. Errs only when out of memory.
+fn add_value(
+    alloc: Global,
+    findings: &mut Vec<GeoFinding>,
+    columns: &ColumnNames<'_>,
+    boxed: Option<&str>,
+    version: Version,
+    key: &str,
+    member: &Value<'_>,
+) -> Result<(), AllocError>
+    requires boxed { text_of boxed ≡ first_box (map column_tree columns.now) }
+    requires read { IsReadable (value_view member.now) }
+    ensures { OnOk result (map finding findings.new.items ≡ map finding findings.old.items
+        ++ value_findings (map column_tree columns.now) version key.now (value_view member.now)) }
+{
+    if !is_object(member) {
+        return add_key_finding(alloc, findings, GeoCode::Member, key, member);
+    }
+    let column = columns.first(key);
+    add_parts(
+        alloc, findings, columns, boxed, version, key, column, member,
+    )
+}
+
+/// Adds what is found of a member of `columns` (docs/FORMAT.md, 5). Errs only when out of memory.
+pub(crate) fn add_member(
+    alloc: Global,
+    findings: &mut Vec<GeoFinding>,
+    columns: &ColumnNames<'_>,
+    boxed: Option<&str>,
+    version: Version,
+    key: &str,
+    member: &Value<'_>,
+) -> Result<(), AllocError>
+    requires boxed { text_of boxed ≡ first_box (map column_tree columns.now) }
+    requires read { IsReadable (value_view member.now) }
+    ensures { OnOk result (map finding findings.new.items ≡ map finding findings.old.items
+        ++ member_findings (map column_tree columns.now) version (key.now, value_view member.now)) }
+{
+    add_key(alloc, findings, columns, key, member)?;
+    add_value(alloc, findings, columns, boxed, version, key, member)
+}

@@ -1,0 +1,383 @@
+//! What `geo` says of a column against the column itself.
+ghost use Rattle.std.specs.Prelude.{◌≡◌, ◌∷◌, ◌++◌, [], IfOk, IfSome, OnOk, map, option_map};
+ghost use Rattle.json.specs.Value.{value_view};
+ghost use Rattle.serde_json.specs.View.{view};
+ghost use Rattle.value_tokens.specs.Values.{IsReadable};
+ghost use Rattle.arrow_values.specs.Texts.{text_of};
+ghost use Rattle.arrow_columns.specs.Column.{column_tree};
+ghost use Rattle.geoparquet.specs.declared.code.GeoCode.{GeoCode};
+ghost use Rattle.geoparquet.specs.Findings.{finding};
+ghost use Rattle.std.specs.List.{All};
+ghost use Rattle.geoparquet.specs.Rules.{item_finding, items_findings, unless};
+ghost use Rattle.geoparquet.specs.TypeRules.{is_text};
+ghost use Rattle.geoparquet.specs.Contradictions.{layout_in, stored_layout, encoding_finding, encoding_layout_findings, layout_findings, single_of, goes_with, types_contradict_findings, own_encoding, named_encoding, encodings_findings, encoding_contradicts_findings, said_edges, own_metadata, edges_at, own_edges, two_edges_findings, edges_contradict_findings};
+
+use crate::adding::add_part;
+use crate::code::GeoCode;
+use crate::finding::{GeoFinding, Version};
+use crate::layout::{Layout, layout_of};
+use crate::members::{encoding_of, is_edges_value};
+use crate::place::{item_finding, part_place};
+use crate::types::{type_of, type_text, types_in};
+use crate::values::geo_value;
+use arrow_columns::SchemaColumn;
+use geoarrow_layout::{Dimension, NativeKind};
+use json::Value;
+use std::alloc::{AllocError, Global};
+use value_tokens::member_of;
+
+/// Returns the layout of an encoding, where a column has it.
+fn layout_in(encoding: Option<&str>, column: Option<&SchemaColumn>) -> Option<Layout>
+    ensures { result ≡ layout_in (text_of encoding.entry) (option_map (λ c. column_tree c.now) column.entry) }
+{
+    match (encoding, column) {
+        (Some(encoding), Some(column)) => layout_of(encoding, &column.data_type),
+        _ => None,
+    }
+}
+
+/// Returns the layout of the encoding of a column, where it has that.
+pub(crate) fn stored_layout(
+    version: Version,
+    column: Option<&SchemaColumn>,
+    member: &Value<'_>,
+) -> Option<Layout>
+    requires { IsReadable (value_view member.now) }
+    ensures { result ≡ stored_layout version (option_map (λ c. column_tree c.now) column.entry) (value_view member.now) }
+{
+    layout_in(encoding_of(version, member), column)
+}
+
+/// Adds a finding at `encoding`. Errs only when out of memory.
+fn add_at_encoding(
+    alloc: Global,
+    findings: &mut Vec<GeoFinding>,
+    code: GeoCode,
+    key: &str,
+    member: &Value<'_>,
+    wanted: &str,
+) -> Result<(), AllocError>
+    requires { IsReadable (value_view member.now) }
+    ensures { OnOk result (map finding findings.new.items ≡ map finding findings.old.items
+        ++ encoding_finding code key.now (value_view member.now) wanted.now ∷ []) }
+{
+    let found = member_of(member, "encoding");
+    add_part(alloc, findings, code, key, "encoding", found, Some(wanted))
+}
+
+/// Adds what is found where a column has another layout than that of its encoding (docs/FORMAT.md,
+/// 5.1). Errs only when out of memory.
+pub(crate) fn add_layout(
+    alloc: Global,
+    findings: &mut Vec<GeoFinding>,
+    version: Version,
+    key: &str,
+    column: Option<&SchemaColumn>,
+    member: &Value<'_>,
+) -> Result<(), AllocError>
+    requires { IsReadable (value_view member.now) }
+    ensures { OnOk result (map finding findings.new.items ≡ map finding findings.old.items
+        ++ layout_findings version key.now (option_map (λ c. column_tree c.now) column.entry) (value_view member.now)) }
+{
+    let Some(encoding) = encoding_of(version, member) else {
+        return Ok(());
+    };
+    let Some(column) = column else {
+        return Ok(());
+    };
+    if layout_of(encoding, &column.data_type).is_some() {
+        return Ok(());
+    }
+    add_at_encoding(alloc, findings, GeoCode::Layout, key, member, encoding)
+}
+
+/// Returns the other kind of which types may be in columns of a kind.
+fn single_of(kind: NativeKind) -> NativeKind
+    ensures { result ≡ single_of kind }
+{
+    match kind {
+        NativeKind::MultiPoint => NativeKind::Point,
+        NativeKind::MultiLineString => NativeKind::LineString,
+        NativeKind::MultiPolygon => NativeKind::Polygon,
+        NativeKind::Point
+        | NativeKind::LineString
+        | NativeKind::Polygon
+        | NativeKind::GeometryCollection => kind,
+    }
+}
+
+/// Whether a value is that text.
+fn is_text(text: &str, value: &Value<'_>) -> bool
+    ensures { result ≡ is_text text.now (value_view value.now) }
+{
+    match value {
+        Value::String(other) => *other == text,
+        _ => false,
+    }
+}
+
+/// Whether a value goes with a native layout, or is no type.
+fn goes_with(kind: NativeKind, dimension: Dimension, value: &Value<'_>) -> bool
+    ensures { result ≡ goes_with kind dimension [] (value_view value.now) }
+{
+    type_of(value).is_none()
+        || (is_text(type_text(kind, dimension), value)
+            || is_text(type_text(single_of(kind), dimension), value))
+}
+
+/// Adds what is found of a type that does not go with a native layout. Errs only when out of memory.
+fn add_type_beside(
+    alloc: Global,
+    findings: &mut Vec<GeoFinding>,
+    key: &str,
+    place: &str,
+    kind: NativeKind,
+    dimension: Dimension,
+    index: usize,
+    item: &Value<'_>,
+) -> Result<(), AllocError>
+    requires { IsReadable (value_view item.now) }
+    ensures { OnOk result (map finding findings.new.items ≡ map finding findings.old.items
+        ++ unless (goes_with kind dimension [] (value_view item.now)) (item_finding GeoCode.TypesContradict key.now place.now index (value_view item.now))) }
+{
+    if goes_with(kind, dimension, item) {
+        return Ok(());
+    }
+    let code = GeoCode::TypesContradict;
+    findings.push(item_finding(alloc, code, key, place, index, item)?)?;
+    Ok(())
+}
+
+/// Adds what is found of the types that do not go with a native layout. Errs only when out of memory.
+fn add_types_beside(
+    alloc: Global,
+    findings: &mut Vec<GeoFinding>,
+    key: &str,
+    place: &str,
+    kind: NativeKind,
+    dimension: Dimension,
+    items: &[Value<'_>],
+) -> Result<(), AllocError>
+    requires { All IsReadable (map value_view items.now) }
+    ensures { OnOk result (map finding findings.new.items ≡ map finding findings.old.items
+        ++ items_findings (goes_with kind dimension) GeoCode.TypesContradict key.now place.now [] (map value_view items.now)) }
+{
+    for (index, item) in items.iter().enumerate() {
+        add_type_beside(alloc, findings, key, place, kind, dimension, index, item)?;
+    }
+    Ok(())
+}
+
+/// Adds what is found of the types that do not go with the native layout of a column (docs/FORMAT.md,
+/// 5.1). Errs only when out of memory.
+pub(crate) fn add_types_contradict(
+    alloc: Global,
+    findings: &mut Vec<GeoFinding>,
+    version: Version,
+    key: &str,
+    column: Option<&SchemaColumn>,
+    member: &Value<'_>,
+) -> Result<(), AllocError>
+    requires { IsReadable (value_view member.now) }
+    ensures { OnOk result (map finding findings.new.items ≡ map finding findings.old.items
+        ++ types_contradict_findings version key.now (option_map (λ c. column_tree c.now) column.entry) (value_view member.now)) }
+{
+    let Some(Layout::Native(kind, dimension)) = stored_layout(version, column, member) else {
+        return Ok(());
+    };
+    let Some(items) = types_in(member) else {
+        return Ok(());
+    };
+    let place = part_place(alloc, key, "geometry_types")?;
+    let place = place.as_str();
+    add_types_beside(alloc, findings, key, place, kind, dimension, items)
+}
+
+/// Returns the encoding that an extension name says.
+pub(crate) fn own_encoding(name: &str) -> Option<&'static str>
+    ensures { text_of result ≡ own_encoding name.now }
+{
+    match name {
+        "geoarrow.wkb" => Some("WKB"),
+        "geoarrow.wkt" => Some("WKT"),
+        "geoarrow.point" => Some("point"),
+        "geoarrow.linestring" => Some("linestring"),
+        "geoarrow.polygon" => Some("polygon"),
+        "geoarrow.multipoint" => Some("multipoint"),
+        "geoarrow.multilinestring" => Some("multilinestring"),
+        "geoarrow.multipolygon" => Some("multipolygon"),
+        "geoarrow.geometrycollection" => Some("geometrycollection"),
+        "geoarrow.geometry" => Some("geometry"),
+        "geoarrow.box" => Some("box"),
+        "ogc.wkb" => Some("WKB"),
+        "ogc.wkt" => Some("WKT"),
+        _ => None,
+    }
+}
+
+/// Returns the encoding that the extension name of a column says.
+fn named_encoding(column: Option<&SchemaColumn>) -> Option<&'static str>
+    ensures { text_of result ≡ named_encoding (option_map (λ c. column_tree c.now) column.entry) }
+{
+    own_encoding(column?.extension_type_name()?)
+}
+
+/// Adds what is found where both encodings are there, and are not one. Errs only when out of memory.
+fn add_encodings(
+    alloc: Global,
+    findings: &mut Vec<GeoFinding>,
+    key: &str,
+    member: &Value<'_>,
+    said: Option<&str>,
+    own: Option<&str>,
+) -> Result<(), AllocError>
+    requires { IsReadable (value_view member.now) }
+    ensures { OnOk result (map finding findings.new.items ≡ map finding findings.old.items
+        ++ encodings_findings key.now (value_view member.now) (text_of said.entry) (text_of own.entry)) }
+{
+    let Some(said) = said else {
+        return Ok(());
+    };
+    let Some(own) = own else {
+        return Ok(());
+    };
+    if said == own {
+        return Ok(());
+    }
+    add_at_encoding(
+        alloc,
+        findings,
+        GeoCode::EncodingContradicts,
+        key,
+        member,
+        own,
+    )
+}
+
+/// Adds what is found where `encoding` and the extension name of the column say two (docs/FORMAT.md,
+/// 5.1). Errs only when out of memory.
+pub(crate) fn add_encoding_contradicts(
+    alloc: Global,
+    findings: &mut Vec<GeoFinding>,
+    version: Version,
+    key: &str,
+    column: Option<&SchemaColumn>,
+    member: &Value<'_>,
+) -> Result<(), AllocError>
+    requires { IsReadable (value_view member.now) }
+    ensures { OnOk result (map finding findings.new.items ≡ map finding findings.old.items
+        ++ encoding_contradicts_findings version key.now (option_map (λ c. column_tree c.now) column.entry) (value_view member.now)) }
+{
+    if stored_layout(version, column, member).is_none() {
+        return Ok(());
+    }
+    let said = encoding_of(version, member);
+    add_encodings(alloc, findings, key, member, said, named_encoding(column))
+}
+
+/// Returns the edges that a member says.
+pub(crate) fn said_edges<'a>(version: Version, found: Option<&Value<'a>>) -> Option<&'a str>
+    ensures { text_of result ≡ said_edges version (option_map (λ v. value_view v.now) found.entry) }
+{
+    if !is_edges_value(version, found) {
+        return None;
+    }
+    match found {
+        Some(found) => found.as_str(),
+        None => Some("planar"),
+    }
+}
+
+/// Returns the extension metadata of a column, as JSON; null where there are none. Errs only when out
+/// of memory.
+pub(crate) fn own_metadata(
+    alloc: Global,
+    column: Option<&SchemaColumn>,
+) -> Result<serde_json::Value, AllocError>
+    ensures { IfOk result (λ value. view value ≡ own_metadata (option_map (λ c. column_tree c.now) column.entry)) }
+{
+    let Some(column) = column else {
+        return Ok(serde_json::Value::Null);
+    };
+    match column.extension_type_metadata() {
+        Some(text) => geo_value(alloc, text),
+        None => Ok(serde_json::Value::Null),
+    }
+}
+
+/// Returns the edges that a value of extension metadata says.
+fn edges_at(found: Option<&serde_json::Value>) -> Option<&str>
+    ensures { text_of result ≡ edges_at (option_map (λ v. view v.now) found.entry) }
+{
+    let Some(found) = found else {
+        return Some("planar");
+    };
+    match found {
+        serde_json::Value::Null => Some("planar"),
+        serde_json::Value::String(text) => Some(text.as_str()),
+        _ => None,
+    }
+}
+
+/// Returns the edges that extension metadata say.
+pub(crate) fn own_edges(own: &serde_json::Value) -> Option<&str>
+    ensures { text_of result ≡ own_edges (view own.now) }
+{
+    if !own.is_object() {
+        return None;
+    }
+    edges_at(own.get("edges"))
+}
+
+/// Adds what is found where both edges are there, and are not one. Errs only when out of memory.
+fn add_two_edges(
+    alloc: Global,
+    findings: &mut Vec<GeoFinding>,
+    key: &str,
+    found: Option<&Value<'_>>,
+    said: Option<&str>,
+    own: Option<&str>,
+) -> Result<(), AllocError>
+    requires { IfSome found (λ v. IsReadable (value_view v.now)) }
+    ensures { OnOk result (map finding findings.new.items ≡ map finding findings.old.items
+        ++ two_edges_findings key.now (option_map (λ v. value_view v.now) found.entry) (text_of said.entry) (text_of own.entry)) }
+{
+    let Some(said) = said else {
+        return Ok(());
+    };
+    let Some(own) = own else {
+        return Ok(());
+    };
+    if said == own {
+        return Ok(());
+    }
+    add_part(
+        alloc,
+        findings,
+        GeoCode::EdgesContradict,
+        key,
+        "edges",
+        found,
+        Some(own),
+    )
+}
+
+/// Adds what is found where `edges` and the column's own metadata say two (docs/FORMAT.md, 5.1). Errs
+/// only when out of memory.
+pub(crate) fn add_edges_contradict(
+    alloc: Global,
+    findings: &mut Vec<GeoFinding>,
+    version: Version,
+    key: &str,
+    column: Option<&SchemaColumn>,
+    member: &Value<'_>,
+) -> Result<(), AllocError>
+    requires { IsReadable (value_view member.now) }
+    ensures { OnOk result (map finding findings.new.items ≡ map finding findings.old.items
+        ++ edges_contradict_findings version key.now (option_map (λ c. column_tree c.now) column.entry) (value_view member.now)) }
+{
+    let own = own_metadata(alloc, column)?;
+    let found = member_of(member, "edges");
+    let said = said_edges(version, found);
+    add_two_edges(alloc, findings, key, found, said, own_edges(&own))
+}

@@ -1,0 +1,175 @@
+//! What helps where a code is found.
+ghost use Rattle.std.specs.Prelude.{◌≡◌, IfOk, map, option_map, string_bytes};
+ghost use Rattle.arrow_values.specs.Texts.{text_of};
+ghost use Rattle.geoparquet.specs.Words.{judged_text, advice_of, names_of};
+ghost use Rattle.geoparquet.specs.Words.{meant, helping, near_name, help_text};
+
+use crate::code::GeoCode;
+use crate::finding::{GeoFinding, Version};
+use crate::nearest::nearest;
+use std::alloc::{AllocError, Global};
+
+/// Which rules are used.
+fn judged_text(version: Version) -> &'static str
+    ensures { result.now ≡ judged_text version }
+{
+    match version {
+        Version::Old => "The rules of versions before 1.0.0 are used.",
+        Version::V1_0 => "The rules of 1.0.0 are used.",
+        Version::V1_1 => "The rules of 1.1.0 are used.",
+        Version::V2 => "The rules of version 2 are used, as far as they are known.",
+    }
+}
+
+impl GeoCode {
+    /// Returns what helps where the code is found in metadata of a version, in words, if there is
+    /// something to say.
+    ///
+    /// ```rust
+    /// assert_eq!(rt; GeoCode::Epoch.advice(Version::V1_1), Some("A number has no quotes."));
+    /// ```
+    pub fn advice(self, version: Version) -> Option<&'static str>
+        ensures { text_of result ≡ advice_of version self }
+    {
+        match self {
+            Self::NotJson => Some(
+                "JSON has no NaN, no Infinity and no byte order mark; leave out a bbox that is \
+                 not finite.",
+            ),
+            Self::Version => Some(judged_text(version)),
+            Self::OldVersion => Some(
+                "Versions before 1.0.0 are judged in part; write the metadata anew.",
+            ),
+            Self::NewVersion => Some(judged_text(version)),
+            Self::ColumnUndeclared => Some("Readers of GeoParquet do not see the column."),
+            Self::Encoding => Some("The name has no geoarrow. before it."),
+            Self::TypesVersion => Some("Types with measures come with version 2."),
+            Self::Crs => Some("projinfo -o PROJJSON CODE prints one, where CODE is as EPSG:4326."),
+            Self::Orientation => Some("Leave it out if rings go either way."),
+            Self::Epoch => Some("A number has no quotes."),
+            Self::BboxOrder => Some(
+                "Only a box of a geographic CRS has an xmin above its xmax, where it crosses the \
+                 antimeridian.",
+            ),
+            Self::CoveringName => {
+                Some("Where bounds are exchanged, filters by this covering drop rows.")
+            }
+            Self::CoveringAbsent => Some(
+                "Add \"covering\":{\"bbox\":{\"xmin\":[NAME,\"xmin\"],\
+                 \"ymin\":[NAME,\"ymin\"],\"xmax\":[NAME,\"xmax\"],\
+                 \"ymax\":[NAME,\"ymax\"]}}, where NAME is the name found.",
+            ),
+            Self::CrsContradicts => {
+                Some("The report of the column shows that of its own metadata.")
+            }
+            Self::CrsNotCompared => {
+                Some("The report of the column shows that of its own metadata.")
+            }
+            Self::EdgesContradict => {
+                Some("The report of the column shows those of its own metadata.")
+            }
+            _ => None,
+        }
+    }
+
+    /// The names that are expected where the code is found in metadata of a version, as JSON.
+    fn names(self, version: Version) -> &'static [&'static str]
+        ensures { map (λ name. name.now) result.now ≡ names_of version self }
+    {
+        match (self, version) {
+            (Self::Encoding, Version::Old | Version::V1_0) => &["\"WKB\""],
+            (Self::Encoding, _) => &[
+                "\"WKB\"",
+                "\"point\"",
+                "\"linestring\"",
+                "\"polygon\"",
+                "\"multipoint\"",
+                "\"multilinestring\"",
+                "\"multipolygon\"",
+            ],
+            (Self::Types, _) => &[
+                "\"Point\"",
+                "\"LineString\"",
+                "\"Polygon\"",
+                "\"MultiPoint\"",
+                "\"MultiLineString\"",
+                "\"MultiPolygon\"",
+                "\"GeometryCollection\"",
+                "\"Point Z\"",
+                "\"LineString Z\"",
+                "\"Polygon Z\"",
+                "\"MultiPoint Z\"",
+                "\"MultiLineString Z\"",
+                "\"MultiPolygon Z\"",
+                "\"GeometryCollection Z\"",
+            ],
+            (Self::Edges, Version::V2) => &[
+                "\"planar\"",
+                "\"spherical\"",
+                "\"vincenty\"",
+                "\"thomas\"",
+                "\"andoyer\"",
+                "\"karney\"",
+            ],
+            (Self::Edges, _) => &["\"planar\"", "\"spherical\""],
+            (Self::Orientation, _) => &["\"counterclockwise\""],
+            (Self::CrsMalformed, _) => &[
+                "\"GeographicCRS\"",
+                "\"ProjectedCRS\"",
+                "\"CompoundCRS\"",
+                "\"BoundCRS\"",
+                "\"GeodeticCRS\"",
+                "\"VerticalCRS\"",
+                "\"EngineeringCRS\"",
+                "\"ParametricCRS\"",
+                "\"TemporalCRS\"",
+            ],
+            _ => &[],
+        }
+    }
+}
+
+impl GeoFinding {
+    /// Returns what helps, in words, if there is something to say: the name that what is found is
+    /// most like, where a name is expected and one is like it; else what is said of the code in
+    /// metadata of the version. Errs only when out of memory.
+    pub fn help(&self, alloc: Global, version: Version) -> Result<Option<String>, AllocError>
+        ensures { IfOk result (λ help. option_map string_bytes help ≡ help_text version self.now.code (option_map string_bytes self.now.found)) }
+    {
+        match near_name(alloc, version, self)? {
+            Some(name) => Ok(Some(meant(alloc, name)?)),
+            None => copied(alloc, self.code.advice(version)),
+        }
+    }
+}
+
+/// The name that what is found is most like.
+fn near_name(
+    alloc: Global,
+    version: Version,
+    finding: &GeoFinding,
+) -> Result<Option<&'static str>, AllocError>
+    ensures { IfOk result (λ name. text_of name ≡ near_name version finding.now.code (option_map string_bytes finding.now.found)) }
+{
+    match &finding.found {
+        Some(found) => nearest(alloc, found.as_str(), finding.code.names(version)),
+        None => Ok(None),
+    }
+}
+
+/// The question whether a name is meant.
+fn meant(alloc: Global, name: &str) -> Result<String, AllocError>
+    ensures { IfOk result (λ s. string_bytes s ≡ meant name.now) }
+{
+    format!(in alloc; "Did you mean {name}?")
+}
+
+/// A copy of a text, if there is one.
+fn copied(alloc: Global, text: Option<&str>) -> Result<Option<String>, AllocError>
+    ensures { IfOk result (λ s. option_map string_bytes s ≡ text_of text.entry) }
+{
+    match text {
+        Some(text) => Ok(Some(String::from_str(alloc, text)?)),
+        None => Ok(None),
+    }
+}

@@ -1,0 +1,515 @@
+"""What is found in the metadata of GeoParquet, by the tables of docs/FORMAT.md, 5, in plain Python.
+
+    python3 -m interop.geo_findings [FILE ..]
+
+A model of its own, which shares no code with the crates: `findings` says the version by which
+metadata are judged, and what is found in them beside the columns of a file. The command answers the
+rows of `check_geo` in crates/file_rows/data/geo, or in the files that are named, and prints each
+whose answer is another; the last line is `N rows, M differ`, and the status is 1 where M is not 0.
+"""
+import collections
+import json
+import pathlib
+import re
+import sys
+
+from . import geo_crs
+from .geo_json import ABSENT, Members, NotJson, Number, at, read, shown, text_of
+
+ROWS = pathlib.Path(__file__).resolve().parent.parent / "crates/file_rows/data/geo"
+NAME, METADATA = "ARROW:extension:name", "ARROW:extension:metadata"
+# The rule, the key of `columns`, a JSON pointer, what stands at that place, and what is wanted.
+Finding = collections.namedtuple("Finding", "code column pointer found wanted")
+
+CODES = (
+    "GeoNotJson", "GeoNotObject", "GeoVersion", "GeoOldVersion", "GeoNewVersion", "GeoColumns",
+    "GeoColumnMissing", "GeoColumnRepeated", "GeoMember", "GeoColumnUndeclared", "GeoPrimaryColumn",
+    "GeoEncoding", "GeoLayout", "GeoTypes", "GeoTypesVersion", "TypesContradict", "GeoCrs",
+    "CrsMalformed", "GeoEdges", "GeoOrientation", "GeoEpoch", "GeoBbox", "GeoBboxOrder",
+    "GeoBboxRange", "GeoBboxDimension", "GeoCovering", "GeoCoveringName", "GeoCoveringColumn",
+    "GeoCoveringType", "GeoCoveringShape", "GeoCoveringAbsent", "EncodingContradicts",
+    "CrsContradicts", "CrsNotCompared", "EdgesContradict", "EdgesOnProjected")
+KINDS = ("Point", "LineString", "Polygon", "MultiPoint", "MultiLineString", "MultiPolygon",
+         "GeometryCollection")
+SUFFIXES = ("", " Z", " M", " ZM")
+# The encodings that are native: the lists around a coordinate, and the kinds of the geometry types.
+NATIVE = {
+    "point": (0, ("Point",)),
+    "linestring": (1, ("LineString",)),
+    "polygon": (2, ("Polygon",)),
+    "multipoint": (1, ("MultiPoint", "Point")),
+    "multilinestring": (2, ("MultiLineString", "LineString")),
+    "multipolygon": (3, ("MultiPolygon", "Polygon")),
+}
+# What each version has. Of old ones only some rules are judged.
+Version = collections.namedtuple("Version", "name encodings suffixes edges sizes")
+ALL = ("WKB", *NATIVE)
+PLANAR = ("planar", "spherical")
+OLD = Version("Old", ("WKB",), SUFFIXES, PLANAR, ())
+V1_0 = Version("V1_0", ("WKB",), SUFFIXES[:2], PLANAR, (4, 6))
+V1_1 = Version("V1_1", ALL, SUFFIXES[:2], PLANAR, (4, 6))
+V2 = Version("V2", ALL, SUFFIXES, (*PLANAR, "vincenty", "thomas", "andoyer", "karney"), (4, 6, 8))
+# Texts of versions, the first row that fits: the version, and the code that is said of it.
+VERSIONS = (
+    (r"1\.0\.0", V1_0, None),
+    (r"1\.1\.0", V1_1, None),
+    (r"1\.0\.0[-+].*", V1_0, "GeoNewVersion"),
+    (r"1\.\d{1,3}\.\d{1,3}([-+].*)?", V1_1, "GeoNewVersion"),
+    (r"0\.\d{1,3}\.\d{1,3}(\D.*)?", OLD, "GeoOldVersion"),
+    (r"([2-9]|[1-9]\d{1,2})\.\d{1,3}\.\d{1,3}(\D.*)?", V2, "GeoNewVersion"),
+    (r".*", V1_1, "GeoVersion"),
+)
+BYTES = ("binary", "large_binary", "binary_view")
+LISTS = ("list", "large_list")
+# The bounds of a covering, and those of boxes of four, six and eight numbers.
+FLAT, HIGH = ("xmin", "ymin", "xmax", "ymax"), ("xmin", "ymin", "zmin", "xmax", "ymax", "zmax")
+AXES = {4: "xy", 6: "xyz", 8: "xyzm"}
+LIMITS = {"x": 180, "y": 90}
+
+
+class Judged:
+    """Metadata while they are judged: their value, the columns of the file, and what is found."""
+
+    def __init__(self, value, columns):
+        self.value, self.columns, self.found = value, columns, []
+
+    def add(self, code, column, path, wanted=None, name=None):
+        pointer = "".join("/" + str(it).replace("~", "~0").replace("/", "~1") for it in path)
+        there = at(self.value, *path) if name is None else name
+        found = None if there is ABSENT else shown(text_of(there))
+        self.found.append(Finding(code, column, pointer, found, wanted))
+
+
+class Member:
+    """A member of `columns` while it is judged, with the first column of its name, if there is."""
+
+    def __init__(self, judged, version, key, value):
+        self.judged, self.version, self.key, self.value = judged, version, key, value
+        self.column = first(judged.columns, key)
+        self.codes = set()
+
+    def add(self, code, *path, wanted=None, name=None):
+        self.codes.add(code)
+        self.judged.add(code, self.key, ("columns", self.key, *path), wanted, name)
+
+    def at(self, *path):
+        return at(self.value, *path)
+
+    def has(self, *codes):
+        return not self.codes.isdisjoint(codes)
+
+
+def first(columns, name):
+    """The first column of a name, if there is one."""
+    return next((column for column in columns if column["name"] == name), None)
+
+
+def findings(text, columns):
+    """The version by which the metadata are judged, and what is found in them."""
+    try:
+        value = read(text)
+    except NotJson:
+        return V1_1, [Finding("GeoNotJson", None, "", shown(text), None)]
+    judged = Judged(value, columns)
+    if not isinstance(value, Members):
+        judged.add("GeoNotObject", None, ())
+        return V1_1, judged.found
+    version = add_version(judged)
+    members = value.get("columns")
+    is_whole = isinstance(members, Members) and len(members) > 0
+    add_columns(judged, members, is_whole)
+    for key in sorted(members.keys(), key=str.encode) if is_whole else ():
+        add_member(Member(judged, version, key, members.get(key)))
+    if is_whole:
+        add_undeclared(judged, members)
+    return version, judged.found
+
+
+def add_version(judged):
+    """The version, by `version` and `schema_version`."""
+    text = judged.value.get("version")
+    if text is ABSENT and isinstance(judged.value.get("schema_version"), str):
+        judged.add("GeoOldVersion", None, ("version",))
+        return OLD
+    if not isinstance(text, str):
+        text = ""
+    fits = (it for it in VERSIONS if re.fullmatch(it[0], text, re.ASCII | re.DOTALL))
+    _, version, code = next(fits)
+    if code:
+        judged.add(code, None, ("version",))
+    return version
+
+
+def add_columns(judged, members, is_whole):
+    """What is found of `columns` as a whole, and of `primary_column`."""
+    if not is_whole:
+        judged.add("GeoColumns", None, ("columns",))
+    primary = judged.value.get("primary_column")
+    if not isinstance(primary, str) or is_whole and primary not in members.keys():
+        judged.add("GeoPrimaryColumn", None, ("primary_column",))
+
+
+def add_undeclared(judged, members):
+    """The columns of geometries that have no member, but for boxes and the columns of coverings."""
+    paths = [at(members.get(key), "covering", "bbox", bound, 0)
+             for key in members.keys() for bound in HIGH]
+    for column in judged.columns:
+        claim = encoding_claim(column)
+        name = column["name"]
+        if claim not in (None, "box") and name not in members.keys() and name not in paths:
+            judged.add("GeoColumnUndeclared", name, ("columns",), name=name)
+
+
+def add_member(it):
+    """What is found of a member, in the order of the codes."""
+    count = sum(column["name"] == it.key for column in it.judged.columns)
+    if count != 1:
+        it.add("GeoColumnRepeated" if count else "GeoColumnMissing")
+    if not isinstance(it.value, Members):
+        it.add("GeoMember")
+        return
+    is_old = it.version is OLD
+    if not is_old:
+        add_encoding(it)
+    add_layout(it)
+    if not is_old:
+        add_types(it)
+        add_crs(it)
+        add_words(it)
+        add_box(it)
+        add_covering(it)
+    add_contradictions(it)
+    if not is_old and on_projected(it):
+        it.add("EdgesOnProjected", "edges")
+
+
+def add_encoding(it):
+    if encoding_of(it) is None:
+        it.add("GeoEncoding", "encoding")
+
+
+def encoding_of(it):
+    """The encoding of a member, if it is one of the version."""
+    text = it.at("encoding")
+    return text if isinstance(text, str) and text in it.version.encodings else None
+
+
+def add_layout(it):
+    encoding = encoding_of(it)
+    if it.column and encoding and layout_of(it.column["type"], encoding) is None:
+        it.add("GeoLayout", "encoding", wanted=encoding)
+
+
+def layout_of(kind, encoding):
+    """What a type is by the strict layout of an encoding: `wkb`, or `xy` or `xyz`; or None."""
+    if encoding == "WKB":
+        return "wkb" if kind in BYTES else None
+    for _ in range(NATIVE[encoding][0]):
+        words = [word for word in LISTS if isinstance(kind, dict) and word in kind]
+        if not words:
+            return None
+        kind = kind[words[0]]["type"]
+    fields = kind.get("struct", ()) if isinstance(kind, dict) else ()
+    if any(field["nullable"] or field["type"] != "float64" for field in fields):
+        return None
+    names = tuple(field["name"] for field in fields)
+    return {("x", "y"): "xy", ("x", "y", "z"): "xyz"}.get(names)
+
+
+def split_type(text):
+    """The kind and the suffix of the name of a type, if it is one of some version."""
+    return next(((kind, suffix) for kind in KINDS for suffix in SUFFIXES
+                 if isinstance(text, str) and text == kind + suffix), None)
+
+
+def add_types(it):
+    """What is found of `geometry_types`: of each item, by the version, and by the layout."""
+    types = it.at("geometry_types")
+    if not isinstance(types, list):
+        it.add("GeoTypes", "geometry_types")
+        return
+    names = [split_type(item) for item in types]
+    for place, name in enumerate(names):
+        if name is None or name in names[:place]:
+            it.add("GeoTypes", "geometry_types", place)
+    for place, name in enumerate(names):
+        if name and name[1] not in it.version.suffixes:
+            it.add("GeoTypesVersion", "geometry_types", place)
+    encoding = encoding_of(it)
+    if it.column and encoding in NATIVE and not it.has("GeoLayout"):
+        suffix = {"xy": "", "xyz": " Z"}[layout_of(it.column["type"], encoding)]
+        for place, name in enumerate(names):
+            if name and (name[0] not in NATIVE[encoding][1] or name[1] != suffix):
+                it.add("TypesContradict", "geometry_types", place)
+
+
+def add_crs(it):
+    crs = it.at("crs")
+    if isinstance(crs, Members):
+        for path in geo_crs.malformed(crs):
+            it.add("CrsMalformed", "crs", *path)
+    elif crs not in (ABSENT, None):
+        it.add("GeoCrs", "crs")
+
+
+def add_words(it):
+    """What is found of `edges`, `orientation` and `epoch`."""
+    edges = it.at("edges")
+    if edges is not ABSENT and not (isinstance(edges, str) and edges in it.version.edges):
+        it.add("GeoEdges", "edges")
+    if it.at("orientation") not in (ABSENT, "counterclockwise"):
+        it.add("GeoOrientation", "orientation")
+    if not (it.at("epoch") is ABSENT or isinstance(it.at("epoch"), Number)):
+        it.add("GeoEpoch", "epoch")
+
+
+def add_box(it):
+    """What is found of `bbox`."""
+    box = it.at("bbox")
+    if box is ABSENT:
+        return
+    if not isinstance(box, list) or len(box) not in it.version.sizes:
+        it.add("GeoBbox", "bbox")
+        return
+    for place, item in enumerate(box):
+        if not isinstance(item, Number):
+            it.add("GeoBbox", "bbox", place)
+    if it.has("GeoBbox"):
+        return
+    axes = AXES[len(box)]
+    for place, axis in enumerate(axes):
+        most = box[place + len(axes)]
+        is_judged = axis != "x" or class_of(it) == "projected"
+        if is_judged and float(box[place].text) > float(most.text):
+            it.add("GeoBboxOrder", "bbox", place, wanted=most.text)
+    add_range(it, box, axes)
+    add_dimension(it, len(box))
+
+
+def add_range(it, box, axes):
+    """Longitudes and latitudes that are out of range, where the CRS is one of the pairs."""
+    crs = effective_crs(it)
+    if it.has("GeoCrs", "CrsMalformed") or crs is None or not geo_crs.is_paired(crs):
+        return
+    for place, item in enumerate(box):
+        limit = LIMITS.get((axes + axes)[place])
+        number = float(item.text)
+        if limit and abs(number) > limit + 0.001:
+            it.add("GeoBboxRange", "bbox", place, wanted=str(limit if number > 0 else -limit))
+
+
+def add_dimension(it, size):
+    types = it.at("geometry_types")
+    names = [split_type(item) for item in types] if isinstance(types, list) else []
+    high = ["Z" in name[1] for name in names if name]
+    if high and size == 6 and not any(high):
+        it.add("GeoBboxDimension", "bbox", wanted="4")
+    if high and size == 4 and all(high):
+        it.add("GeoBboxDimension", "bbox", wanted="6")
+
+
+def add_covering(it):
+    """What is found of `covering`."""
+    if it.at("covering") is ABSENT:
+        boxes = [column["name"] for column in it.judged.columns if is_box_group(column["type"])]
+        if it.column and boxes:
+            it.add("GeoCoveringAbsent", name=boxes[0])
+        return
+    bounds = it.at("covering", "bbox")
+    if not isinstance(it.at("covering"), Members):
+        it.add("GeoCovering", "covering")
+    elif not isinstance(bounds, Members):
+        it.add("GeoCovering", "covering", "bbox")
+    else:
+        add_bounds(it, bounds)
+
+
+def add_bounds(it, bounds):
+    """What is found of the paths of a covering: of their form, their names, and their group."""
+    is_high = "zmin" in bounds.keys() or "zmax" in bounds.keys()
+    paths = [(bound, bounds.get(bound)) for bound in (HIGH if is_high else FLAT)]
+    for bound, path in paths:
+        if not is_path(path):
+            it.add("GeoCovering", "covering", "bbox", bound)
+    if it.has("GeoCovering"):
+        return
+    for bound, path in paths:
+        if path[1] != bound:
+            it.add("GeoCoveringName", "covering", "bbox", bound, 1, wanted=bound)
+    code, bound = fault_of_group(it, paths)
+    if code:
+        it.add(code, "covering", "bbox", bound)
+
+
+def is_path(value):
+    """Whether a value is an array of two texts."""
+    return isinstance(value, list) and [type(it) for it in value] == [str, str]
+
+
+def fault_of_group(it, paths):
+    """The first fault of the group that paths lead to, and the first bound that shows it."""
+    name = paths[0][1][0]
+    of_name = [column for column in it.judged.columns if column["name"] == name]
+    children = fields_of(of_name[0]["type"]) if len(of_name) == 1 else {}
+    for bound, path in paths:
+        if path[0] != name or path[1] not in children:
+            return "GeoCoveringColumn", bound
+    kind = children[paths[0][1][1]]
+    for bound, path in paths:
+        if children[path[1]] not in ("float32", "float64") or children[path[1]] != kind:
+            return "GeoCoveringType", bound
+    is_other = set(children) - set(HIGH) - {path[1] for _, path in paths}
+    if is_other or it.column and it.column["nullable"] != of_name[0]["nullable"]:
+        return "GeoCoveringShape", paths[0][0]
+    return None, None
+
+
+def fields_of(kind):
+    """The types of the fields of a struct, by their names."""
+    fields = kind.get("struct", ()) if isinstance(kind, dict) else ()
+    return {field["name"]: field["type"] for field in fields}
+
+
+def is_box_group(kind):
+    """Whether a type is a struct of the bounds of a covering, each once, and of no others."""
+    fields = kind.get("struct", ()) if isinstance(kind, dict) else ()
+    names = sorted(field["name"] for field in fields)
+    kinds = [field["type"] for field in fields]
+    return names in (sorted(FLAT), sorted(HIGH)) and kinds in (
+        ["float32"] * len(kinds), ["float64"] * len(kinds))
+
+
+def encoding_claim(column):
+    """The encoding that the extension name of a column says, if it says one."""
+    name = column.get("metadata", {}).get(NAME, "")
+    kinds = [*NATIVE, "geometrycollection", "geometry", "box"]
+    words = {**{"geoarrow." + kind: kind for kind in kinds},
+             "geoarrow.wkb": "WKB", "ogc.wkb": "WKB", "geoarrow.wkt": "WKT", "ogc.wkt": "WKT"}
+    return words.get(name)
+
+
+def own_metadata(it):
+    """The extension metadata of a column, where they are an object."""
+    text = (it.column or {}).get("metadata", {}).get(METADATA)
+    try:
+        value = read(text or "")
+    except NotJson:
+        return None
+    return value if isinstance(value, Members) else None
+
+
+def own_crs(it):
+    """The CRS that the column says by itself: its value, and whether it is one of a database."""
+    own = own_metadata(it)
+    value = own.get("crs") if own else ABSENT
+    if value in (ABSENT, None, ""):
+        return None
+    return geo_crs.Claim(value, own.get("crs_type") == "srid")
+
+
+def said_crs(it):
+    """The CRS that a member says, a default included; None where it is broken or says none."""
+    crs = it.at("crs")
+    if it.has("GeoCrs", "CrsMalformed"):
+        return None
+    if it.version is OLD and not (crs is None or isinstance(crs, (Members, str))):
+        return None
+    return geo_crs.Claim("OGC:CRS84" if crs is ABSENT else crs, False)
+
+
+def effective_crs(it):
+    """The CRS that counts: the member's where it says one, or the column's own, or the default."""
+    said = said_crs(it)
+    return own_crs(it) or said if said is None or it.at("crs") is ABSENT else said
+
+
+def class_of(it):
+    crs = effective_crs(it)
+    return geo_crs.class_of(crs) if crs else None
+
+
+def add_contradictions(it):
+    """What the member says beside what the extension name and metadata of its column say."""
+    if it.column is None:
+        return
+    encoding, own = encoding_of(it), encoding_claim(it.column)
+    if encoding and own and own != encoding and not it.has("GeoLayout"):
+        it.add("EncodingContradicts", "encoding", wanted=own)
+    said, own = said_crs(it), own_crs(it)
+    if said and own:
+        code = {"Contradict": "CrsContradicts", "NotCompared": "CrsNotCompared"}.get(
+            geo_crs.verdict(said, own))
+        if code:
+            it.add(code, "crs", wanted=shown(text_of(own.value)))
+    own = own_metadata(it)
+    edges, own = said_edges(it), own_edges(own) if own else None
+    if edges and own and edges != own:
+        it.add("EdgesContradict", "edges", wanted=own)
+
+
+def said_edges(it):
+    """The edges that a member says, planar without any; None where they are none of the version."""
+    edges = it.at("edges")
+    if edges is ABSENT:
+        return "planar"
+    return edges if isinstance(edges, str) and edges in it.version.edges else None
+
+
+def own_edges(metadata):
+    edges = metadata.get("edges")
+    return "planar" if edges in (ABSENT, None) else edges if isinstance(edges, str) else None
+
+
+def edges_that_count(it):
+    """The edges of a member where it says some of the version, else the column's own, or planar."""
+    said = None if it.at("edges") is ABSENT else said_edges(it)
+    metadata = own_metadata(it)
+    own = None if said is not None or metadata is None else own_edges(metadata)
+    return next((edges for edges in (said, own) if edges is not None), "planar")
+
+
+def on_projected(it):
+    """Whether the edges that count are not planar, and the CRS that counts is projected."""
+    return edges_that_count(it) != "planar" and class_of(it) == "projected"
+
+
+def answer(question):
+    """The answer of a row: its version, and each finding."""
+    geo, *lines = question.split(" & ")
+    version, found = findings(geo, [json.loads(line) for line in lines])
+    said = " & ".join("|".join("-" if part is None else part for part in it) for it in found)
+    return version.name + (" " + said if said else "")
+
+
+def spelled(text):
+    """A text in which `<<1000|,|f%>>` stands for f0 to f999 with commas between them."""
+    def numbered(found):
+        return found[2].join(found[3].replace("%", str(it)) for it in range(int(found[1])))
+    return re.sub(r"<<(\d+)\|([^|]*)\|(.*?)>>", numbered, text)
+
+
+def rows_of(file):
+    """Each row of `check_geo` of a file: its line, its text and its answer."""
+    lines = file.read_text(encoding="utf-8").split("\n")
+    place = 0
+    while place + 1 < len(lines):
+        question = re.fullmatch(r"(?:\* )?check_geo (.*)", lines[place], re.DOTALL)
+        if question:
+            yield place + 1, spelled(question[1]), spelled(lines[place + 1])
+        place += 2 if lines[place] and lines[place][0] not in "#=" else 1
+
+
+def main(words):
+    count = wrong = 0
+    for file in map(pathlib.Path, words or sorted(ROWS.glob("*.rows"))):
+        for line, question, wanted in rows_of(file):
+            said = answer(question)
+            count, wrong = count + 1, wrong + (said != wanted)
+            if said != wanted:
+                print(f"{file.name}:{line}: {question[:400]}\n  {wanted[:600]}\n  {said[:600]}")
+    print(f"{count} rows, {wrong} differ")
+    return 1 if wrong or not count else 0
+
+
+if __name__ == "__main__":
+    sys.exit(main(sys.argv[1:]))

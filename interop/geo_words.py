@@ -1,0 +1,131 @@
+"""The words of what is found in GeoParquet metadata, by the tables of docs/FORMAT.md, 5 and 5.1.
+
+A model of its own, which shares no code with the crates: `line` is the line of JSON of a finding
+that `geo_findings` gives, `words` what a table says of it.
+"""
+import json
+import pathlib
+import re
+
+FORMAT = pathlib.Path(__file__).resolve().parent.parent / "docs/FORMAT.md"
+VERSIONS = ("Old", "V1_0", "V1_1", "V2")
+ENCODINGS = ("WKB", "point", "linestring", "polygon", "multipoint", "multilinestring", "multipolygon")
+KINDS = ("Point", "LineString", "Polygon", "MultiPoint", "MultiLineString", "MultiPolygon",
+         "GeometryCollection")
+EDGES = ("planar", "spherical", "vincenty", "thomas", "andoyer", "karney")
+CRS = ("GeographicCRS", "ProjectedCRS", "CompoundCRS", "BoundCRS", "GeodeticCRS", "VerticalCRS",
+       "EngineeringCRS", "ParametricCRS", "TemporalCRS")
+
+
+def table(head):
+    """The rows below the line of a table that begins so, each as its cells."""
+    lines = FORMAT.read_text(encoding="utf-8").split("\n")
+    begin = next(at for at, line in enumerate(lines) if line.startswith(f"| {head} |"))
+    rows = []
+    for line in lines[begin + 2:]:
+        if not line.startswith("|"):
+            return rows
+        rows.append([cell.strip() for cell in line.strip("|").split(" | ")])
+    return rows
+
+
+def text_in(cell):
+    """The text between backticks with which a cell begins, if it does."""
+    found = re.match("`([^`]*)`", cell)
+    return found and found[1]
+
+
+ROWS = {text_in(row[0]): row[1:] for row in table("code | severity | found where | pointer")}
+BY_VERSION = {}
+for _words, *_cells in table("words by version"):
+    for _code in re.findall("`(\\w+)`", _words):
+        _said = [text_in(cell) for cell in _cells]
+        BY_VERSION[_code, _words.split(", ")[-1]] = [one or _said[2] for one in _said]
+
+
+def said(code, kind, cell, version):
+    """The words of a cell of the table, or those by the version."""
+    return text_in(cell) or BY_VERSION.get((code, kind), [None] * 4)[VERSIONS.index(version)]
+
+
+def severity(code):
+    return ROWS[code][0]
+
+
+def expected(code, version, wanted):
+    words = said(code, "expected", ROWS[code][3], version)
+    return words if wanted is None else f"{words} ({wanted})"
+
+
+def names(code, version):
+    """The names that are expected where a code is found, as JSON."""
+    listed = {
+        "GeoEncoding": ENCODINGS if version in ("V1_1", "V2") else ENCODINGS[:1],
+        "GeoTypes": KINDS + tuple(f"{kind} Z" for kind in KINDS),
+        "GeoEdges": EDGES if version == "V2" else EDGES[:2],
+        "GeoOrientation": ("counterclockwise",),
+        "CrsMalformed": CRS}
+    return [f'"{name}"' for name in listed.get(code, ())]
+
+
+def edits(one, other):
+    """How many insertions, deletions and substitutions lead from one text to the other."""
+    above = list(range(len(other) + 1))
+    for at, letter in enumerate(one, 1):
+        row = [at]
+        for place, each in enumerate(other, 1):
+            row.append(min(row[-1] + 1, above[place] + 1, above[place - 1] + (letter != each)))
+        above = row
+    return above[-1]
+
+
+def lowered(text):
+    return "".join(each.lower() if each.isascii() else each for each in text)
+
+
+def nearest(found, listed):
+    if found in listed:
+        return None
+    for limit in range(3):
+        for name in listed:
+            count = edits(lowered(found), lowered(name))
+            if count <= limit and 5 * count < len(name.encode()):
+                return name
+    return None
+
+
+def help_of(code, version, found):
+    near = None if found is None else nearest(found, names(code, version))
+    return f"Did you mean {near}?" if near else said(code, "help", ROWS[code][4], version)
+
+
+def line(file, version, finding):
+    """The line of a finding (5.1)."""
+    code = finding.code
+    parts = {
+        "severity": severity(code), "code": code, "file": file, "column": finding.column,
+        "in": "geo", "pointer": finding.pointer, "found": finding.found,
+        "expected": expected(code, version, finding.wanted),
+        "help": help_of(code, version, finding.found)}
+    there = {key: value for key, value in parts.items() if value is not None}
+    return json.dumps(there, ensure_ascii=False, separators=(",", ":"))
+
+
+def words(version, finding):
+    """What a table says of a finding (5.1)."""
+    code = finding.code
+    column = "" if finding.column is None else f"column {finding.column}, "
+    pointer = f" {finding.pointer}" if finding.pointer else ""
+    found = "" if finding.found is None else f"found {finding.found}; "
+    helps = help_of(code, version, finding.found)
+    return (f"{severity(code)}[{code}] {column}geo{pointer}: {found}"
+            f"expected {expected(code, version, finding.wanted)}{f'. {helps}' if helps else ''}")
+
+
+def no_geo_line(file):
+    """The line of a file that has geometries and no metadata (5.1)."""
+    code, weight, _, words_expected = table("code | severity | found where | expected")[0]
+    parts = {"severity": weight, "code": text_in(code), "file": file,
+             "expected": text_in(words_expected)}
+    there = {key: value for key, value in parts.items() if value is not None}
+    return json.dumps(there, ensure_ascii=False, separators=(",", ":"))

@@ -1,0 +1,92 @@
+"""Tests of the model of what is found in GeoParquet metadata: rows of `check_geo` want the same.
+
+Run by interop/test, or alone by `python3 -m unittest interop.test_geo_findings`, at the top of the
+repository.
+"""
+import pathlib
+import re
+import unittest
+
+from . import geo_findings, geo_words
+from .geo_json import NotJson, read, text_of
+
+
+class Rows(unittest.TestCase):
+    def test_answers(self):
+        files = sorted(geo_findings.ROWS.glob("*.rows"))
+        count = 0
+        for file in files:
+            for line, question, wanted in geo_findings.rows_of(file):
+                count += 1
+                with self.subTest(f"{file.name}:{line}"):
+                    self.assertEqual(geo_findings.answer(question), wanted)
+        self.assertGreater(count, 1000)
+
+    def test_each_code_is_found_in_some_row(self):
+        found = set()
+        for file in geo_findings.ROWS.glob("*.rows"):
+            for _, _, wanted in geo_findings.rows_of(file):
+                parts = [it for it in wanted.split(" & ") if "|" in it]
+                found.update(it.split("|")[0].split(" ")[-1] for it in parts)
+        self.assertEqual(found, set(geo_findings.CODES))
+
+
+class Json(unittest.TestCase):
+    def test_a_value_is_written_as_it_stands(self):
+        for text in ('{"b":1.50,"a":[1E+2,-0],"b":null}', '"\\u0007\\n\\"\\\\é😀"', "[]", "true"):
+            self.assertEqual(text_of(read(f" {text} ")), text)
+
+    def test_no_json(self):
+        for text in ("", "NaN", "[1,]", "1e400", '"\\ud800"', "[" * 128 + "]" * 128, "[" * 100000):
+            with self.subTest(text[:10]), self.assertRaises(NotJson):
+                read(text)
+
+
+class Words(unittest.TestCase):
+    """The words of docs/FORMAT.md, 5, are those of the definitions that the contracts cite."""
+
+    @staticmethod
+    def table(file, name):
+        """The rows of a definition over codes or versions: the last word before `=`, and the text."""
+        specs = pathlib.Path(__file__).resolve().parent.parent / "crates" / file
+        rows = re.findall(f"^{name} (.*) = (.*)$", specs.read_text(encoding="utf-8"), re.M)
+        return {left.split()[-1].split(".")[-1]: right for left, right in rows}
+
+    @staticmethod
+    def text(right):
+        found = re.fullmatch(r'(?:Some \()?codes "(.*?)"\)?', right)
+        return found and found[1].replace('\\"', '"')
+
+    def test_codes(self):
+        codes, words = "geoparquet/specs/Codes.antt", "geoparquet/specs/Words.antt"
+        names = {key: self.text(text) for key, text in self.table(codes, "code_of").items()}
+        self.assertEqual(list(names.values()), list(geo_words.ROWS))
+        self.assertEqual(list(names.values()), list(geo_findings.CODES))
+        rules, weights = self.table(words, "rule_of"), self.table(codes, "severity_of")
+        expected, advice = self.table(words, "expected_of"), self.table(words, "advice_of")
+        for key, code in names.items():
+            with self.subTest(code):
+                self.assertEqual(geo_words.severity(code), weights[key].lower())
+                self.assertEqual(geo_words.text_in(geo_words.ROWS[code][1]), self.text(rules[key]))
+                for version in geo_words.VERSIONS:
+                    said = geo_words.expected(code, version, None)
+                    self.assertEqual(said, self.by_version(expected[key], version))
+                    said = geo_words.help_of(code, version, None)
+                    self.assertEqual(said, self.by_version(advice.get(key), version))
+
+    def by_version(self, right, version):
+        """The text of a row, or that of the version in the definition that it names."""
+        found = right and re.search(r"(\w+_text) version", right)
+        if not found:
+            return right and self.text(right)
+        rows = self.table("geoparquet/specs/Words.antt", found[1])
+        return self.text(rows.get(version, rows.get("version")))
+
+    def test_lines(self):
+        found = geo_findings.Finding("GeoTypes", "g", "/columns/g/geometry_types/0", '"Poligon"', None)
+        said = geo_words.line(None, "V1_1", found)
+        self.assertTrue(said.endswith(',"help":"Did you mean \\"Polygon\\"?"}'), said)
+
+
+if __name__ == "__main__":
+    unittest.main()
