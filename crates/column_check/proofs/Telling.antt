@@ -4,7 +4,7 @@ use Rattle.std.proofs.lemmas.List.{at_drop_more}
 use Rattle.column_check.specs.Parts.{Names}
 use Rattle.column_check.specs.Warnings.{Said, at_most}
 use Rattle.column_check.specs.Walk.{Telling, tell, tell_all}
-use Rattle.column_check.specs.declared.warning.WarningCode.{WarningCode}
+use Rattle.column_check.specs.declared.code.WarningCode.{WarningCode}
 
 -- the warnings, the last one behind the others
 abbrev pub told : Telling → List Said

@@ -10,7 +10,7 @@ use Rattle.column_check.specs.Warnings.{is_doubtful, has_extension_name}
 use Rattle.column_check.specs.Walk.{is_own, way_if, found, found_of, found_among, sought_ways}
 use Rattle.column_check.specs.declared.walk.Sought.{Sought}
 use Rattle.column_check.specs.declared.walk.Sought.TheVariants.{Coordinates, Extensions}
-use Rattle.column_check.specs.declared.warning.WarningCode.{WarningCode}
+use Rattle.column_check.specs.declared.code.WarningCode.{WarningCode}
 
 -- ways that go on from there
 abbrev beyond : Names → List Names → List Names

@@ -6,8 +6,8 @@ use Rattle.column_check.specs.Warnings.{Said, said, at_each, is_doubtful, has_ex
 use Rattle.column_check.specs.declared.walk.Sought.{Sought}
 use Rattle.column_check.specs.declared.walk.Sought.TheVariants.{Coordinates, Extensions}
 use Rattle.column_check.specs.declared.warning.Warning.{Warning}
-use Rattle.column_check.specs.declared.warning.WarningCode.{WarningCode}
-use Rattle.column_check.specs.declared.warning.WarningCode.TheVariants.{NestedGeometry}
+use Rattle.column_check.specs.declared.code.WarningCode.{WarningCode}
+use Rattle.column_check.specs.declared.code.WarningCode.TheVariants.{NestedGeometry}
 use Rattle.column_check.specs.declared.way.Way.{Way, Column, Below'}
 use Rattle.column_check.specs.declared.way.Rest.{Rest}
 

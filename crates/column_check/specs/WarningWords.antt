@@ -1,8 +1,10 @@
--- The warnings of a column (docs/FORMAT.md, 2.6): their codes, and what is doubtful.
-use Rattle.std.specs.Prelude.{codes}
+-- The warnings of a column (docs/FORMAT.md, 2.6): their codes, how much each weighs, what is doubtful, what is expected, and what helps.
+use Rattle.std.specs.Prelude.{codes, Option, None, Some}
 use Rattle.arrow_values.specs.Tree.{Text}
-use Rattle.column_check.specs.declared.warning.WarningCode.{WarningCode}
-use Rattle.column_check.specs.declared.warning.WarningCode.TheVariants as warnings
+use Rattle.column_check.specs.declared.code.Severity.{Severity}
+use Rattle.column_check.specs.declared.code.Severity.TheVariants.{Error, Warning, Note}
+use Rattle.column_check.specs.declared.code.WarningCode.{WarningCode}
+use Rattle.column_check.specs.declared.code.WarningCode.TheVariants as warnings
 
 abbrev pub warning_code : WarningCode → Text
 warning_code warnings.MetadataEmpty = codes "MetadataEmpty"
@@ -13,6 +15,15 @@ warning_code warnings.CoordinatesNotDouble = codes "CoordinatesNotDouble"
 warning_code warnings.AxisNames = codes "AxisNames"
 warning_code warnings.NestedGeometry = codes "NestedGeometry"
 
+abbrev pub severity_of : WarningCode → Severity
+severity_of warnings.MetadataEmpty = Warning
+severity_of warnings.CrsNotWhole = Note
+severity_of warnings.CrsWithoutType = Warning
+severity_of warnings.CrsNumber = Warning
+severity_of warnings.CoordinatesNotDouble = Warning
+severity_of warnings.AxisNames = Warning
+severity_of warnings.NestedGeometry = Warning
+
 abbrev pub warning_message : WarningCode → Text
 warning_message warnings.MetadataEmpty = codes "metadata is an empty text"
 warning_message warnings.CrsNotWhole = codes "CRS has a number that is not whole"
@@ -21,3 +32,21 @@ warning_message warnings.CrsNumber = codes "CRS is neither an object nor a text"
 warning_message warnings.CoordinatesNotDouble = codes "coordinates are not float64"
 warning_message warnings.AxisNames = codes "fields are not named after the axes, in their order"
 warning_message warnings.NestedGeometry = codes "child field has a GeoArrow extension name"
+
+abbrev pub warning_expected : WarningCode → Text
+warning_expected warnings.MetadataEmpty = codes "no metadata, or {}"
+warning_expected warnings.CrsNotWhole = codes "whole numbers"
+warning_expected warnings.CrsWithoutType = codes "a crs_type"
+warning_expected warnings.CrsNumber = codes "an object or a text"
+warning_expected warnings.CoordinatesNotDouble = codes "float64"
+warning_expected warnings.AxisNames = codes "x, y, z, m in this order; of a box xmin, ymin, zmin, mmin, xmax, ymax, zmax, mmax"
+warning_expected warnings.NestedGeometry = codes "the name of a column alone"
+
+abbrev pub warning_help : WarningCode → Option Text
+warning_help warnings.MetadataEmpty = Some (codes "It is read as no metadata.")
+warning_help warnings.CrsNotWhole = Some (codes "For this alone read and canon of geoarrow_fields refuse the field; other readers do not.")
+warning_help warnings.CrsWithoutType = None
+warning_help warnings.CrsNumber = None
+warning_help warnings.CoordinatesNotDouble = None
+warning_help warnings.AxisNames = Some (codes "Readers go by place.")
+warning_help warnings.NestedGeometry = Some (codes "GeoParquet takes columns at the root alone.")

@@ -27,8 +27,8 @@ use Rattle.column_check.specs.States.{geometry_in}
 use Rattle.column_check.specs.Parts.{Names, coordinates_in, fields_in, ways_to}
 use Rattle.column_check.specs.declared.finding.Finding.{Finding as ColumnFinding}
 use Rattle.column_check.specs.declared.finding.Geometry.{Geometry as GeometryColumn}
-use Rattle.column_check.specs.declared.warning.WarningCode.{WarningCode}
-use Rattle.column_check.specs.declared.warning.WarningCode.TheVariants.{MetadataEmpty, CrsNotWhole, CrsWithoutType, CrsNumber, CoordinatesNotDouble, AxisNames, NestedGeometry}
+use Rattle.column_check.specs.declared.code.WarningCode.{WarningCode}
+use Rattle.column_check.specs.declared.code.WarningCode.TheVariants.{MetadataEmpty, CrsNotWhole, CrsWithoutType, CrsNumber, CoordinatesNotDouble, AxisNames, NestedGeometry}
 use Rattle.column_check.specs.declared.warning.Warning.{Warning}
 
 -- a warning: what is doubtful, the names of the child fields from the column down to where it is, and how many more of its code it stands for

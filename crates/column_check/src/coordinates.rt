@@ -10,7 +10,7 @@ ghost use Rattle.geoarrow_layout.specs.declared.dimensions.Dimension.TheVariants
 ghost use Rattle.geoarrow_layout.specs.Inferred.{is_float64, are_float64};
 ghost use Rattle.column_check.specs.Warnings.{lacks_doubles, lacks_axis_names, is_doubtful};
 
-use crate::warning::WarningCode;
+use crate::code::WarningCode;
 use arrow_values::{DataType, Field};
 use geoarrow_layout::Kind;
 

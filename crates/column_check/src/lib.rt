@@ -6,6 +6,7 @@
 #![tactic(auto)]
 
 mod check;
+mod code;
 mod coordinates;
 mod data_type;
 mod finding;
@@ -16,7 +17,8 @@ mod warning;
 mod way;
 
 pub use check::{inspect_column, inspect_columns};
+pub use code::{Severity, WarningCode};
 pub use data_type::{TypeFault, kind_under, names_along};
 pub use finding::{Finding, Geometry, Reasons};
 pub use metadata::{ColumnMetadata, MetadataFault, read_metadata};
-pub use warning::{Warning, WarningCode, warnings};
+pub use warning::{Warning, warnings};

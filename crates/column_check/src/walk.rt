@@ -5,7 +5,8 @@ ghost use Rattle.column_check.specs.Warnings.{said, has_extension_name};
 ghost use Rattle.column_check.specs.Walk.{names_on, is_own, found, found_at, code_of, sought_warnings, telling, tell_all};
 
 use crate::coordinates::is_doubtful;
-use crate::warning::{Warning, WarningCode};
+use crate::code::WarningCode;
+use crate::warning::Warning;
 use crate::way::{Rest, Way, tell_if};
 use arrow_values::{DataType, Field};
 use geoarrow_layout::{ExtensionName, Kind};

@@ -4,9 +4,9 @@ ghost use Rattle.serde_json.specs.Read.{of_json};
 ghost use Rattle.arrow_values.specs.Texts.{text_of};
 ghost use Rattle.geoarrow_meta.specs.Read.{some_has_float};
 ghost use Rattle.arrow_columns.specs.Column.{column_tree, type_tree};
-ghost use Rattle.column_check.specs.WarningWords.{warning_code, warning_message};
 ghost use Rattle.column_check.specs.Warnings.{said, of_column, is_empty_text, crs_warnings, geometry_warnings, nested_warnings, AreWarnings};
 
+use crate::code::WarningCode;
 use crate::finding::{Finding, Geometry};
 use crate::metadata::ColumnMetadata;
 use crate::walk::{Sought, push_sought};
@@ -14,60 +14,6 @@ use arrow_columns::{AnyType, SchemaColumn};
 use geoarrow_meta::holds_whole_numbers;
 use std::alloc::{AllocError, Global};
 use value_tokens::JsonText;
-
-/// What a warning says.
-#[derive(Debug, Clone, Copy, PartialEq, Eq)]
-pub enum WarningCode {
-    /// The extension metadata are an empty text, which is read as none here;
-    /// `from_extension_field` and `from_arrow_field` of `geoarrow_schema` refuse the column.
-    MetadataEmpty,
-    /// A number in the CRS is not whole, as GeoArrow allows: for that alone `from_extension_field`
-    /// and `from_arrow_field` of `geoarrow_schema` refuse the column. It is a note, which is said
-    /// only where notes are asked for.
-    CrsNotWhole,
-    /// There is a CRS, and no CRS type. An object needs none, as it can only be PROJJSON.
-    CrsWithoutType,
-    /// The CRS is neither an object nor a text.
-    CrsNumber,
-    /// A number of a coordinate or a box is not `Float64` (GeoArrow, "Coordinate").
-    CoordinatesNotDouble,
-    /// The fields of a separated coordinate are not x, y, z and m, or those of a box not their bounds, in this order.
-    AxisNames,
-    /// A field below the column has one of GeoArrow's eleven extension names.
-    NestedGeometry,
-}
-
-impl WarningCode {
-    /// Returns the code, as reports have it (`docs/FORMAT.md`, 2.6).
-    pub fn code(self) -> &'static str
-        ensures { result.now ≡ warning_code self }
-    {
-        match self {
-            WarningCode::MetadataEmpty => "MetadataEmpty",
-            WarningCode::CrsNotWhole => "CrsNotWhole",
-            WarningCode::CrsWithoutType => "CrsWithoutType",
-            WarningCode::CrsNumber => "CrsNumber",
-            WarningCode::CoordinatesNotDouble => "CoordinatesNotDouble",
-            WarningCode::AxisNames => "AxisNames",
-            WarningCode::NestedGeometry => "NestedGeometry",
-        }
-    }
-
-    /// Returns what is doubtful.
-    pub fn message(self) -> &'static str
-        ensures { result.now ≡ warning_message self }
-    {
-        match self {
-            WarningCode::MetadataEmpty => "metadata is an empty text",
-            WarningCode::CrsNotWhole => "CRS has a number that is not whole",
-            WarningCode::CrsWithoutType => "CRS without crs_type",
-            WarningCode::CrsNumber => "CRS is neither an object nor a text",
-            WarningCode::CoordinatesNotDouble => "coordinates are not float64",
-            WarningCode::AxisNames => { "fields are not named after the axes, in their order" }
-            WarningCode::NestedGeometry => "child field has a GeoArrow extension name",
-        }
-    }
-}
 
 /// A warning: what is doubtful of a column, and where.
 #[derive(Debug, Drop)]

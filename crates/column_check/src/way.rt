@@ -2,7 +2,8 @@
 ghost use Rattle.std.specs.Prelude.{◌≡◌, ◌++◌, ◌∷◌, [], if◌then◌else◌, map, OnOk, string_bytes};
 ghost use Rattle.column_check.specs.Walk.{names_on, way_if, telling, tell_all};
 
-use crate::warning::{Warning, WarningCode};
+use crate::code::WarningCode;
+use crate::warning::Warning;
 use std::alloc::{AllocError, Global};
 
 /// The way from a column down to where a warning is.

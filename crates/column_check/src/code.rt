@@ -1,0 +1,113 @@
+//! What may be doubtful of a column: codes, with their severities and words.
+ghost use Rattle.std.specs.Prelude.{◌≡◌, option_map};
+ghost use Rattle.column_check.specs.WarningWords.{severity_of, warning_code, warning_message, warning_expected, warning_help};
+
+/// How much a finding weighs.
+#[derive(Clone, Copy, Debug, PartialEq, Eq)]
+pub enum Severity {
+    /// The file breaks a rule of its format, or contradicts itself.
+    Error,
+    /// The file keeps the rules, and readers may take it otherwise than it is meant.
+    Warning,
+    /// What is worth to know, and nothing is to be done.
+    Note,
+}
+
+/// What a warning says.
+#[derive(Debug, Clone, Copy, PartialEq, Eq)]
+pub enum WarningCode {
+    /// The extension metadata are an empty text, which is read as none here;
+    /// `from_extension_field` and `from_arrow_field` of `geoarrow_schema` refuse the column.
+    MetadataEmpty,
+    /// A number in the CRS is not whole, as GeoArrow allows: for that alone `from_extension_field`
+    /// and `from_arrow_field` of `geoarrow_schema` refuse the column. It is a note, which is said
+    /// only where notes are asked for.
+    CrsNotWhole,
+    /// There is a CRS, and no CRS type. An object needs none, as it can only be PROJJSON.
+    CrsWithoutType,
+    /// The CRS is neither an object nor a text.
+    CrsNumber,
+    /// A number of a coordinate or a box is not `Float64` (GeoArrow, "Coordinate").
+    CoordinatesNotDouble,
+    /// The fields of a separated coordinate are not x, y, z and m, or those of a box not their bounds, in this order.
+    AxisNames,
+    /// A field below the column has one of GeoArrow's eleven extension names.
+    NestedGeometry,
+}
+
+impl WarningCode {
+    /// Returns the code, as reports have it (`docs/FORMAT.md`, 2.6).
+    pub fn code(self) -> &'static str
+        ensures { result.now ≡ warning_code self }
+    {
+        match self {
+            WarningCode::MetadataEmpty => "MetadataEmpty",
+            WarningCode::CrsNotWhole => "CrsNotWhole",
+            WarningCode::CrsWithoutType => "CrsWithoutType",
+            WarningCode::CrsNumber => "CrsNumber",
+            WarningCode::CoordinatesNotDouble => "CoordinatesNotDouble",
+            WarningCode::AxisNames => "AxisNames",
+            WarningCode::NestedGeometry => "NestedGeometry",
+        }
+    }
+
+    /// Returns how much a warning of the code weighs (`docs/FORMAT.md`, 2.6).
+    pub fn severity(self) -> Severity
+        ensures { result ≡ severity_of self }
+    {
+        match self {
+            WarningCode::CrsNotWhole => Severity::Note,
+            _ => Severity::Warning,
+        }
+    }
+
+    /// Returns what is doubtful.
+    pub fn message(self) -> &'static str
+        ensures { result.now ≡ warning_message self }
+    {
+        match self {
+            WarningCode::MetadataEmpty => "metadata is an empty text",
+            WarningCode::CrsNotWhole => "CRS has a number that is not whole",
+            WarningCode::CrsWithoutType => "CRS without crs_type",
+            WarningCode::CrsNumber => "CRS is neither an object nor a text",
+            WarningCode::CoordinatesNotDouble => "coordinates are not float64",
+            WarningCode::AxisNames => "fields are not named after the axes, in their order",
+            WarningCode::NestedGeometry => "child field has a GeoArrow extension name",
+        }
+    }
+
+    /// Returns what is expected in place of what was found (`docs/FORMAT.md`, 2.6).
+    pub fn expected(self) -> &'static str
+        ensures { result.now ≡ warning_expected self }
+    {
+        match self {
+            WarningCode::MetadataEmpty => "no metadata, or {}",
+            WarningCode::CrsNotWhole => "whole numbers",
+            WarningCode::CrsWithoutType => "a crs_type",
+            WarningCode::CrsNumber => "an object or a text",
+            WarningCode::CoordinatesNotDouble => "float64",
+            WarningCode::AxisNames => AXES,
+            WarningCode::NestedGeometry => "the name of a column alone",
+        }
+    }
+
+    /// Returns what helps, where there is something to say (`docs/FORMAT.md`, 2.6).
+    pub fn help(self) -> Option<&'static str>
+        ensures { option_map (λ text. text.now) result ≡ warning_help self }
+    {
+        match self {
+            WarningCode::MetadataEmpty => Some("It is read as no metadata."),
+            WarningCode::CrsNotWhole => Some(NOT_WHOLE_HELP),
+            WarningCode::AxisNames => Some("Readers go by place."),
+            WarningCode::NestedGeometry => Some("GeoParquet takes columns at the root alone."),
+            _ => None,
+        }
+    }
+}
+
+/// The names of axes, and those of the bounds of a box.
+const AXES: &str = "x, y, z, m in this order; of a box xmin, ymin, zmin, mmin, xmax, ymax, zmax, mmax";
+
+/// What is to be known of numbers that are not whole.
+const NOT_WHOLE_HELP: &str =
+    "For this alone read and canon of geoarrow_fields refuse the field; other readers do not.";
