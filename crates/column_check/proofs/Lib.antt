@@ -4,5 +4,6 @@ pub mod Faults
 pub mod Unicity
 pub mod Findings
 pub mod Paths
+pub mod Fields
 pub mod Ways
 pub mod Telling

@@ -3,6 +3,7 @@ pub mod Types
 pub mod Finding
 pub mod Unique
 pub mod States
+pub mod Shown
 pub mod Parts
 pub mod Warnings
 pub mod Walk

@@ -8,45 +8,65 @@ use Rattle.column_check.specs.declared.code.WarningCode.TheVariants as warnings
 
 abbrev pub warning_code : WarningCode → Text
 warning_code warnings.MetadataEmpty = codes "MetadataEmpty"
-warning_code warnings.CrsNotWhole = codes "CrsNotWhole"
 warning_code warnings.CrsWithoutType = codes "CrsWithoutType"
 warning_code warnings.CrsNumber = codes "CrsNumber"
+warning_code warnings.CrsNotWhole = codes "CrsNotWhole"
+warning_code warnings.CoordinatesNotFloat = codes "CoordinatesNotFloat"
 warning_code warnings.CoordinatesNotDouble = codes "CoordinatesNotDouble"
+warning_code warnings.AxisOrder = codes "AxisOrder"
 warning_code warnings.AxisNames = codes "AxisNames"
+warning_code warnings.NullableInner = codes "NullableInner"
+warning_code warnings.UnionMode = codes "UnionMode"
 warning_code warnings.NestedGeometry = codes "NestedGeometry"
 
 abbrev pub severity_of : WarningCode → Severity
 severity_of warnings.MetadataEmpty = Warning
-severity_of warnings.CrsNotWhole = Note
 severity_of warnings.CrsWithoutType = Warning
 severity_of warnings.CrsNumber = Warning
+severity_of warnings.CrsNotWhole = Note
+severity_of warnings.CoordinatesNotFloat = Error
 severity_of warnings.CoordinatesNotDouble = Warning
+severity_of warnings.AxisOrder = Error
 severity_of warnings.AxisNames = Warning
+severity_of warnings.NullableInner = Warning
+severity_of warnings.UnionMode = Warning
 severity_of warnings.NestedGeometry = Warning
 
 abbrev pub warning_message : WarningCode → Text
 warning_message warnings.MetadataEmpty = codes "metadata is an empty text"
-warning_message warnings.CrsNotWhole = codes "CRS has a number that is not whole"
 warning_message warnings.CrsWithoutType = codes "CRS without crs_type"
 warning_message warnings.CrsNumber = codes "CRS is neither an object nor a text"
+warning_message warnings.CrsNotWhole = codes "CRS has a number that is not whole"
+warning_message warnings.CoordinatesNotFloat = codes "coordinates are not floating-point numbers"
 warning_message warnings.CoordinatesNotDouble = codes "coordinates are not float64"
-warning_message warnings.AxisNames = codes "fields are not named after the axes, in their order"
+warning_message warnings.AxisOrder = codes "fields are named after the axes, in another order"
+warning_message warnings.AxisNames = codes "fields are not named after the axes"
+warning_message warnings.NullableInner = codes "child field is nullable"
+warning_message warnings.UnionMode = codes "union is sparse"
 warning_message warnings.NestedGeometry = codes "child field has a GeoArrow extension name"
 
 abbrev pub warning_expected : WarningCode → Text
 warning_expected warnings.MetadataEmpty = codes "no metadata, or {}"
-warning_expected warnings.CrsNotWhole = codes "whole numbers"
 warning_expected warnings.CrsWithoutType = codes "a crs_type"
 warning_expected warnings.CrsNumber = codes "an object or a text"
+warning_expected warnings.CrsNotWhole = codes "whole numbers"
+warning_expected warnings.CoordinatesNotFloat = codes "float64"
 warning_expected warnings.CoordinatesNotDouble = codes "float64"
+warning_expected warnings.AxisOrder = codes "x, y, z, m in this order; of a box xmin, ymin, zmin, mmin, xmax, ymax, zmax, mmax"
 warning_expected warnings.AxisNames = codes "x, y, z, m in this order; of a box xmin, ymin, zmin, mmin, xmax, ymax, zmax, mmax"
+warning_expected warnings.NullableInner = codes "not null"
+warning_expected warnings.UnionMode = codes "a dense union"
 warning_expected warnings.NestedGeometry = codes "the name of a column alone"
 
 abbrev pub warning_help : WarningCode → Option Text
 warning_help warnings.MetadataEmpty = Some (codes "It is read as no metadata.")
-warning_help warnings.CrsNotWhole = Some (codes "For this alone read and canon of geoarrow_fields refuse the field; other readers do not.")
 warning_help warnings.CrsWithoutType = None
 warning_help warnings.CrsNumber = None
+warning_help warnings.CrsNotWhole = Some (codes "For this alone read and canon of geoarrow_fields refuse the field; other readers do not.")
+warning_help warnings.CoordinatesNotFloat = None
 warning_help warnings.CoordinatesNotDouble = None
+warning_help warnings.AxisOrder = Some (codes "Readers go by place.")
 warning_help warnings.AxisNames = Some (codes "Readers go by place.")
+warning_help warnings.NullableInner = None
+warning_help warnings.UnionMode = None
 warning_help warnings.NestedGeometry = Some (codes "GeoParquet takes columns at the root alone.")

@@ -19,18 +19,27 @@ pub enum WarningCode {
     /// The extension metadata are an empty text, which is read as none here;
     /// `from_extension_field` and `from_arrow_field` of `geoarrow_schema` refuse the column.
     MetadataEmpty,
-    /// A number in the CRS is not whole, as GeoArrow allows: for that alone `from_extension_field`
-    /// and `from_arrow_field` of `geoarrow_schema` refuse the column. It is a note, which is said
-    /// only where notes are asked for.
-    CrsNotWhole,
     /// There is a CRS, and no CRS type. An object needs none, as it can only be PROJJSON.
     CrsWithoutType,
     /// The CRS is neither an object nor a text.
     CrsNumber,
-    /// A number of a coordinate or a box is not `Float64` (GeoArrow, "Coordinate").
+    /// A number in the CRS is not whole, as GeoArrow allows: for that alone `from_extension_field`
+    /// and `from_arrow_field` of `geoarrow_schema` refuse the column. It is a note, which is said
+    /// only where notes are asked for.
+    CrsNotWhole,
+    /// A number of a coordinate or a box is of no floating type (GeoArrow, "Coordinate").
+    CoordinatesNotFloat,
+    /// A number of a coordinate or a box is `Float16` or `Float32`.
     CoordinatesNotDouble,
-    /// The fields of a separated coordinate are not x, y, z and m, or those of a box not their bounds, in this order.
+    /// The fields of a separated coordinate are x, y, z and m, or those of a box its bounds, in another order.
+    AxisOrder,
+    /// The fields of a separated coordinate, or of a box, have other names.
     AxisNames,
+    /// A field below a geometry is nullable, and none that it is below; the members of unions and
+    /// the fields of boxes do not count.
+    NullableInner,
+    /// A union of a geometry or of a collection is sparse.
+    UnionMode,
     /// A field below the column has one of GeoArrow's eleven extension names.
     NestedGeometry,
 }
@@ -42,11 +51,15 @@ impl WarningCode {
     {
         match self {
             WarningCode::MetadataEmpty => "MetadataEmpty",
-            WarningCode::CrsNotWhole => "CrsNotWhole",
             WarningCode::CrsWithoutType => "CrsWithoutType",
             WarningCode::CrsNumber => "CrsNumber",
+            WarningCode::CrsNotWhole => "CrsNotWhole",
+            WarningCode::CoordinatesNotFloat => "CoordinatesNotFloat",
             WarningCode::CoordinatesNotDouble => "CoordinatesNotDouble",
+            WarningCode::AxisOrder => "AxisOrder",
             WarningCode::AxisNames => "AxisNames",
+            WarningCode::NullableInner => "NullableInner",
+            WarningCode::UnionMode => "UnionMode",
             WarningCode::NestedGeometry => "NestedGeometry",
         }
     }
@@ -56,6 +69,7 @@ impl WarningCode {
         ensures { result ≡ severity_of self }
     {
         match self {
+            WarningCode::CoordinatesNotFloat | WarningCode::AxisOrder => Severity::Error,
             WarningCode::CrsNotWhole => Severity::Note,
             _ => Severity::Warning,
         }
@@ -67,11 +81,15 @@ impl WarningCode {
     {
         match self {
             WarningCode::MetadataEmpty => "metadata is an empty text",
-            WarningCode::CrsNotWhole => "CRS has a number that is not whole",
             WarningCode::CrsWithoutType => "CRS without crs_type",
             WarningCode::CrsNumber => "CRS is neither an object nor a text",
+            WarningCode::CrsNotWhole => "CRS has a number that is not whole",
+            WarningCode::CoordinatesNotFloat => "coordinates are not floating-point numbers",
             WarningCode::CoordinatesNotDouble => "coordinates are not float64",
-            WarningCode::AxisNames => "fields are not named after the axes, in their order",
+            WarningCode::AxisOrder => "fields are named after the axes, in another order",
+            WarningCode::AxisNames => "fields are not named after the axes",
+            WarningCode::NullableInner => "child field is nullable",
+            WarningCode::UnionMode => "union is sparse",
             WarningCode::NestedGeometry => "child field has a GeoArrow extension name",
         }
     }
@@ -82,11 +100,15 @@ impl WarningCode {
     {
         match self {
             WarningCode::MetadataEmpty => "no metadata, or {}",
-            WarningCode::CrsNotWhole => "whole numbers",
             WarningCode::CrsWithoutType => "a crs_type",
             WarningCode::CrsNumber => "an object or a text",
+            WarningCode::CrsNotWhole => "whole numbers",
+            WarningCode::CoordinatesNotFloat => "float64",
             WarningCode::CoordinatesNotDouble => "float64",
+            WarningCode::AxisOrder => AXES,
             WarningCode::AxisNames => AXES,
+            WarningCode::NullableInner => "not null",
+            WarningCode::UnionMode => "a dense union",
             WarningCode::NestedGeometry => "the name of a column alone",
         }
     }
@@ -98,15 +120,22 @@ impl WarningCode {
         match self {
             WarningCode::MetadataEmpty => Some("It is read as no metadata."),
             WarningCode::CrsNotWhole => Some(NOT_WHOLE_HELP),
+            WarningCode::AxisOrder => Some("Readers go by place."),
             WarningCode::AxisNames => Some("Readers go by place."),
             WarningCode::NestedGeometry => Some("GeoParquet takes columns at the root alone."),
-            _ => None,
+            WarningCode::CrsWithoutType
+            | WarningCode::CrsNumber
+            | WarningCode::CoordinatesNotFloat
+            | WarningCode::CoordinatesNotDouble
+            | WarningCode::NullableInner
+            | WarningCode::UnionMode => None,
         }
     }
 }
 
 /// The names of axes, and those of the bounds of a box.
-const AXES: &str = "x, y, z, m in this order; of a box xmin, ymin, zmin, mmin, xmax, ymax, zmax, mmax";
+const AXES: &str =
+    "x, y, z, m in this order; of a box xmin, ymin, zmin, mmin, xmax, ymax, zmax, mmax";
 
 /// What is to be known of numbers that are not whole.
 const NOT_WHOLE_HELP: &str =

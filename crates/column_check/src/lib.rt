@@ -12,6 +12,7 @@ mod data_type;
 mod finding;
 pub mod laws;
 mod metadata;
+mod shown;
 mod walk;
 mod warning;
 mod way;

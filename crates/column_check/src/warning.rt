@@ -1,16 +1,21 @@
 //! What is doubtful of a column that is not invalid for it.
-ghost use Rattle.std.specs.Prelude.{◌≡◌, ◌++◌, map, option_map, IfOk, OnOk};
+ghost use Rattle.std.specs.Prelude.{◌≡◌, ◌++◌, ◌∷◌, [], map, option_map, string_bytes, IfOk, OnOk, codes, None, Some};
 ghost use Rattle.serde_json.specs.Read.{of_json};
 ghost use Rattle.arrow_values.specs.Texts.{text_of};
+ghost use Rattle.arrow_values.specs.View.{tree};
 ghost use Rattle.geoarrow_meta.specs.Read.{some_has_float};
-ghost use Rattle.arrow_columns.specs.Column.{column_tree, type_tree};
-ghost use Rattle.column_check.specs.Warnings.{said, of_column, is_empty_text, crs_warnings, geometry_warnings, nested_warnings, AreWarnings};
+ghost use Rattle.arrow_columns.specs.Column.{column_tree, type_tree, known};
+ghost use Rattle.column_check.specs.Parts.{spot_in};
+ghost use Rattle.column_check.specs.Warnings.{said, said_if, is_empty_text, text_warnings, crs_spot, crs_warnings, coordinate_warnings, nullable_warnings, type_warnings, geometry_warnings, nested_warnings, AreWarnings};
 
 use crate::code::WarningCode;
 use crate::finding::{Finding, Geometry};
 use crate::metadata::ColumnMetadata;
-use crate::walk::{Sought, push_sought};
+use crate::shown::shown;
+use crate::walk::{Inner, Sought, push_sought};
 use arrow_columns::{AnyType, SchemaColumn};
+use arrow_values::DataType;
+use geoarrow_layout::Kind;
 use geoarrow_meta::holds_whole_numbers;
 use std::alloc::{AllocError, Global};
 use value_tokens::JsonText;
@@ -22,6 +27,11 @@ pub struct Warning {
     pub code: WarningCode,
     /// The names of the child fields from the column down to where it is; none where it is of the column itself.
     pub path: Vec<String>,
+    /// Where it is in the extension metadata, as a JSON pointer (RFC 6901); `None` where it is not of these.
+    pub pointer: Option<String>,
+    /// What stands there: a type's notation, a word, or JSON without blanks; at most 120 characters of it, and
+    /// `..` behind them where there are more. `None` where the code alone says it.
+    pub found: Option<String>,
     /// How many more of its code there are that are not told one by one; 0 except in the sixteenth.
     pub more: usize,
 }
@@ -52,7 +62,12 @@ pub fn warnings(
         push_geometry(alloc, &mut warnings, column, geometry, notes)?;
     }
     if let AnyType::Data(data_type) = &column.data_type {
-        push_sought(alloc, &mut warnings, Sought::Extensions, data_type)?;
+        push_sought(
+            alloc,
+            &mut warnings,
+            Sought::Inner(Inner::Extensions),
+            data_type,
+        )?;
     }
     Ok(warnings)
 }
@@ -67,35 +82,90 @@ fn push_geometry(
 ) -> Result<(), AllocError>
     ensures { OnOk result (map said warnings.new.items ≡ map said warnings.old.items ++ geometry_warnings notes (column_tree column.now) (Some geometry.now)) }
 {
-    let is_empty = is_empty_text(column.extension_type_metadata());
-    push_if(alloc, warnings, WarningCode::MetadataEmpty, is_empty)?;
+    push_text(alloc, warnings, column.extension_type_metadata())?;
     push_crs(alloc, warnings, &geometry.metadata, notes)?;
-    let AnyType::Data(data_type) = &column.data_type else {
-        return Ok(());
-    };
-    let doubles = Sought::Coordinates(WarningCode::CoordinatesNotDouble, geometry.kind);
-    let axes = Sought::Coordinates(WarningCode::AxisNames, geometry.kind);
-    push_sought(alloc, warnings, doubles, data_type)?;
-    push_sought(alloc, warnings, axes, data_type)
+    push_type(alloc, warnings, geometry.kind, &column.data_type)
 }
 
-/// Adds that warning of the column itself, if the test holds.
-fn push_if(
+/// Adds what is doubtful of a type that is of a kind.
+fn push_type(
+    alloc: Global,
+    warnings: &mut Vec<Warning>,
+    kind: Kind,
+    column_type: &AnyType,
+) -> Result<(), AllocError>
+    ensures { OnOk result (map said warnings.new.items ≡ map said warnings.old.items ++ type_warnings kind (type_tree column_type.now)) }
+{
+    let AnyType::Data(data_type) = column_type else {
+        return Ok(());
+    };
+    push_coordinates(
+        alloc,
+        warnings,
+        WarningCode::CoordinatesNotFloat,
+        kind,
+        data_type,
+    )?;
+    push_coordinates(
+        alloc,
+        warnings,
+        WarningCode::CoordinatesNotDouble,
+        kind,
+        data_type,
+    )?;
+    push_coordinates(alloc, warnings, WarningCode::AxisOrder, kind, data_type)?;
+    push_coordinates(alloc, warnings, WarningCode::AxisNames, kind, data_type)?;
+    push_nullables(alloc, warnings, kind, data_type)?;
+    push_sought(alloc, warnings, Sought::Inner(Inner::Unions), data_type)
+}
+
+/// Adds what is doubtful of coordinates, by a code.
+fn push_coordinates(
     alloc: Global,
     warnings: &mut Vec<Warning>,
     code: WarningCode,
-    holds: bool,
+    kind: Kind,
+    data_type: &DataType,
 ) -> Result<(), AllocError>
-    ensures { OnOk result (map said warnings.new.items ≡ map said warnings.old.items ++ of_column code holds) }
+    ensures { OnOk result (map said warnings.new.items ≡ map said warnings.old.items ++ coordinate_warnings code kind (tree data_type.now)) }
 {
-    if holds {
-        let path = Vec::new(alloc);
-        warnings.push(Warning {
-            code,
-            path,
-            more: 0,
-        })?;
+    push_sought(alloc, warnings, Sought::Coordinates(code, kind), data_type)
+}
+
+/// Adds the nullable fields below a geometry; of a box none.
+fn push_nullables(
+    alloc: Global,
+    warnings: &mut Vec<Warning>,
+    kind: Kind,
+    data_type: &DataType,
+) -> Result<(), AllocError>
+    ensures { OnOk result (map said warnings.new.items ≡ map said warnings.old.items ++ nullable_warnings kind (tree data_type.now)) }
+{
+    match kind {
+        Kind::Rect(_) => Ok(()),
+        _ => push_sought(alloc, warnings, Sought::Inner(Inner::Nullables), data_type),
     }
+}
+
+/// Adds what is doubtful of a metadata text.
+fn push_text(
+    alloc: Global,
+    warnings: &mut Vec<Warning>,
+    text: Option<&str>,
+) -> Result<(), AllocError>
+    ensures { OnOk result (map said warnings.new.items ≡ map said warnings.old.items ++ text_warnings (text_of text.entry)) }
+{
+    if !is_empty_text(text) {
+        return Ok(());
+    }
+    let found = String::from_str(alloc, "\"\"")?;
+    warnings.push(Warning {
+        code: WarningCode::MetadataEmpty,
+        path: Vec::new(alloc),
+        pointer: None,
+        found: Some(found),
+        more: 0,
+    })?;
     Ok(())
 }
 
@@ -121,12 +191,67 @@ fn push_crs(
     let Some(crs) = &metadata.crs else {
         return Ok(());
     };
-    let is_noted = notes && has_fraction(alloc, crs)?;
     let lacks_type = !crs.is_object() && metadata.crs_type.is_none();
     let is_odd = !crs.is_object() && !crs.is_string();
-    push_if(alloc, warnings, WarningCode::CrsNotWhole, is_noted)?;
-    push_if(alloc, warnings, WarningCode::CrsWithoutType, lacks_type)?;
-    push_if(alloc, warnings, WarningCode::CrsNumber, is_odd)
+    push_of_crs(
+        alloc,
+        warnings,
+        WarningCode::CrsWithoutType,
+        crs,
+        lacks_type,
+    )?;
+    push_of_crs(alloc, warnings, WarningCode::CrsNumber, crs, is_odd)?;
+    let is_noted = notes && has_fraction(alloc, crs)?;
+    push_in(
+        alloc,
+        warnings,
+        WarningCode::CrsNotWhole,
+        "/crs",
+        None,
+        is_noted,
+    )
+}
+
+/// Adds that warning of the CRS, which it shows, if the test holds.
+fn push_of_crs(
+    alloc: Global,
+    warnings: &mut Vec<Warning>,
+    code: WarningCode,
+    crs: &JsonText,
+    holds: bool,
+) -> Result<(), AllocError>
+    ensures { OnOk result (map said warnings.new.items ≡ map said warnings.old.items ++ said_if code holds (crs_spot crs.now)) }
+{
+    if !holds {
+        return Ok(());
+    }
+    let found = shown(alloc, crs.as_str())?;
+    push_in(alloc, warnings, code, "/crs", Some(found), true)
+}
+
+/// Adds that warning of a place in the extension metadata, if the test holds.
+fn push_in(
+    alloc: Global,
+    warnings: &mut Vec<Warning>,
+    code: WarningCode,
+    pointer: &str,
+    found: Option<String>,
+    holds: bool,
+) -> Result<(), AllocError>
+    ensures { OnOk result (map said warnings.new.items ≡ map said warnings.old.items ++ said_if code holds (spot_in pointer.now (option_map string_bytes found))) }
+{
+    if !holds {
+        return Ok(());
+    }
+    let pointer = String::from_str(alloc, pointer)?;
+    warnings.push(Warning {
+        code,
+        path: Vec::new(alloc),
+        pointer: Some(pointer),
+        found,
+        more: 0,
+    })?;
+    Ok(())
 }
 
 /// Whether a CRS has a number that is not whole.

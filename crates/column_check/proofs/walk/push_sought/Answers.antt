@@ -16,7 +16,7 @@ returns-in_ok-push c =
     let pushed : c.push.new.self.items ≡ warnings ++ c.in-Some.last ∷ [] = search rules in
     ap (map said) pushed ∙ map-append said warnings (c.in-Some.last ∷ [])
     ∙ ap (λ last. told (map said warnings, c.push_found.new.rest.room, option_map said last)) (sym c.in-Some.is) ∙ ap told c.in_ok-push_found.ensures
-    ∙ tells code before 15 (found c.args.sought [] t) ∙ ap (λ ways. before ++ at_most 15 code ways) (all_found c.args.sought t)
+    ∙ tells code before 15 (found c.args.sought [] t) ∙ ap (λ spots. before ++ at_most 15 code spots) (all_found c.args.sought t)
 
 pub returns-in_default : goal.returns-in_default
 returns-in_default c =
@@ -26,4 +26,4 @@ returns-in_default c =
     let t = tree c.args.data_type.now in
     let none : c.push_found.new.rest.last ≡ None = search rules in
     ap (λ last. told (map said warnings, c.push_found.new.rest.room, option_map said last)) (sym none) ∙ ap told c.in_ok-push_found.ensures
-    ∙ tells code before 15 (found c.args.sought [] t) ∙ ap (λ ways. before ++ at_most 15 code ways) (all_found c.args.sought t)
+    ∙ tells code before 15 (found c.args.sought [] t) ∙ ap (λ spots. before ++ at_most 15 code spots) (all_found c.args.sought t)
