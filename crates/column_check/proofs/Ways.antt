@@ -34,7 +34,7 @@ module _ (there : Names) {X : Type 0} (test : X → Bool) (text : X → Text) wh
 
       here : (b : Bool) → beyond there (map (λ x. spot_at x.0 (text x.1)) rest) ≡ beyond (there ++ name ∷ []) (spots_of test text parts)
           → beyond there (map (λ x. spot_at x.0 (text x.1)) (cond b ((name ∷ part.0, part.1) ∷ rest) rest))
-            ≡ beyond (there ++ name ∷ []) (map (λ x. spot_at x.0 (text x.1)) (cond b (part ∷ filter (λ x. test x.1) parts) (filter (λ x. test x.1) parts)))
+          ≡ beyond (there ++ name ∷ []) (map (λ x. spot_at x.0 (text x.1)) (cond b (part ∷ filter (λ x. test x.1) parts) (filter (λ x. test x.1) parts)))
       here false h = h
       here true h =
           ap (λ way. spot_at way (text part.1) ∷ beyond there (map (λ x. spot_at x.0 (text x.1)) rest)) (sym (append_assoc there (name ∷ []) part.0))

@@ -5,6 +5,9 @@ pub mod Unique
 pub mod States
 pub mod Shown
 pub mod Parts
+pub mod Said
+pub mod CrsWarnings
+pub mod KeyWarnings
 pub mod Warnings
 pub mod Walk
 pub mod WarningWords

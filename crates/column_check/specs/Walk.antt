@@ -5,7 +5,8 @@ use Rattle.arrow_values.specs.View.{tree}
 use Rattle.arrow_values.specs.declared.tree.UnionMode.{UnionMode}
 use Rattle.column_check.specs.Parts.{Names, Spot, spot_at, spots_of, coordinates_in, fields_in, nullable_in, unions_in}
 use Rattle.column_check.specs.Shown.{type_shown}
-use Rattle.column_check.specs.Warnings.{Said, said, at_each, is_doubtful, is_sparse, has_extension_name, extension_text}
+use Rattle.column_check.specs.Said.{Said, said, at_each}
+use Rattle.column_check.specs.Warnings.{is_doubtful, is_sparse, has_extension_name, extension_text}
 use Rattle.column_check.specs.declared.walk.Sought.{Sought}
 use Rattle.column_check.specs.declared.walk.Sought.TheVariants.{Coordinates, Inner}
 use Rattle.column_check.specs.declared.walk.Inner.{Inner as InnerPart}
@@ -126,3 +127,8 @@ tell (ws, zero, None) w = (ws, zero, Some w)
 abbrev pub tell_all : WarningCode → Telling → List Spot → Telling
 tell_all code t [] = t
 tell_all code t (spot ∷ spots) = tell_all code (tell t (code, spot, 0)) spots
+
+-- the warnings, the last one behind the others
+abbrev pub told : Telling → List Said
+told (ws, room, Some last) = ws ++ last ∷ []
+told (ws, room, None) = ws

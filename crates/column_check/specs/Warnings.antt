@@ -1,13 +1,8 @@
 -- What is doubtful of a column that is not invalid for it.
-use Rattle.std.specs.Prelude.{◌≡◌, ℕ, zero, suc, ◌-◌, ◌^◌, ◌==◌, min, ◌&&◌, ◌||◌, not, List, [], ◌∷◌, ◌++◌, length, map, codes, Bool, true, false, Option, None, Some, option_map, if◌then◌else◌, string_bytes}
+use Rattle.std.specs.Prelude.{◌≡◌, ◌==◌, ◌&&◌, ◌||◌, not, List, [], ◌∷◌, ◌++◌, length, map, codes, Bool, true, false, Option, None, Some}
 use Rattle.std.specs.Cmp.Lexicographic.{pointwise}
-use Rattle.std.specs.Option.{is_some}
 use Rattle.std.specs.List.{list_all, list_any}
 use Rattle.std.specs.Str.{bytes_eq}
-use Rattle.json.specs.Json.{Json}
-use Rattle.json.specs.Print.{print}
-use Rattle.json.specs.Tree.{json_tokens}
-use Rattle.serde_json.specs.Read.{of_json}
 use Rattle.arrow_values.specs.Tree.{Text, Metadata, Tree, plain, float16, float32, float64, fixed_size_list, struct, FieldTrees, no_fields, field}
 use Rattle.arrow_values.specs.Texts.{text_at, name_key}
 use Rattle.arrow_values.specs.declared.tree.UnionMode.{UnionMode}
@@ -23,44 +18,18 @@ use Rattle.geoarrow_layout.specs.declared.names.ExtensionName.TheVariants as nam
 use Rattle.geoarrow_layout.specs.Kinds.{name_text}
 use Rattle.geoarrow_layout.specs.Shapes.{names_of, has_name}
 use Rattle.geoarrow_layout.specs.Layouts.{coordinate_names, box_names}
-use Rattle.geoarrow_meta.specs.declared.crs.crs_type.CrsType.{CrsType}
-use Rattle.geoarrow_meta.specs.Read.{some_has_float}
-use Rattle.value_tokens.specs.Values.{is_object, is_string}
-use Rattle.column_check.specs.declared.metadata.ColumnMetadata.{ColumnMetadata}
 use Rattle.column_check.specs.States.{geometry_in}
-use Rattle.column_check.specs.Parts.{Names, Spot, spot_in, spots_of, coordinates_in, fields_in, nullable_in, unions_in}
-use Rattle.column_check.specs.Shown.{shown, type_shown}
+use Rattle.column_check.specs.Said.{Said, said, said_if, at_each}
+use Rattle.column_check.specs.CrsWarnings.{crs_warnings}
+use Rattle.column_check.specs.KeyWarnings.{key_warnings}
+use Rattle.column_check.specs.Parts.{Names, spots_of, coordinates_in, fields_in, nullable_in, unions_in}
+use Rattle.column_check.specs.Shown.{type_shown}
 use Rattle.column_check.specs.declared.finding.Finding.{Finding as ColumnFinding}
 use Rattle.column_check.specs.declared.finding.Geometry.{Geometry as GeometryColumn}
 use Rattle.column_check.specs.declared.code.WarningCode.{WarningCode}
-use Rattle.column_check.specs.declared.code.WarningCode.TheVariants.{MetadataEmpty, CrsNotWhole, CrsWithoutType, CrsNumber, CoordinatesNotFloat, CoordinatesNotDouble, AxisOrder, AxisNames, NullableInner, NestedGeometry}
+use Rattle.column_check.specs.declared.code.WarningCode.TheVariants.{MetadataEmpty, CoordinatesNotFloat, CoordinatesNotDouble, AxisOrder, AxisNames, NullableInner, NestedGeometry}
 use Rattle.column_check.specs.declared.code.WarningCode.TheVariants as codes_of
 use Rattle.column_check.specs.declared.warning.Warning.{Warning}
-
--- a warning: what is doubtful, where it is and what stands there, and how many more of its code it stands for
-abbrev pub Said : Type 0
-Said = WarningCode × Spot × ℕ
-
-abbrev pub said : Warning → Said
-said w = (w.code, (map string_bytes w.path.items, option_map string_bytes w.pointer, option_map string_bytes w.found), w.more)
-
--- one at a place, if the test holds
-abbrev pub said_if : WarningCode → Bool → Spot → List Said
-said_if code holds spot = if holds then (code, spot, 0) ∷ [] else []
-
--- how many there are, as far as a number of 64 bits goes
-abbrev pub counted : List Spot → ℕ
-counted spots = min (length spots) (2 ^ 64 - 1)
-
--- at places: of each of the first so many one, and one more, which stands for all that are left
-abbrev pub at_most : ℕ → WarningCode → List Spot → List Said
-at_most n code [] = []
-at_most zero code (spot ∷ spots) = (code, spot, counted spots) ∷ []
-at_most (suc n) code (spot ∷ spots) = (code, spot, 0) ∷ at_most n code spots
-
--- at places, at most sixteen
-abbrev pub at_each : WarningCode → List Spot → List Said
-at_each code spots = at_most 15 code spots
 
 -- ---- of the metadata text
 
@@ -73,31 +42,6 @@ is_empty_text (Some s) = false
 -- of an empty text, which is shown as two quotes
 abbrev pub text_warnings : Option Text → List Said
 text_warnings t = said_if MetadataEmpty (is_empty_text t) ([], None, Some (codes "\"\""))
-
--- ---- of a CRS
-
--- where a CRS is, with its text without blanks
-abbrev pub crs_spot : Json → Spot
-crs_spot j = spot_in (codes "/crs") (Some (shown (print (json_tokens j))))
-
--- it can only be PROJJSON, and needs no type, if it is an object
-abbrev pub lacks_type : Option CrsType → Json → Bool
-lacks_type t j = not (is_object j) && not (is_some t)
-
--- it is neither an object nor a text
-abbrev pub is_odd_crs : Json → Bool
-is_odd_crs j = not (is_object j) && not (is_string j)
-
--- of a CRS with that type; that numbers are not whole is a note: it is said where notes are asked for
-abbrev pub warnings_of_crs : Bool → Option CrsType → Option Json → List Said
-warnings_of_crs notes t None = []
-warnings_of_crs notes t (Some j) =
-    said_if CrsWithoutType (lacks_type t j) (crs_spot j)
-    ++ (said_if CrsNumber (is_odd_crs j) (crs_spot j)
-    ++ said_if CrsNotWhole (notes && some_has_float (of_json j)) (spot_in (codes "/crs") None))
-
-abbrev pub crs_warnings : Bool → ColumnMetadata → List Said
-crs_warnings notes m = warnings_of_crs notes m.crs_type m.crs
 
 -- ---- of the numbers of coordinates
 
@@ -223,7 +167,8 @@ nested_warnings (other s) = []
 -- of geometries
 abbrev pub geometry_warnings : Bool → ColumnTree → Option GeometryColumn → List Said
 geometry_warnings notes c None = []
-geometry_warnings notes c (Some g) = text_warnings (metadata_on c) ++ (crs_warnings notes g.metadata ++ type_warnings g.kind c.data_type)
+geometry_warnings notes c (Some g) =
+    text_warnings (metadata_on c) ++ (key_warnings (metadata_on c) ++ (crs_warnings notes g.metadata ++ type_warnings g.kind c.data_type))
 
 -- the warnings of a column of which that is said, with notes or without: those of its metadata text, of its CRS, of its coordinates and what
 -- they are in, and of the fields below it

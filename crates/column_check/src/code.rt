@@ -19,7 +19,17 @@ pub enum WarningCode {
     /// The extension metadata are an empty text, which is read as none here;
     /// `from_extension_field` and `from_arrow_field` of `geoarrow_schema` refuse the column.
     MetadataEmpty,
-    /// There is a CRS, and no CRS type. An object needs none, as it can only be PROJJSON.
+    /// A key of the extension metadata is `crs`, `crs_type` or `edges` but for its letters.
+    MetadataKeyCase,
+    /// The CRS is an object, or with the type `projjson` a text that is one, and no PROJJSON.
+    CrsMalformed,
+    /// The CRS is an empty text, which is read as no CRS.
+    CrsEmpty,
+    /// There is a CRS type, and the CRS is not of its form.
+    CrsTypeContradicts,
+    /// The CRS is WKT 1, and its type that of WKT 2.
+    CrsWkt1,
+    /// The CRS is a text that is neither PROJJSON nor WKT nor a code, and has no CRS type.
     CrsWithoutType,
     /// The CRS is neither an object nor a text.
     CrsNumber,
@@ -45,12 +55,37 @@ pub enum WarningCode {
 }
 
 impl WarningCode {
+    /// Each code, in the order of docs/FORMAT.md, 2.6.
+    pub const ALL: [WarningCode; 16] = [
+        WarningCode::MetadataEmpty,
+        WarningCode::MetadataKeyCase,
+        WarningCode::CrsMalformed,
+        WarningCode::CrsEmpty,
+        WarningCode::CrsTypeContradicts,
+        WarningCode::CrsWkt1,
+        WarningCode::CrsWithoutType,
+        WarningCode::CrsNumber,
+        WarningCode::CrsNotWhole,
+        WarningCode::CoordinatesNotFloat,
+        WarningCode::CoordinatesNotDouble,
+        WarningCode::AxisOrder,
+        WarningCode::AxisNames,
+        WarningCode::NullableInner,
+        WarningCode::UnionMode,
+        WarningCode::NestedGeometry,
+    ];
+
     /// Returns the code, as reports have it (`docs/FORMAT.md`, 2.6).
     pub fn code(self) -> &'static str
         ensures { result.now ≡ warning_code self }
     {
         match self {
             WarningCode::MetadataEmpty => "MetadataEmpty",
+            WarningCode::MetadataKeyCase => "MetadataKeyCase",
+            WarningCode::CrsMalformed => "CrsMalformed",
+            WarningCode::CrsEmpty => "CrsEmpty",
+            WarningCode::CrsTypeContradicts => "CrsTypeContradicts",
+            WarningCode::CrsWkt1 => "CrsWkt1",
             WarningCode::CrsWithoutType => "CrsWithoutType",
             WarningCode::CrsNumber => "CrsNumber",
             WarningCode::CrsNotWhole => "CrsNotWhole",
@@ -69,7 +104,10 @@ impl WarningCode {
         ensures { result ≡ severity_of self }
     {
         match self {
-            WarningCode::CoordinatesNotFloat | WarningCode::AxisOrder => Severity::Error,
+            WarningCode::CrsMalformed
+            | WarningCode::CrsTypeContradicts
+            | WarningCode::CoordinatesNotFloat
+            | WarningCode::AxisOrder => Severity::Error,
             WarningCode::CrsNotWhole => Severity::Note,
             _ => Severity::Warning,
         }
@@ -81,7 +119,13 @@ impl WarningCode {
     {
         match self {
             WarningCode::MetadataEmpty => "metadata is an empty text",
-            WarningCode::CrsWithoutType => "CRS without crs_type",
+            WarningCode::MetadataKeyCase =>
+                "metadata key is one of the format's but for its letters",
+            WarningCode::CrsMalformed => "CRS is an object that is no PROJJSON",
+            WarningCode::CrsEmpty => "CRS is an empty text",
+            WarningCode::CrsTypeContradicts => "CRS is not of the form that crs_type says",
+            WarningCode::CrsWkt1 => "CRS is WKT 1, and crs_type says WKT 2",
+            WarningCode::CrsWithoutType => "CRS of no known form without crs_type",
             WarningCode::CrsNumber => "CRS is neither an object nor a text",
             WarningCode::CrsNotWhole => "CRS has a number that is not whole",
             WarningCode::CoordinatesNotFloat => "coordinates are not floating-point numbers",
@@ -100,7 +144,12 @@ impl WarningCode {
     {
         match self {
             WarningCode::MetadataEmpty => "no metadata, or {}",
-            WarningCode::CrsWithoutType => "a crs_type",
+            WarningCode::MetadataKeyCase => "crs, crs_type or edges",
+            WarningCode::CrsMalformed => "PROJJSON",
+            WarningCode::CrsEmpty => "a CRS, or none",
+            WarningCode::CrsTypeContradicts => "a CRS of that form",
+            WarningCode::CrsWkt1 => "WKT 2",
+            WarningCode::CrsWithoutType => "PROJJSON, WKT, a code as EPSG:4326, or a crs_type",
             WarningCode::CrsNumber => "an object or a text",
             WarningCode::CrsNotWhole => "whole numbers",
             WarningCode::CoordinatesNotFloat => "float64",
@@ -119,6 +168,11 @@ impl WarningCode {
     {
         match self {
             WarningCode::MetadataEmpty => Some("It is read as no metadata."),
+            WarningCode::MetadataKeyCase => Some("The key is passed over."),
+            WarningCode::CrsMalformed => Some("projinfo -o PROJJSON prints it, as of EPSG:4326."),
+            WarningCode::CrsEmpty => Some("It is read as no CRS."),
+            WarningCode::CrsTypeContradicts => Some("Name the form in crs_type, or leave it out."),
+            WarningCode::CrsWkt1 => Some("projinfo -o WKT2:2019 prints it."),
             WarningCode::CrsNotWhole => Some(NOT_WHOLE_HELP),
             WarningCode::AxisOrder => Some("Readers go by place."),
             WarningCode::AxisNames => Some("Readers go by place."),

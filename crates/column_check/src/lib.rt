@@ -8,10 +8,14 @@
 mod check;
 mod code;
 mod coordinates;
+mod crs;
 mod data_type;
 mod finding;
+mod key_case;
 pub mod laws;
+mod malformed;
 mod metadata;
+mod said;
 mod shown;
 mod walk;
 mod warning;

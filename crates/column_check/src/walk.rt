@@ -1,13 +1,14 @@
 //! The walk down a data type, which adds a warning of each part that is looked for.
 ghost use Rattle.std.specs.Prelude.{◌≡◌, ◌++◌, map, OnOk};
 ghost use Rattle.arrow_values.specs.View.{tree, member_trees};
-ghost use Rattle.column_check.specs.Warnings.{said, is_sparse, has_extension_name};
+ghost use Rattle.column_check.specs.Said.{said};
+ghost use Rattle.column_check.specs.Warnings.{has_extension_name};
 ghost use Rattle.column_check.specs.Walk.{names_on, is_own, own_word, own_spots, goes_below, is_own_union, union_spots, found, found_among, found_at, code_of, sought_warnings, telling, tell_all};
 
 use crate::code::WarningCode;
 use crate::coordinates::is_doubtful;
 use crate::warning::Warning;
-use crate::way::{Rest, Shown, Way, tell_if};
+use crate::way::{Rest, Shown, Way, finish, tell_if};
 use arrow_values::{DataType, Field, UnionMode};
 use geoarrow_layout::{ExtensionName, Kind};
 use std::alloc::{AllocError, Global};
@@ -42,14 +43,9 @@ pub(crate) fn push_sought(
 ) -> Result<(), AllocError>
     ensures { OnOk result (map said warnings.new.items ≡ map said warnings.old.items ++ sought_warnings sought (tree data_type.now)) }
 {
-    let mut rest = Rest {
-        room: 15,
-        last: None,
-    };
+    let mut rest = Rest::sixteen();
     push_found(alloc, warnings, &mut rest, sought, &Way::Column, data_type)?;
-    if let Some(last) = rest.last {
-        warnings.push(last)?;
-    }
+    finish(warnings, rest)?;
     Ok(())
 }
 

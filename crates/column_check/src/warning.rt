@@ -1,24 +1,20 @@
 //! What is doubtful of a column that is not invalid for it.
-ghost use Rattle.std.specs.Prelude.{◌≡◌, ◌++◌, ◌∷◌, [], map, option_map, string_bytes, IfOk, OnOk, codes, None, Some};
-ghost use Rattle.serde_json.specs.Read.{of_json};
+ghost use Rattle.std.specs.Prelude.{◌≡◌, ◌++◌, map, Some, IfOk, OnOk};
 ghost use Rattle.arrow_values.specs.Texts.{text_of};
 ghost use Rattle.arrow_values.specs.View.{tree};
-ghost use Rattle.geoarrow_meta.specs.Read.{some_has_float};
-ghost use Rattle.arrow_columns.specs.Column.{column_tree, type_tree, known};
-ghost use Rattle.column_check.specs.Parts.{spot_in};
-ghost use Rattle.column_check.specs.Warnings.{said, said_if, is_empty_text, text_warnings, crs_spot, crs_warnings, coordinate_warnings, nullable_warnings, type_warnings, geometry_warnings, nested_warnings, AreWarnings};
+ghost use Rattle.arrow_columns.specs.Column.{column_tree, type_tree};
+ghost use Rattle.column_check.specs.Said.{said};
+ghost use Rattle.column_check.specs.Warnings.{is_empty_text, text_warnings, coordinate_warnings, nullable_warnings, type_warnings, geometry_warnings, nested_warnings, AreWarnings};
 
 use crate::code::WarningCode;
+use crate::crs::push_crs;
 use crate::finding::{Finding, Geometry};
-use crate::metadata::ColumnMetadata;
-use crate::shown::shown;
+use crate::key_case::push_keys;
 use crate::walk::{Inner, Sought, push_sought};
 use arrow_columns::{AnyType, SchemaColumn};
 use arrow_values::DataType;
 use geoarrow_layout::Kind;
-use geoarrow_meta::holds_whole_numbers;
 use std::alloc::{AllocError, Global};
-use value_tokens::JsonText;
 
 /// A warning: what is doubtful of a column, and where.
 #[derive(Debug, Drop)]
@@ -39,7 +35,7 @@ pub struct Warning {
 /// Returns what is doubtful of a column of which that is said, and leaves the finding as it is
 /// (`docs/FORMAT.md`, 2.6): in the order of `WarningCode`, and under one code from left to right, a
 /// field before those below it; of one code at most sixteen, of which the last says how many more
-/// there are. Of the metadata text, of a CRS and of coordinates it speaks where
+/// there are. Of the metadata text, of a CRS, of coordinates and of what they are in it speaks where
 /// the finding is of geometries; of fields below the column always. `notes` asks for the notes too.
 /// Errs only when out of memory.
 ///
@@ -83,6 +79,7 @@ fn push_geometry(
     ensures { OnOk result (map said warnings.new.items ≡ map said warnings.old.items ++ geometry_warnings notes (column_tree column.now) (Some geometry.now)) }
 {
     push_text(alloc, warnings, column.extension_type_metadata())?;
+    push_keys(alloc, warnings, column.extension_type_metadata())?;
     push_crs(alloc, warnings, &geometry.metadata, notes)?;
     push_type(alloc, warnings, geometry.kind, &column.data_type)
 }
@@ -176,90 +173,5 @@ fn is_empty_text(text: Option<&str>) -> bool
     match text {
         Some(text) => text.is_empty(),
         None => false,
-    }
-}
-
-/// Adds what is doubtful of a CRS.
-fn push_crs(
-    alloc: Global,
-    warnings: &mut Vec<Warning>,
-    metadata: &ColumnMetadata,
-    notes: bool,
-) -> Result<(), AllocError>
-    ensures { OnOk result (map said warnings.new.items ≡ map said warnings.old.items ++ crs_warnings notes metadata.now) }
-{
-    let Some(crs) = &metadata.crs else {
-        return Ok(());
-    };
-    let lacks_type = !crs.is_object() && metadata.crs_type.is_none();
-    let is_odd = !crs.is_object() && !crs.is_string();
-    push_of_crs(
-        alloc,
-        warnings,
-        WarningCode::CrsWithoutType,
-        crs,
-        lacks_type,
-    )?;
-    push_of_crs(alloc, warnings, WarningCode::CrsNumber, crs, is_odd)?;
-    let is_noted = notes && has_fraction(alloc, crs)?;
-    push_in(
-        alloc,
-        warnings,
-        WarningCode::CrsNotWhole,
-        "/crs",
-        None,
-        is_noted,
-    )
-}
-
-/// Adds that warning of the CRS, which it shows, if the test holds.
-fn push_of_crs(
-    alloc: Global,
-    warnings: &mut Vec<Warning>,
-    code: WarningCode,
-    crs: &JsonText,
-    holds: bool,
-) -> Result<(), AllocError>
-    ensures { OnOk result (map said warnings.new.items ≡ map said warnings.old.items ++ said_if code holds (crs_spot crs.now)) }
-{
-    if !holds {
-        return Ok(());
-    }
-    let found = shown(alloc, crs.as_str())?;
-    push_in(alloc, warnings, code, "/crs", Some(found), true)
-}
-
-/// Adds that warning of a place in the extension metadata, if the test holds.
-fn push_in(
-    alloc: Global,
-    warnings: &mut Vec<Warning>,
-    code: WarningCode,
-    pointer: &str,
-    found: Option<String>,
-    holds: bool,
-) -> Result<(), AllocError>
-    ensures { OnOk result (map said warnings.new.items ≡ map said warnings.old.items ++ said_if code holds (spot_in pointer.now (option_map string_bytes found))) }
-{
-    if !holds {
-        return Ok(());
-    }
-    let pointer = String::from_str(alloc, pointer)?;
-    warnings.push(Warning {
-        code,
-        path: Vec::new(alloc),
-        pointer: Some(pointer),
-        found,
-        more: 0,
-    })?;
-    Ok(())
-}
-
-/// Whether a CRS has a number that is not whole.
-fn has_fraction(alloc: Global, crs: &JsonText) -> Result<bool, AllocError>
-    ensures { IfOk result (λ answer. answer ≡ some_has_float (of_json crs.now)) }
-{
-    match crs.to_value(alloc)? {
-        Some(value) => Ok(!holds_whole_numbers(&value)),
-        None => Ok(false),
     }
 }

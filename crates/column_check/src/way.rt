@@ -1,8 +1,8 @@
 //! Warnings at the end of a way.
-ghost use Rattle.std.specs.Prelude.{◌≡◌, ◌++◌, ◌∷◌, [], if◌then◌else◌, map, IfOk, OnOk, string_bytes};
-ghost use Rattle.column_check.specs.Warnings.{said};
+ghost use Rattle.std.specs.Prelude.{None, ◌≡◌, ◌++◌, ◌∷◌, [], if◌then◌else◌, map, IfOk, OnOk, string_bytes};
+ghost use Rattle.column_check.specs.Said.{said};
 ghost use Rattle.column_check.specs.Parts.{spot_at};
-ghost use Rattle.column_check.specs.Walk.{names_on, shown_text, spot_if, telling, tell, tell_all};
+ghost use Rattle.column_check.specs.Walk.{names_on, shown_text, spot_if, telling, tell, tell_all, told};
 
 use crate::code::WarningCode;
 use crate::shown::type_shown;
@@ -35,6 +35,29 @@ pub(crate) struct Rest {
     pub(crate) room: usize,
     /// The last one, once there is no room: it counts those behind it.
     pub(crate) last: Option<Warning>,
+}
+
+impl Rest {
+    /// Sixteen, of which none is told.
+    pub(crate) fn sixteen() -> Rest
+        ensures room { result.room ≡ 15 }
+        ensures last { result.last ≡ None }
+    {
+        Rest {
+            room: 15,
+            last: None,
+        }
+    }
+}
+
+/// Adds the last one behind the others.
+pub(crate) fn finish(warnings: &mut Vec<Warning>, rest: Rest) -> Result<(), AllocError>
+    ensures { OnOk result (map said warnings.new.items ≡ told (telling warnings.old.items rest)) }
+{
+    if let Some(last) = rest.last {
+        warnings.push(last)?;
+    }
+    Ok(())
 }
 
 /// Tells of the end of a way, if the test holds.
