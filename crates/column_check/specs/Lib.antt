@@ -3,7 +3,11 @@ pub mod Types
 pub mod Finding
 pub mod Unique
 pub mod States
+pub mod Shown
 pub mod Parts
+pub mod Said
+pub mod CrsWarnings
+pub mod KeyWarnings
 pub mod Warnings
 pub mod Walk
 pub mod WarningWords
