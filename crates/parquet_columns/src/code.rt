@@ -43,8 +43,10 @@ impl FileCode {
         ensures { result.now ≡ rule_of self }
     {
         match self {
-            Self::ArrowSchemaUnreadable => "the value of ARROW:schema is no base64, or no message of a schema",
-            Self::ArrowSchemaNames => "the columns at ARROW:schema have other names than the elements, another number or another order",
+            Self::ArrowSchemaUnreadable =>
+                "the value of ARROW:schema is no base64, or no message of a schema",
+            Self::ArrowSchemaNames =>
+                "the columns at ARROW:schema have other names than the elements, another number or another order",
             Self::RepeatedKey => "geo or ARROW:schema stands several times with a value",
         }
     }
@@ -65,8 +67,10 @@ impl FileCode {
         ensures { result.now ≡ help_of self }
     {
         match self {
-            Self::ArrowSchemaUnreadable => "The columns are those of the elements; remove the key or write it anew.",
-            Self::ArrowSchemaNames => "The columns are those of the elements; remove the key or write it anew.",
+            Self::ArrowSchemaUnreadable =>
+                "The columns are those of the elements; remove the key or write it anew.",
+            Self::ArrowSchemaNames =>
+                "The columns are those of the elements; remove the key or write it anew.",
             Self::RepeatedKey => "The last counts here; other readers take the first.",
         }
     }

@@ -10,9 +10,7 @@ use crate::finding::FileFinding;
 use crate::footer::{FooterColumns, columns_of_footer};
 use crate::keys::value_of;
 use arrow_columns::SchemaColumn;
-use parquet_footer::{
-    Footer, FooterError, FooterFinding, FooterText, footer_length, read_footer,
-};
+use parquet_footer::{Footer, FooterError, FooterFinding, FooterText, footer_length, read_footer};
 use std::alloc::Global;
 
 /// The bytes of the footer of a Parquet file, from its end: the bytes of the file, or as many of its last ones as the footer, its
@@ -89,7 +87,8 @@ pub fn read_file<'a>(
     let value = value_of(&footer, key);
     let FooterColumns { columns, findings } = read;
     let Footer {
-        findings: texts, ..
+        findings: texts,
+        ..
     } = footer;
     Ok(FileColumns {
         columns,

@@ -79,7 +79,13 @@ fn several(
         part: FilePart::Footer,
         byte: Some(last.byte),
     };
-    FileFinding::new(alloc, FileCode::RepeatedKey, place, Some(text.as_str()), Some(key))
+    FileFinding::new(
+        alloc,
+        FileCode::RepeatedKey,
+        place,
+        Some(text.as_str()),
+        Some(key),
+    )
 }
 
 /// Adds what is found of a key. Errs only when out of memory.
