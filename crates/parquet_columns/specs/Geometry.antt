@@ -24,7 +24,7 @@ use Rattle.parquet_footer.specs.Element.{Element}
 use Rattle.parquet_footer.specs.Footer.{Pairing}
 use Rattle.parquet_footer.specs.Logical.{Logical, geometry, geography}
 use Rattle.parquet_columns.specs.Budget.{size_of}
-use Rattle.parquet_columns.specs.Keys.{value_of}
+use Rattle.parquet_columns.specs.Keys.{text_at}
 
 -- a CRS by the tokens that it is written with, and its type
 pub record TypedCrs : Type 0 where
@@ -55,7 +55,7 @@ abbrev pub coded_crs : List Pairing → Text → Option (Text × Text) → Typed
 coded_crs pairs s None = text_crs s None
 coded_crs pairs s (Some p) =
     if bytes_eq p.0 (codes "srid") then text_crs p.1 (Some Srid) else
-    if bytes_eq p.0 (codes "projjson") then keyed_crs s (value_of p.1 pairs) else
+    if bytes_eq p.0 (codes "projjson") then keyed_crs s (text_at p.1 pairs) else
     text_crs s (Some AuthorityCode)
 
 -- the CRS that is denoted: the format's default where none is named; a text that is PROJJSON itself; or one of those

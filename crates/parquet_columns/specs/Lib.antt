@@ -9,6 +9,9 @@ pub mod SchemaFault
 pub mod Geometry
 pub mod Keys
 pub mod Marks
+pub mod Codes
+pub mod Findings
+pub mod Stored
 pub mod Reads
 pub mod Typed
 pub mod Values
