@@ -4,6 +4,7 @@
 
 mod annotation;
 mod budget;
+mod claim;
 mod code;
 mod columns;
 mod equality_laws;
@@ -23,6 +24,7 @@ mod stored;
 mod values;
 
 pub use budget::{TOO_LARGE, report_budget};
+pub use claim::ElementClaim;
 pub use code::{FileCode, FilePart};
 pub use columns::{NESTING_LIMIT, columns_of};
 pub use equality_laws::{
