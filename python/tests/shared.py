@@ -15,7 +15,7 @@ CANON = '{"metadata":{"ARROW:extension:name":"geoarrow.point"},"name":"p","nulla
 TEXT = '{"name":"t","nullable":true,"type":"utf8"}'
 OTHER = '{"name":"at","nullable":true,"type":{"other":"timestamp[ms, tz=UTC]"}}'
 BROKEN = '{"metadata":{"ARROW:extension:metadata":"{\\"edges\\":1}","ARROW:extension:name":"geoarrow.linestring"},"name":"b","nullable":true,"type":{"list":{"name":"v","nullable":true,"type":{"struct":[]}}}}'
-CRS = '{"metadata":{"ARROW:extension:metadata":"{\\"crs\\":{\\"id\\":{\\"authority\\":\\"OGC\\",\\"code\\":\\"CRS84\\"},\\"scope\\":1.50},\\"crs_type\\":\\"projjson\\",\\"edges\\":\\"spherical\\"}","ARROW:extension:name":"geoarrow.wkb"},"name":"g","nullable":true,"type":"binary"}'
+CRS = '{"metadata":{"ARROW:extension:metadata":"{\\"crs\\":{\\"type\\":\\"GeographicCRS\\",\\"name\\":\\"WGS 84\\",\\"id\\":{\\"authority\\":\\"OGC\\",\\"code\\":\\"CRS84\\"},\\"scope\\":1.50},\\"crs_type\\":\\"projjson\\",\\"edges\\":\\"spherical\\"}","ARROW:extension:name":"geoarrow.wkb"},"name":"g","nullable":true,"type":"binary"}'
 
 # What is noted of CRS, in words (docs/FORMAT.md, 2.6).
 NOT_WHOLE = "note[CrsNotWhole] extension metadata /crs: expected whole numbers. For this alone read and canon of geoarrow_fields refuse the field; other readers do not."

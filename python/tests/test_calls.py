@@ -105,7 +105,7 @@ class Checks(unittest.TestCase):
 
     def test_a_crs_and_its_text(self):
         (column,) = check([CRS])
-        self.assertEqual(column.crs, {"id": {"authority": "OGC", "code": "CRS84"}, "scope": 1.5})
+        self.assertEqual(column.crs, {"type": "GeographicCRS", "name": "WGS 84", "id": {"authority": "OGC", "code": "CRS84"}, "scope": 1.5})
         self.assertEqual((column.crs_type, column.edges), ("projjson", "spherical"))
         self.assertEqual((column.state, column.is_geometry, column.is_invalid), ("geometry", True, False))
         self.assertIn('"scope":1.50', column.json)
