@@ -3,8 +3,9 @@ import dataclasses
 import json
 import pickle
 import unittest
+from unittest import mock
 
-from geoarrow_fields import Finding, check
+from geoarrow_fields import Finding, check, files
 from geoarrow_fields.columns import columns_of
 
 from .shared import TOP, said_of
@@ -25,7 +26,7 @@ def of_file(*objects):
 
 def of_column(*objects, **more):
     """The column whose warnings are these objects."""
-    members = json.dumps(more)[1:-1]
+    members = json.dumps(more, separators=(",", ":"))[1:-1]
     (column,) = columns_of(COLUMN % f'{"," if more else ""}{members},"warnings":[{",".join(objects)}]' + "\n")
     return column
 
@@ -115,6 +116,16 @@ class OfColumns(unittest.TestCase):
         column = of_column(WHOLE, LEAST)
         other = pickle.loads(pickle.dumps(column))
         self.assertEqual((other, [one.json for one in other.warnings]), (column, [WHOLE, LEAST]))
+
+
+class OfManyFiles(unittest.TestCase):
+    def test_what_is_found_in_a_column_names_it(self):
+        error, warning = LEAST.replace("note", "error"), LEAST.replace("note", "warning")
+        lines = [one.json for one in (of_column(warning, error), of_column(warning))] + [error.replace("One", "Two"), WHOLE]
+        with mock.patch("geoarrow_fields.check", lambda path, infer: columns_of("".join(f"{line}\n" for line in lines))):
+            found = files.report("a")
+        self.assertEqual(found["errors"], ["error[One] column t: expected two", "error[Two]: expected two"])
+        self.assertEqual(found["warnings"], ["warning[One] column t: expected two"] * 2 + [str(SAID)])
 
 
 class Shared(unittest.TestCase):
