@@ -50,11 +50,10 @@ class Finding:
         place = ", ".join(self._places())
         found = "" if self.found is None else f"found {self.found}; "
         help = "" if self.help is None else f". {self.help}"
-        more = f", and {self.more} more" if self.more else ""
-        return f"{self.severity}[{self.code}]{' ' if place else ''}{place}: {found}expected {self.expected}{help}{more}"
+        return f"{self.severity}[{self.code}]{' ' if place else ''}{place}: {found}expected {self.expected}{help}"
 
     def _places(self) -> Iterator[str]:
-        """The parts of the place, in words."""
+        """The parts of the place, in words, and how many more there are."""
         if self.column is not None:
             yield f"column {self.column}"
         if self.path:
@@ -63,6 +62,8 @@ class Finding:
             yield f"{self.source} {self.pointer}" if self.pointer else self.source
         if self.byte is not None:
             yield f"byte {self.byte}"
+        if self.more:
+            yield f"and {self.more} more"
 
 
 def _none() -> None:

@@ -19,7 +19,7 @@ CRS = '{"metadata":{"ARROW:extension:metadata":"{\\"crs\\":{\\"type\\":\\"Geogra
 
 # What is noted of CRS, in words (docs/FORMAT.md, 2.6).
 NOT_WHOLE = "note[CrsNotWhole] extension metadata /crs: expected whole numbers. For this alone read and canon of geoarrow_fields refuse the field; other readers do not."
-NO_GEO_METADATA = Finding("warning", "NoGeoMetadata", expected="metadata of GeoParquet at the key geo")
+NO_GEO_METADATA = Finding("warning", "NoGeoMetadata", source="geo", pointer="", expected="metadata of GeoParquet at the key geo")
 # What is found in geo.parquet, in words (docs/FORMAT.md, 5.1).
 TYPES = "Point, LineString, Polygon, MultiPoint, MultiLineString, MultiPolygon or GeometryCollection"
 FOUND = [

@@ -61,15 +61,16 @@ class Findings(unittest.TestCase):
         self.assertEqual((said_of(one), str(one)), (LEAST, "note[One]: expected two"))
 
     def test_words(self):
-        self.assertEqual(str(SAID), "warning[One] column two, at three.fo.ur, five /six, byte 7: found eight; expected nine. ten., and 11 more")
+        whole = "warning[One] column two, at three.fo.ur, five /six, byte 7, and 11 more: found eight; expected nine. ten."
+        self.assertEqual(str(SAID), whole)
         for key, words in (
-                ("column", "warning[One] at three.fo.ur, five /six, byte 7: found eight; expected nine. ten., and 11 more"),
-                ("path", "warning[One] column two, five /six, byte 7: found eight; expected nine. ten., and 11 more"),
-                ("pointer", "warning[One] column two, at three.fo.ur, five, byte 7: found eight; expected nine. ten., and 11 more"),
-                ("byte", "warning[One] column two, at three.fo.ur, five /six: found eight; expected nine. ten., and 11 more"),
-                ("found", "warning[One] column two, at three.fo.ur, five /six, byte 7: expected nine. ten., and 11 more"),
-                ("help", "warning[One] column two, at three.fo.ur, five /six, byte 7: found eight; expected nine, and 11 more"),
-                ("more", "warning[One] column two, at three.fo.ur, five /six, byte 7: found eight; expected nine. ten.")):
+                ("column", "warning[One] at three.fo.ur, five /six, byte 7, and 11 more: found eight; expected nine. ten."),
+                ("path", "warning[One] column two, five /six, byte 7, and 11 more: found eight; expected nine. ten."),
+                ("pointer", "warning[One] column two, at three.fo.ur, five, byte 7, and 11 more: found eight; expected nine. ten."),
+                ("byte", "warning[One] column two, at three.fo.ur, five /six, and 11 more: found eight; expected nine. ten."),
+                ("more", "warning[One] column two, at three.fo.ur, five /six, byte 7: found eight; expected nine. ten."),
+                ("found", "warning[One] column two, at three.fo.ur, five /six, byte 7, and 11 more: expected nine. ten."),
+                ("help", "warning[One] column two, at three.fo.ur, five /six, byte 7, and 11 more: found eight; expected nine")):
             said = json.loads(WHOLE)
             del said[key]
             (one,) = of_file(json.dumps(said))
@@ -78,7 +79,7 @@ class Findings(unittest.TestCase):
     def test_places_that_are_the_first(self):
         for members, words in (
                 ('"path":["a"]', "at a"), ('"in":"footer","byte":0', "footer, byte 0"), ('"in":"geo","pointer":""', "geo"),
-                ('"in":"geo","pointer":"/a"', "geo /a"), ('"column":"","path":["",""]', "column , at .")):
+                ('"in":"geo","pointer":"/a"', "geo /a"), ('"column":"","path":["",""]', "column , at ."), ('"more":3', "and 3 more")):
             (one,) = of_file(f'{{"severity":"error","code":"One",{members},"expected":"two"}}')
             self.assertEqual(str(one), f"error[One] {words}: expected two")
 

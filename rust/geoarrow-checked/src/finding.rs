@@ -202,18 +202,19 @@ impl Display for Finding {
         }
         if let Some(byte) = self.byte() {
             write!(f, "{between}byte {byte}")?;
+            between = ", ";
+        }
+        if self.more() > 0 {
+            write!(f, "{between}and {} more", self.more())?;
         }
         f.write_str(": ")?;
         if let Some(found) = self.found() {
             write!(f, "found {found}; ")?;
         }
         write!(f, "expected {}", self.expected())?;
-        if let Some(help) = self.help() {
-            write!(f, ". {help}")?;
-        }
-        match self.more() {
-            0 => Ok(()),
-            more => write!(f, ", and {more} more"),
+        match self.help() {
+            Some(help) => write!(f, ". {help}"),
+            None => Ok(()),
         }
     }
 }

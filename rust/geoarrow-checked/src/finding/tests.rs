@@ -47,14 +47,14 @@ fn what_is_absent_is_none() {
 #[test]
 fn the_words_of_each_part() {
     for (absent, words) in [
-        ("", "column three, at four.fi.ve, six /seven, byte 8: found nine; expected ten. eleven., and 12 more"),
-        (r#""column":"three","#, "at four.fi.ve, six /seven, byte 8: found nine; expected ten. eleven., and 12 more"),
-        (r#""path":["four","fi.ve"],"#, "column three, six /seven, byte 8: found nine; expected ten. eleven., and 12 more"),
-        (r#""pointer":"/seven","#, "column three, at four.fi.ve, six, byte 8: found nine; expected ten. eleven., and 12 more"),
-        (r#""byte":8,"#, "column three, at four.fi.ve, six /seven: found nine; expected ten. eleven., and 12 more"),
-        (r#""found":"nine","#, "column three, at four.fi.ve, six /seven, byte 8: expected ten. eleven., and 12 more"),
-        (r#","help":"eleven.""#, "column three, at four.fi.ve, six /seven, byte 8: found nine; expected ten, and 12 more"),
+        ("", "column three, at four.fi.ve, six /seven, byte 8, and 12 more: found nine; expected ten. eleven."),
+        (r#""column":"three","#, "at four.fi.ve, six /seven, byte 8, and 12 more: found nine; expected ten. eleven."),
+        (r#""path":["four","fi.ve"],"#, "column three, six /seven, byte 8, and 12 more: found nine; expected ten. eleven."),
+        (r#""pointer":"/seven","#, "column three, at four.fi.ve, six, byte 8, and 12 more: found nine; expected ten. eleven."),
+        (r#""byte":8,"#, "column three, at four.fi.ve, six /seven, and 12 more: found nine; expected ten. eleven."),
         (r#","more":12"#, "column three, at four.fi.ve, six /seven, byte 8: found nine; expected ten. eleven."),
+        (r#""found":"nine","#, "column three, at four.fi.ve, six /seven, byte 8, and 12 more: expected ten. eleven."),
+        (r#","help":"eleven.""#, "column three, at four.fi.ve, six /seven, byte 8, and 12 more: found nine; expected ten"),
     ] {
         let finding = Finding::read(&WHOLE.replacen(absent, "", 1)).unwrap();
         assert_eq!(finding.to_string(), format!("warning[One] {words}"));
@@ -69,6 +69,7 @@ fn a_place_that_is_the_first() {
         (r#""in":"geo","pointer":"""#, "geo"),
         (r#""in":"geo","pointer":"/a""#, "geo /a"),
         (r#""column":"","path":["",""]"#, "column , at ."),
+        (r#""more":3"#, "and 3 more"),
     ] {
         let line = format!(r#"{{"severity":"error","code":"A",{members},"expected":"b"}}"#);
         let finding = Finding::read(&line).unwrap();
