@@ -79,7 +79,8 @@ class Findings(unittest.TestCase):
     def test_places_that_are_the_first(self):
         for members, words in (
                 ('"path":["a"]', "at a"), ('"in":"footer","byte":0', "footer, byte 0"), ('"in":"geo","pointer":""', "geo"),
-                ('"in":"geo","pointer":"/a"', "geo /a"), ('"column":"","path":["",""]', "column , at ."), ('"more":3', "and 3 more")):
+                ('"in":"geo","pointer":"/a"', "geo /a"), ('"column":"","path":["",""]', "column , at ."), ('"byte":7,"more":3', "byte 7, and 3 more"),
+                ('"more":3', "and 3 more")):
             (one,) = of_file(f'{{"severity":"error","code":"One",{members},"expected":"two"}}')
             self.assertEqual(str(one), f"error[One] {words}: expected two")
 

@@ -69,6 +69,7 @@ fn a_place_that_is_the_first() {
         (r#""in":"geo","pointer":"""#, "geo"),
         (r#""in":"geo","pointer":"/a""#, "geo /a"),
         (r#""column":"","path":["",""]"#, "column , at ."),
+        (r#""byte":7,"more":3"#, "byte 7, and 3 more"),
         (r#""more":3"#, "and 3 more"),
     ] {
         let line = format!(r#"{{"severity":"error","code":"A",{members},"expected":"b"}}"#);
