@@ -93,7 +93,12 @@ pub(crate) fn claim_of<'a>(
     let Some(child) = child else {
         return Ok(ElementClaim::Silent);
     };
-    claim_by(alloc, values, column.extension_type_name(), geometry_of(child))
+    claim_by(
+        alloc,
+        values,
+        column.extension_type_name(),
+        geometry_of(child),
+    )
 }
 
 /// How many bytes a claim has.
