@@ -34,11 +34,10 @@ pub fn inspect_columns(
     Ok(findings)
 }
 
-/// Returns what a column holds: geometries, where it has one of GeoArrow's extension names, or an old
-/// one of them, and its type and its metadata go with it, whatever its coordinate reference system
-/// is; or why not. With `infer`, a column without an extension name is taken for what
-/// `from_arrow_field` of `geoarrow_schema` infers from its data type. The scratch buffer is kept by
-/// the caller from column to column. Errs only when out of memory.
+/// What a column holds: geometries, where it has one of GeoArrow's extension names, or an old one of them, and its type and its metadata
+/// go with it, whatever its coordinate reference system is; or why not. With `infer`, a column without an extension name is taken for what
+/// `from_arrow_field` of `geoarrow_schema` infers from its data type. The scratch buffer is kept by the
+/// caller from column to column. Errs only when out of memory.
 ///
 /// ```rust
 /// let column = SchemaColumn {

@@ -56,7 +56,7 @@ pub enum WarningCode {
     NullableInner,
     /// A union of a geometry or of a collection is sparse.
     UnionMode,
-    /// A field below the column has one of GeoArrow's eleven extension names, or an old one.
+    /// A field below the column has one of GeoArrow's eleven extension names, or an old one of them.
     NestedGeometry,
 }
 

@@ -32,8 +32,7 @@ pub(crate) fn push_in(
     Ok(())
 }
 
-/// Adds that warning of a place in the extension metadata, which shows that text, if the test
-/// holds.
+/// Adds that warning of a place in the extension metadata, which shows that text, if the test holds.
 pub(crate) fn push_shown(
     alloc: Global,
     warnings: &mut Vec<Warning>,

@@ -37,8 +37,8 @@ pub struct Warning {
 /// (`docs/FORMAT.md`, 2.6): in the order of `WarningCode`, and under one code from left to right, a
 /// field before those below it; of one code at most sixteen, of which the last says how many more
 /// there are. Of the metadata text, of a CRS, of coordinates and of what they are in it speaks where
-/// the finding is of geometries; of the extension name and of fields below the column always. `notes`
-/// asks for the notes too. Errs only when out of memory.
+/// the finding is of geometries; of the extension name and of fields below the column always. `notes` asks for the notes too.
+/// Errs only when out of memory.
 ///
 /// ```rust
 /// let finding = inspect_column(alloc, &mut scratch, &column, false)?;
