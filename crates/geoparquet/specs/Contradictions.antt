@@ -12,7 +12,7 @@ use Rattle.geoarrow_layout.specs.declared.native_kinds.NativeKind.{NativeKind}
 use Rattle.geoarrow_layout.specs.declared.native_kinds.NativeKind.TheVariants.{Point, LineString, Polygon, MultiPoint, MultiLineString, MultiPolygon}
 use Rattle.geoparquet.specs.Findings.{Finding}
 use Rattle.geoparquet.specs.Pairs.{text_findings}
-use Rattle.geoparquet.specs.Sources.{Element, silent, given, beside}
+use Rattle.geoparquet.specs.Sources.{Element, silent, gives, beside}
 use Rattle.geoparquet.specs.Rules.{found_at, part_place, items_findings, unless}
 use Rattle.geoparquet.specs.MemberRules.{encoding_of, is_edges_value}
 use Rattle.geoparquet.specs.StrictLayouts.{layout_of}
@@ -99,14 +99,14 @@ named_encoding (Some c) = option_and_then own_encoding (name_on c)
 abbrev pub element_encoding : Option Element → Option Text
 element_encoding None = None
 element_encoding (Some silent) = None
-element_encoding (Some (given names_crs)) = Some (codes "WKB")
+element_encoding (Some (gives names_crs)) = Some (codes "WKB")
 element_encoding (Some (beside s)) = Some (codes "WKB")
 
 -- the encoding that a field says: none where its column has its name from the element
 abbrev pub field_encoding : Option Element → Option ColumnTree → Option Text
 field_encoding None c = named_encoding c
 field_encoding (Some silent) c = named_encoding c
-field_encoding (Some (given names_crs)) c = None
+field_encoding (Some (gives names_crs)) c = None
 field_encoding (Some (beside s)) c = named_encoding c
 
 -- the encoding that a member says, where the column has the layout of it
@@ -156,7 +156,7 @@ own_edges d = None
 abbrev pub element_metadata : Option Element → Option ColumnTree → Data
 element_metadata None c = own.null
 element_metadata (Some silent) c = own.null
-element_metadata (Some (given names_crs)) c = own_metadata c
+element_metadata (Some (gives names_crs)) c = own_metadata c
 element_metadata (Some (beside s)) c = geo_value s
 
 -- the edges in the metadata of an element: planar where there are none
@@ -169,14 +169,14 @@ edges_in d = None
 abbrev pub element_edges : Option Element → Data → Option Text
 element_edges None d = None
 element_edges (Some silent) d = None
-element_edges (Some (given names_crs)) d = edges_in d
+element_edges (Some (gives names_crs)) d = edges_in d
 element_edges (Some (beside s)) d = edges_in d
 
 -- the edges that a field says: none where its column has its metadata from the element
 abbrev pub field_edges : Option Element → Data → Option Text
 field_edges None d = own_edges d
 field_edges (Some silent) d = own_edges d
-field_edges (Some (given names_crs)) d = None
+field_edges (Some (gives names_crs)) d = None
 field_edges (Some (beside s)) d = own_edges d
 
 -- two of the element, the field and `edges` say two

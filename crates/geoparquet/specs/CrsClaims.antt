@@ -12,7 +12,7 @@ use Rattle.geoparquet.specs.Findings.{Finding, shown_value}
 use Rattle.geoparquet.specs.Identifiers.{default_identifier}
 use Rattle.geoparquet.specs.Malformed.{is_projjson}
 use Rattle.geoparquet.specs.Pairs.{first_pair, pair_findings}
-use Rattle.geoparquet.specs.Sources.{Element, silent, given, beside}
+use Rattle.geoparquet.specs.Sources.{Element, silent, gives, beside}
 use Rattle.geoparquet.specs.Versions.{is_judged}
 use Rattle.geoparquet.specs.declared.code.GeoCode.TheVariants.{CrsContradicts, CrsNotCompared}
 use Rattle.geoparquet.specs.declared.finding.Version.{Version}
@@ -81,14 +81,14 @@ own_crs_in (Some j) = own_crs j
 abbrev pub element_json : Option Element → Option ColumnTree → Option Json
 element_json None c = None
 element_json (Some silent) c = None
-element_json (Some (given names_crs)) c = own_json c
+element_json (Some (gives names_crs)) c = own_json c
 element_json (Some (beside s)) c = json_in s
 
 -- those of a field: none where its column has them from the element
 abbrev pub field_json : Option Element → Option ColumnTree → Option Json
 field_json None c = own_json c
 field_json (Some silent) c = own_json c
-field_json (Some (given names_crs)) c = None
+field_json (Some (gives names_crs)) c = None
 field_json (Some (beside s)) c = own_json c
 
 -- the CRS that an element says, if it is of a geometry type: the default where it names none
@@ -99,8 +99,8 @@ or_default (Some c) = Some c
 abbrev pub element_crs : Option Element → Option Json → Option Claimed
 element_crs None own = None
 element_crs (Some silent) own = None
-element_crs (Some (given false)) own = Some default_claim
-element_crs (Some (given true)) own = own_crs_in own
+element_crs (Some (gives false)) own = Some default_claim
+element_crs (Some (gives true)) own = own_crs_in own
 element_crs (Some (beside s)) own = or_default (own_crs_in own)
 
 -- ---- findings

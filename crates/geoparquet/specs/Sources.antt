@@ -1,5 +1,5 @@
 -- The sources that say something of a column: the value at the key `geo`, and what the element says beside the field (docs/FORMAT.md, 4.6 and 5).
-use Rattle.std.specs.Prelude.{◌≡◌, Bool, List, [], ◌∷◌, bytes_eq, Option, None, Some, option_and_then, option_map, string_bytes, find}
+use Rattle.std.specs.Prelude.{◌≡◌, List, [], ◌∷◌, bytes_eq, Option, None, Some, option_and_then, option_map, find}
 use Rattle.std.specs.Borrow.{Bor}
 use Rattle.std.specs.BTreeMap.{BTreeMap, get_by}
 use Rattle.std.specs.Cmp.Lexicographic.{slice_cmp}
@@ -7,7 +7,7 @@ use Rattle.std.specs.Ordering.{nat_cmp}
 use Rattle.arrow_values.specs.Tree.{Text}
 use Rattle.arrow_columns.specs.Column.{ColumnTree, column_tree}
 use Rattle.parquet_columns.specs.declared.claim.ElementClaim.{ElementClaim}
-use Rattle.parquet_columns.specs.declared.claim.ElementClaim.TheVariants.{Silent, Given, Beside}
+pub use Rattle.parquet_columns.specs.Claims.{Claim as Element, silent, gives, beside, claim as element_view}
 use Rattle.geoparquet.specs.declared.source.GeoSource.{GeoSource}
 use Rattle.geoparquet.specs.declared.source.GeoSource.TheVariants.{Unasked, Missing, Value}
 use Rattle.geoparquet.specs.declared.sources.Sourced.{Sourced}
@@ -22,17 +22,6 @@ abbrev pub source : GeoSource → Source
 source Unasked = unasked
 source Missing = missing
 source (Value v) = value v.now
-
--- what an element says: nothing; what its column has, with a CRS or without; extension metadata, beside the column's own name and metadata
-pub data Element : Type 0 where
-  silent : Element
-  given : Bool → Element
-  beside : Text → Element
-
-abbrev pub element_view : ElementClaim → Element
-element_view Silent = silent
-element_view (Given names_crs) = given names_crs
-element_view (Beside s) = beside (string_bytes s)
 
 -- the columns, each with what its element says, if one is there
 abbrev pub with_elements : List ColumnTree → List Element → List (ColumnTree × Option Element)
