@@ -1,5 +1,5 @@
 //! What the words ask.
-use crate::codes::{codes_text, explained};
+use crate::codes::{codes_text, explained, no_code};
 use crate::command::command;
 use crate::flags::flags_of;
 use clap::error::ErrorKind;
@@ -95,7 +95,7 @@ fn codes_asked(alloc: Global, matches: &ArgMatches<'_>) -> Result<Option<String>
 /// What is asked; or why it cannot be done.
 fn asked_of(alloc: Global, matches: &ArgMatches<'_>) -> Result<Result<Asked, String>, AllocError> {
     if let Some(word) = matches.get_str("explain") {
-        return Ok(Err(format!(in alloc; "'{word}' is no code")?));
+        return Ok(Err(no_code(alloc, word)?));
     }
     let mut wants = Vec::new(alloc);
     for word in matches.get_strs("expect").unwrap_or(&[]) {
