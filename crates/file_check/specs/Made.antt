@@ -1,9 +1,7 @@
 -- What is made of a file that has a schema, before it is printed.
-use Rattle.std.specs.Prelude.{◌≡◌, ◌⊎◌, ℕ, ⊤, List, [], length, map, Result, Ok, Err, String, string_bytes}
+use Rattle.std.specs.Prelude.{◌≡◌, ◌⊎◌, ℕ, ⊤, List, [], length, Result, Ok, Err, String, string_bytes}
 use Rattle.std.specs.Global.{Global}
 use Rattle.arrow_values.specs.Tree.{Text}
-use Rattle.arrow_values.specs.Texts.{text_of}
-use Rattle.arrow_columns.specs.Column.{column_tree}
 use Rattle.column_files.specs.Files.{IsEndOpened}
 use Rattle.column_files.specs.declared.form.Form.{Form}
 use Rattle.column_files.specs.declared.opening.File.{File}
@@ -54,7 +52,7 @@ MakesOf asked file limit r (Err fault) = (fault ≡ OutOfMemory) ⊎ MakesText a
 pub record IsReportOfEnd (o : Options) (form : Form) (start : ℕ) (end : List ℕ) (r : FileReport) : Type 0 where
   pub opened : File
   pub is : IsEndOpened form start end (Ok opened)
-  pub said : IsReport o opened.form (text_of opened.geo) (map column_tree opened.columns.items) r
+  pub said : IsReport o opened r
 
 -- what a call answers of such an end: what is made of the report within the budget of the bytes; or why the file is refused
 abbrev pub MakesOpened : Asked → Text → Form → ℕ → List ℕ → Result Made FileFault → Type 0

@@ -102,7 +102,7 @@ impl<'a> LineReport<'a> {
     fn add(&mut self, column: SchemaColumn) -> Result<(), FileFault> {
         let options = self.asked.flags.options();
         let said = report_column(self.alloc, &mut self.scratch, column, options)?;
-        self.counted.summary.add(&said.finding);
+        self.counted.summary.add(&said);
         self.expect(&said)?;
         match self.asked.flags.output() {
             Output::Json => self.add_json(&said)?,

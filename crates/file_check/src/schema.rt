@@ -40,7 +40,7 @@ fn made_of(
     alloc: Global,
     asked: &Asked,
     file: &str,
-    report: FileReport,
+    report: FileReport<'_>,
     limit: u128,
 ) -> Result<Made, FileFault>
     ensures { MakesOf asked.now file.now limit report result }
@@ -62,7 +62,7 @@ fn text_of_report(
     alloc: Global,
     asked: &Asked,
     file: &str,
-    report: &FileReport,
+    report: &FileReport<'_>,
     limit: u128,
 ) -> Result<String, FileFault>
     ensures { MakesText asked.now file.now limit report.now result }
@@ -94,12 +94,12 @@ fn table_of(
     alloc: Global,
     asked: &Asked,
     file: &str,
-    report: &FileReport,
+    report: &FileReport<'_>,
     limit: u128,
 ) -> Result<String, FileFault>
     ensures { IfErr result IsPastTable }
 {
-    let findings = findings_of(alloc, asked, report)?;
+    let findings = findings_text(alloc, report.findings.as_slice(), asked.flags.notes)?;
     let mut rows = Vec::new(alloc);
     let mut size = findings.len() as u128;
     for said in &report.columns {
@@ -113,17 +113,4 @@ fn table_of(
     let mut text = named_table(alloc, asked, file, rows.as_slice())?;
     text.push_str(findings.as_str())?;
     Ok(text)
-}
-
-/// What is found in the GeoParquet metadata of a Parquet file, in words.
-fn findings_of(alloc: Global, asked: &Asked, report: &FileReport) -> Result<String, AllocError> {
-    match report.form {
-        Form::Parquet => {
-            let has_geometry = report.summary.has_geometry;
-            findings_text(alloc, &report.findings, has_geometry, asked.flags.notes)
-        }
-        Form::ArrowFile | Form::ArrowStream | Form::Lines | Form::Foreign(_) => {
-            Ok(String::new(alloc))
-        }
-    }
 }
