@@ -137,10 +137,7 @@ fn notes_of(
 }
 
 /// Findings in words.
-fn words_of(
-    alloc: Global,
-    found: &[column_reports::Finding<'_>],
-) -> Result<Vec<String>, AllocError>
+fn words_of(alloc: Global, found: &[column_reports::Finding<'_>]) -> Result<Vec<String>, AllocError>
     ensures { IfOk result (λ words. map string_bytes words.items ≡ map finding_words found.now) }
 {
     let mut words = Vec::new(alloc);
