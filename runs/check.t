@@ -519,6 +519,96 @@ The status by what is found, notes too, of the files of a row each: how many, th
         1 GeoVersion 1
         1 TypesContradict 1
 
+What is denied counts and is printed as an error; what is allowed is not printed and does not count: codes, and all warnings
+
+  $ geoarrow_check --allow GeoTypes --allow=GeoBboxOrder ../crates/geoarrow_check/data/geo.parquet
+  column  holds    CRS        edges
+  geom    wkb - -  OGC:CRS84  planar
+  place   wkb - -  EPSG:4326  planar
+  region  wkb - -  OGC:CRS84  karney
+  warning[GeoColumnUndeclared] column place, geo /columns: found "place"; expected a member for the column. Readers of GeoParquet do not see the column.
+  warning[GeoColumnUndeclared] column region, geo /columns: found "region"; expected a member for the column. Readers of GeoParquet do not see the column.
+
+  $ geoarrow_check --json --deny GeoColumnUndeclared --allow GeoTypes --allow GeoBboxOrder ../crates/geoarrow_check/data/geo.parquet | sed -n 's/^{\("severity":"[a-z]*","code":"[A-Za-z]*"\).*/\1/p'
+  "severity":"error","code":"GeoColumnUndeclared"
+  "severity":"error","code":"GeoColumnUndeclared"
+
+  $ for words in '' '--deny warnings' '--deny NoGeoMetadata' '--allow warnings' '--allow NoGeoMetadata'
+  > do
+  >     geoarrow_check $words ../crates/geoarrow_check/data/stored.parquet | tail -n +3
+  >     geoarrow_check --quiet $words ../crates/geoarrow_check/data/stored.parquet
+  >     echo $?
+  > done
+  warning[NoGeoMetadata] geo: expected metadata of GeoParquet at the key geo
+  0
+  error[NoGeoMetadata] geo: expected metadata of GeoParquet at the key geo
+  1
+  error[NoGeoMetadata] geo: expected metadata of GeoParquet at the key geo
+  1
+  0
+  0
+
+A code counts before all warnings, in any order of the words; of the same twice the later word counts
+
+  $ for words in '--deny warnings --allow NoGeoMetadata' '--allow NoGeoMetadata --deny warnings' '--allow warnings --deny NoGeoMetadata' '--deny NoGeoMetadata --allow warnings' \
+  >     '--deny NoGeoMetadata --allow NoGeoMetadata' '--allow NoGeoMetadata --deny NoGeoMetadata' '--deny warnings --allow warnings' '--allow warnings --deny warnings' \
+  >     '--deny NoGeoMetadata --allow NoGeoMetadata --deny NoGeoMetadata' '--deny GeoTypes --allow GeoTypes'
+  > do
+  >     geoarrow_check --quiet $words ../crates/geoarrow_check/data/stored.parquet
+  >     echo $?
+  > done | tr '\n' ' '
+  > echo
+  0 0 1 1 0 1 0 1 1 0 
+
+A note that is denied is shown, whether notes are or not; all warnings are no notes; errors are denied already
+
+  $ cat > "$TMPDIR/notes" << 'END'
+  > {"metadata":{"ARROW:extension:metadata":"{\"crs\":{\"type\":\"GeographicCRS\",\"name\":\"WGS 84\",\"scale\":0.5}}","ARROW:extension:name":"geoarrow.wkb"},"name":"g","nullable":true,"type":"binary"}
+  > {"metadata":{"ARROW:extension:metadata":"","ARROW:extension:name":"geoarrow.wkb"},"name":"e","nullable":true,"type":"binary"}
+  > END
+  > cd "$TMPDIR" && for words in '--deny CrsNotWhole' '--deny warnings' '--notes --deny warnings' '--notes --allow CrsNotWhole' '--allow warnings' '--allow warnings --allow CrsNotWhole --notes'
+  > do
+  >     geoarrow_check $words notes | sed -n 's/^    \([a-z]*\[[A-Za-z]*\]\).*/\1/p' | tr '\n' ' '
+  >     geoarrow_check --quiet $words notes
+  >     echo $?
+  > done
+  error[CrsNotWhole] warning[MetadataEmpty] 1
+  error[MetadataEmpty] 1
+  note[CrsNotWhole] error[MetadataEmpty] 1
+  warning[MetadataEmpty] 0
+  0
+  0
+
+  $ cd "$TMPDIR" && echo '{"metadata":{"ARROW:extension:metadata":"","ARROW:extension:name":"geoarrow.wkb"},"name":"e","nullable":true,"type":"binary"}' | geoarrow_check --json --deny MetadataEmpty -
+  {"column":"e","edges":"planar","extension":"geoarrow.wkb","index":0,"state":"geometry","type":"wkb - -","warnings":[{"severity":"error","code":"MetadataEmpty","found":"\"\"","expected":"no metadata, or {}","help":"It is read as no metadata."}]}
+  [1]
+
+The reasons of an invalid column and those why a file is refused are no codes of findings; nothing is read
+
+  $ for word in GeoTyps MixedWidths EmptyFile Warnings all ''
+  > do
+  >     for option in --deny --allow
+  >     do
+  >         geoarrow_check $option "$word" nowhere 2>&1 | sed '/Usage/,$d' | grep .
+  >     done
+  > done
+  > geoarrow_check --allow GeoTypes nowhere --deny GeoTypse 2> /dev/null
+  error: 'GeoTyps' is no code
+    tip: a similar code exists: 'GeoTypes'
+  error: 'GeoTyps' is no code
+    tip: a similar code exists: 'GeoTypes'
+  error: 'MixedWidths' is no code
+  error: 'MixedWidths' is no code
+  error: 'EmptyFile' is no code
+  error: 'EmptyFile' is no code
+  error: 'Warnings' is no code
+  error: 'Warnings' is no code
+  error: 'all' is no code
+  error: 'all' is no code
+  error: '' is no code
+  error: '' is no code
+  [2]
+
 The codes of findings, without a file: those of the tables of docs/FORMAT.md, in their order, with their severities; and of GeoParquet metadata the rules
 
   $ geoarrow_check --codes | sed -E 's/^([a-z]+)\[(.*)\]: .*/| `\2` | \1 |/' > "$TMPDIR/codes"

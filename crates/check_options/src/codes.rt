@@ -86,6 +86,12 @@ fn known(alloc: Global, code: Code) -> Result<String, AllocError> {
     Ok(text)
 }
 
+/// Returns whether a code is so called. Errs only when out of memory.
+pub(crate) fn is_code(alloc: Global, word: &str) -> Result<bool, AllocError> {
+    let codes = all_codes(alloc)?;
+    Ok(codes.iter().any(|code| code.word() == word))
+}
+
 /// Returns why a word that is no code is refused: with the code that it is most like, if it is like
 /// one. Errs only when out of memory.
 pub(crate) fn no_code(alloc: Global, word: &str) -> Result<String, AllocError> {

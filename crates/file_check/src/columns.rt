@@ -15,7 +15,7 @@ use crate::table::Row;
 use crate::text::shown;
 use arrow_columns::SchemaColumn;
 use column_check::{Finding, Geometry};
-use column_reports::{ColumnReport, finding_words, reason_words, type_word};
+use column_reports::{ColumnReport, Weighed, finding_words, reason_words, type_word};
 use std::alloc::{AllocError, Global};
 
 /// Returns the row of a column: its name; the kind, coordinate type and dimension of geometries, or
@@ -124,7 +124,7 @@ fn reasons_in(alloc: Global, finding: &Finding) -> Result<Vec<String>, AllocErro
 fn notes_of(
     alloc: Global,
     finding: &Finding,
-    found: &[column_reports::Finding<'_>],
+    found: &[Weighed<'_>],
 ) -> Result<Vec<String>, AllocError>
     ensures { IfOk result (λ notes. map string_bytes notes.items ≡ map shown (reasons_in finding.now ++ map finding_words found.now)) }
 {
@@ -137,7 +137,7 @@ fn notes_of(
 }
 
 /// Findings in words.
-fn words_of(alloc: Global, found: &[column_reports::Finding<'_>]) -> Result<Vec<String>, AllocError>
+fn words_of(alloc: Global, found: &[Weighed<'_>]) -> Result<Vec<String>, AllocError>
     ensures { IfOk result (λ words. map string_bytes words.items ≡ map finding_words found.now) }
 {
     let mut words = Vec::new(alloc);

@@ -3,11 +3,11 @@ ghost use Rattle.std.specs.Prelude.{◌≡◌, ◌++◌, IfOk, OnOk, string_byte
 ghost use Rattle.file_check.specs.Findings.{finding_line, findings_text};
 
 use crate::text::shown;
-use column_reports::{Finding, finding_words};
+use column_reports::{Weighed, finding_words};
 use std::alloc::{AllocError, Global};
 
-/// Returns what is found of a file, a line for each finding, of notes where notes are asked for
-/// (docs/FORMAT.md, 2.7). Errs only when out of memory.
+/// Returns what is found of a file, a line for each finding (docs/FORMAT.md, 2.7). Errs only when out
+/// of memory.
 ///
 /// ```rust
 /// let finding = GeoFinding {
@@ -17,38 +17,27 @@ use std::alloc::{AllocError, Global};
 ///     found: Some(String::from_str(alloc, "1")?),
 ///     wanted: None,
 /// };
-/// let findings = vec![in alloc; Finding::Geo(Version::V1_1, finding)]?;
-/// let text = findings_text(alloc, findings.as_slice(), false)?;
+/// let finding = Finding::Geo(Version::V1_1, finding);
+/// let findings = vec![in alloc; Weighed { severity: Severity::Error, finding }]?;
+/// let text = findings_text(alloc, findings.as_slice())?;
 /// let line = "error[GeoVersion] geo /version: found 1; expected 1.1.0. The rules of 1.1.0 are used.\n";
 /// assert_eq!(rt; text.as_str(), line);
 /// ```
-pub fn findings_text(
-    alloc: Global,
-    findings: &[Finding<'_>],
-    notes: bool,
-) -> Result<String, AllocError>
-    ensures { IfOk result (λ text. string_bytes text ≡ findings_text notes findings.now) }
+pub fn findings_text(alloc: Global, findings: &[Weighed<'_>]) -> Result<String, AllocError>
+    ensures { IfOk result (λ text. string_bytes text ≡ findings_text findings.now) }
 {
     let mut text = String::new(alloc);
     for finding in findings {
-        push_line(alloc, &mut text, finding, notes)?;
+        push_line(alloc, &mut text, finding)?;
     }
     Ok(text)
 }
 
-/// Adds the line of a finding, if it is shown.
-fn push_line(
-    alloc: Global,
-    text: &mut String,
-    finding: &Finding<'_>,
-    notes: bool,
-) -> Result<(), AllocError>
-    ensures { OnOk result (string_bytes text.new ≡ string_bytes text.old ++ finding_line notes finding.now) }
+/// Adds the line of a finding.
+fn push_line(alloc: Global, text: &mut String, finding: &Weighed<'_>) -> Result<(), AllocError>
+    ensures { OnOk result (string_bytes text.new ≡ string_bytes text.old ++ finding_line finding.now) }
 {
-    if finding.is_shown(notes) {
-        let words = finding_words(alloc, finding)?;
-        text.push_str(shown(alloc, words.as_str())?.as_str())?;
-        text.push_str("\n")?;
-    }
-    Ok(())
+    let words = finding_words(alloc, finding)?;
+    text.push_str(shown(alloc, words.as_str())?.as_str())?;
+    text.push_str("\n")
 }

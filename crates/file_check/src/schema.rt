@@ -28,7 +28,7 @@ pub(crate) fn made_of_end(
     let limit = report_budget(end.len());
     match open_end(alloc, form, start, end) {
         Ok(opened) => {
-            let report = report_of(alloc, opened, asked.flags.options())?;
+            let report = report_of(alloc, opened, asked.flags.infer, &asked.weights)?;
             made_of(alloc, asked, file, report, limit)
         }
         Err(fault) => Err(fault),
@@ -68,7 +68,7 @@ fn text_of_report(
     ensures { MakesText asked.now file.now limit report.now result }
 {
     match asked.flags.output() {
-        Output::Json => json_lines(alloc, named(file), report, asked.flags.notes, limit),
+        Output::Json => json_lines(alloc, named(file), report, limit),
         Output::Table => table_of(alloc, asked, file, report, limit),
         Output::Lines | Output::Ipc | Output::Nothing => Ok(String::new(alloc)),
     }
@@ -99,7 +99,7 @@ fn table_of(
 ) -> Result<String, FileFault>
     ensures { IfErr result IsPastTable }
 {
-    let findings = findings_text(alloc, report.findings.as_slice(), asked.flags.notes)?;
+    let findings = findings_text(alloc, report.findings.as_slice())?;
     let mut rows = Vec::new(alloc);
     let mut size = findings.len() as u128;
     for said in &report.columns {

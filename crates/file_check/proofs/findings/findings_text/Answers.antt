@@ -7,7 +7,7 @@ pub loop-finding-preserved : goal.loop-finding-preserved
 loop-finding-preserved c =
     let l = c.loop-finding in
     let findings = c.args.findings.now in
-    let line = finding_line c.args.notes in
+    let line = finding_line in
     let done = take l.finding-index findings in
     let finding = c.finding-item.result in
     let taken : take (l.finding-index + 1) findings ≡ done ++ finding ∷ [] =
@@ -17,4 +17,4 @@ loop-finding-preserved c =
 pub returns : goal.returns
 returns c =
     let l = c.loop-finding in
-    l.invariant ∙ ap (findings_text c.args.notes) (take_all l.finding-index c.args.findings.now (omega arith))
+    l.invariant ∙ ap findings_text (take_all l.finding-index c.args.findings.now (omega arith))

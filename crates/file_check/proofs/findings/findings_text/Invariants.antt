@@ -3,4 +3,4 @@ use Rattle.file_check.specs.Findings.{findings_text}
 use Rattle.file_check.proofs.findings.findings_text.Given as goal
 
 abbrev pub invariant-loop-finding : goal.invariant-loop-finding
-invariant-loop-finding l = string_bytes l.text ≡ findings_text l.notes (take l.finding-index l.findings)
+invariant-loop-finding l = string_bytes l.text ≡ findings_text (take l.finding-index l.findings)
