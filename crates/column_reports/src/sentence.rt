@@ -7,9 +7,10 @@ ghost use Rattle.column_reports.specs.FindingWords.{place_parts, placed, around,
 ghost use Rattle.column_reports.specs.FindingWords.{finding_words};
 
 use crate::finding::Finding;
+use crate::weighed::Weighed;
 use std::alloc::{AllocError, Global};
 
-/// Returns a finding in words (docs/FORMAT.md, 5.1): `SEVERITY[CODE] column NAME, at A.B, IN
+/// Returns a finding in words (docs/FORMAT.md, 5.1), as it counts: `SEVERITY[CODE] column NAME, at A.B, IN
 /// POINTER, byte N, and M more: found FOUND; expected EXPECTED. HELP`, where parts that do not
 /// apply are left out. Errs only when out of memory.
 ///
@@ -18,6 +19,7 @@ use std::alloc::{AllocError, Global};
 /// let found = Some(String::from_str(alloc, "nullable")?);
 /// let code = WarningCode::NullableInner;
 /// let finding = Finding::Column(Warning { code, path, pointer: None, found, more: 4 });
+/// let finding = Weighed { severity: Severity::Warning, finding };
 /// let text = "warning[NullableInner] at rings.vertices, and 4 more: found nullable; expected not null";
 /// assert_eq!(rt; finding_words(alloc, &finding)?.as_str(), text);
 ///
@@ -28,16 +30,17 @@ use std::alloc::{AllocError, Global};
 ///     found: Some(String::from_str(alloc, "\"2020\"")?),
 ///     wanted: None,
 /// };
-/// let words = finding_words(alloc, &Finding::Geo(Version::V1_1, finding))?;
+/// let finding = Finding::Geo(Version::V1_1, finding);
+/// let words = finding_words(alloc, &Weighed { severity: Severity::Error, finding })?;
 /// let text = "error[GeoEpoch] column geom, geo /columns/geom/epoch: found \"2020\"; expected a number. A number has no quotes.";
 /// assert_eq!(rt; words.as_str(), text);
 /// ```
-pub fn finding_words(alloc: Global, finding: &Finding<'_>) -> Result<String, AllocError>
-    ensures { IfOk result (λ text. string_bytes text ≡ finding_words finding.now) }
+pub fn finding_words(alloc: Global, found: &Weighed<'_>) -> Result<String, AllocError>
+    ensures { IfOk result (λ text. string_bytes text ≡ finding_words found.now) }
 {
-    let code = finding.code();
-    let severity = code.severity().word();
-    let word = code.word();
+    let finding = &found.finding;
+    let severity = found.severity.word();
+    let word = finding.code().word();
     let place = placed(alloc, place_parts(alloc, finding)?)?;
     let said = said_words(alloc, finding)?;
     format!(in alloc; "{severity}[{word}]{place}: {said}")

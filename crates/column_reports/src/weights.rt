@@ -1,6 +1,7 @@
 //! How much findings count, by what is asked of them.
-ghost use Rattle.std.specs.Prelude.{◌≡◌, [], None};
-ghost use Rattle.column_reports.specs.Weights.{weight_in, weighed, weight_of_group, counts_as};
+ghost use Rattle.std.specs.Prelude.{◌≡◌, map};
+ghost use Rattle.column_reports.specs.Weights.{code_weight, weighing, plain, weight_in};
+ghost use Rattle.column_reports.specs.Weights.{counted, counted_by_group, counts_as};
 
 use column_check::Severity;
 use std::alloc::Global;
@@ -39,9 +40,7 @@ impl Weights {
     /// Returns that where nothing is asked of warnings and of codes: notes are shown or not, and each
     /// finding counts by its severity.
     pub fn new(alloc: Global, notes: bool) -> Weights
-        ensures notes { result.notes ≡ notes }
-        ensures warnings { result.warnings ≡ None }
-        ensures codes { result.codes.items ≡ [] }
+        ensures { weighing result ≡ plain notes }
     {
         Weights {
             notes,
@@ -66,9 +65,9 @@ impl Weights {
     /// assert_eq!(rt; weights.severity_of("CrsNotWhole", Severity::Note), None);
     /// ```
     pub fn severity_of(&self, code: &str, severity: Severity) -> Option<Severity>
-        ensures { result ≡ counts_as self.now code.now severity }
+        ensures { result ≡ counts_as (weighing self.now) code.now severity }
     {
-        weighed(
+        counted(
             weight_in(self.codes.as_slice(), code),
             self.of_group(severity),
         )
@@ -76,11 +75,11 @@ impl Weights {
 
     /// How much a finding of a severity counts where nothing is asked of its code.
     fn of_group(&self, severity: Severity) -> Option<Severity>
-        ensures { result ≡ weight_of_group self.now severity }
+        ensures { result ≡ counted_by_group (weighing self.now) severity }
     {
         match severity {
             Severity::Error => Some(Severity::Error),
-            Severity::Warning => weighed(self.warnings, Some(Severity::Warning)),
+            Severity::Warning => counted(self.warnings, Some(Severity::Warning)),
             Severity::Note if self.notes => Some(Severity::Note),
             Severity::Note => None,
         }
@@ -89,7 +88,7 @@ impl Weights {
 
 /// What is asked of a code, if something is.
 fn weight_in(codes: &[CodeWeight], code: &str) -> Option<Weight>
-    ensures { result ≡ weight_in codes.now code.now }
+    ensures { result ≡ weight_in (map code_weight codes.now) code.now }
 {
     let [first, rest @ ..] = codes else {
         return None;
@@ -101,8 +100,8 @@ fn weight_in(codes: &[CodeWeight], code: &str) -> Option<Weight>
 }
 
 /// How much a finding counts where that is asked of it, and else.
-fn weighed(weight: Option<Weight>, otherwise: Option<Severity>) -> Option<Severity>
-    ensures { result ≡ weighed weight otherwise }
+fn counted(weight: Option<Weight>, otherwise: Option<Severity>) -> Option<Severity>
+    ensures { result ≡ counted weight otherwise }
 {
     match weight {
         Some(Weight::Deny) => Some(Severity::Error),
