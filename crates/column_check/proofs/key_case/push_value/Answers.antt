@@ -1,4 +1,4 @@
-use Rattle.std.proofs.Common.{◌≡◌, Bool, List, ◌++◌, map, codes, Some, Result, Ok, Err, OnOk, ap₂, ◌∙◌, append_assoc}
+use Rattle.std.proofs.Common.{Bool, List, ◌++◌, map, codes, Some, Result, Ok, Err, OnOk, ap₂, ◌∙◌, append_assoc}
 use Rattle.json.specs.Value.{value_view}
 use Rattle.column_check.specs.KeyWarnings.{spots_in}
 use Rattle.column_check.specs.Parts.{spot_in}
