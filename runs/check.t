@@ -612,10 +612,10 @@ The reasons of an invalid column and those why a file is refused are no codes of
 The codes of findings, without a file: those of the tables of docs/FORMAT.md, in their order, with their severities; and of GeoParquet metadata the rules
 
   $ geoarrow_check --codes | sed -E 's/^([a-z]+)\[(.*)\]: .*/| `\2` | \1 |/' > "$TMPDIR/codes"
-  > grep -oE '^\| `[A-Za-z]+` \| (error|warning|note) \|' ../docs/FORMAT.md | cmp - "$TMPDIR/codes"
+  > grep -oE '^\| `[A-Za-z0-9]+` \| (error|warning|note) \|' ../docs/FORMAT.md | cmp - "$TMPDIR/codes"
 
   $ geoarrow_check --codes | sed -E 's/^([a-z]+)\[(.*)\]: (.*)/| `\2` | \1 | `\3` /' > "$TMPDIR/codes"
-  > grep -oE '^\| `[A-Za-z]+` \| (error|warning|note) \| `[^`]*` ' ../docs/FORMAT.md | grep -vxFf "$TMPDIR/codes"
+  > grep -oE '^\| `[A-Za-z0-9]+` \| (error|warning|note) \| `[^`]*` ' ../docs/FORMAT.md | grep -vxFf "$TMPDIR/codes"
   [1]
 
   $ geoarrow_check --codes > "$TMPDIR/codes" && geoarrow_check --codes x --json | cmp - "$TMPDIR/codes"
