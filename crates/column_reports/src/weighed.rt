@@ -33,7 +33,7 @@ pub(crate) fn weigh<'a>(
     weights: &Weights,
     findings: Vec<Finding<'a>>,
 ) -> Result<Vec<Weighed<'a>>, AllocError>
-    ensures { IfOk result (λ all. all.items ≡ weighed (weighing weights.now) findings.items) }
+    ensures { IfOk result (λ all. all.items ≡ weighed (weighing weights.now) findings.entry.items) }
 {
     let mut all = Vec::new(alloc);
     for finding in findings {
@@ -48,7 +48,7 @@ fn add_weighed<'a>(
     weights: &Weights,
     finding: Finding<'a>,
 ) -> Result<(), AllocError>
-    ensures { OnOk result (all.new.items ≡ all.old.items ++ weighed_one (weighing weights.now) finding) }
+    ensures { OnOk result (all.new.items ≡ all.old.items ++ weighed_one (weighing weights.now) finding.entry) }
 {
     let code = finding.code();
     if let Some(severity) = weights.severity_of(code.word(), code.severity()) {
