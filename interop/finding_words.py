@@ -38,9 +38,11 @@ WORDS = {text_in(row[0]): [text_in(cell) for cell in row[1:]]
          for row in tables("code | expected | help")}
 
 
-def said(code, **parts):
-    """A finding by the tables of its code, with the parts that are its own."""
+def said(code, wanted=None, **parts):
+    """A finding by the tables of its code, with what its rule wants there, and the parts that are its
+    own."""
     expected, advice = WORDS[code]
+    expected = expected if wanted is None else f"{expected} ({wanted})"
     return {"severity": WEIGHS[code], "code": code, "expected": expected, "help": advice, **parts}
 
 
