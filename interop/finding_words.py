@@ -62,14 +62,13 @@ def words(parts):
     """What a table says of a finding."""
     its = there(parts)
     pointer = f" {its['pointer']}" if its.get("pointer") else ""
-    places = [f"column {its['column']}" if "column" in its else None,
-              f"at {'.'.join(its['path'])}" if "path" in its else None,
-              f"{its['in']}{pointer}" if "in" in its else None,
-              f"byte {its['byte']}" if "byte" in its else None]
-    place = ", ".join(one for one in places if one)
+    places = {"column": "column {column}", "path": "at {path}", "in": "{in}{pointer}",
+              "byte": "byte {byte}", "more": "and {more} more"}
+    held = {**its, "path": ".".join(its.get("path", ())), "pointer": pointer}
+    place = ", ".join(form.format_map(held) for key, form in places.items() if key in its)
     found = f"found {its['found']}; " if "found" in its else ""
-    text = f"{its['severity']}[{its['code']}]{' ' if place else ''}{place}: {found}expected {its['expected']}"
-    return text + (f". {its['help']}" if "help" in its else "") + (f", and {its['more']} more" if "more" in its else "")
+    advice = f". {its['help']}" if "help" in its else ""
+    return f"{its['severity']}[{its['code']}]{place and ' ' + place}: {found}expected {its['expected']}{advice}"
 
 
 def shown(text):

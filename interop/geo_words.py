@@ -84,11 +84,10 @@ def help_of(code, version, found):
 def parts(version, finding):
     """The parts of a finding, by the rules of a version."""
     code = finding.code
-    is_placed = code != "NoGeoMetadata"
     return {
-        "severity": severity(code), "code": code, "column": finding.column,
-        "in": "geo" if is_placed else None, "pointer": finding.pointer if is_placed else None,
-        "found": finding.found, "expected": expected(code, version, finding.wanted),
+        "severity": severity(code), "code": code, "column": finding.column, "in": "geo",
+        "pointer": finding.pointer, "found": finding.found,
+        "expected": expected(code, version, finding.wanted),
         "help": help_of(code, version, finding.found)}
 
 

@@ -55,7 +55,7 @@ class Lines(unittest.TestCase):
         said = ('{"severity":"error","code":"C","file":"f","column":"g","path":["a","b"],"in":"geo",'
                 '"pointer":"/p","byte":7,"found":"x","expected":"e","help":"H.","more":2}')
         self.assertEqual(finding_words.line(self.MADE), said)
-        said = "error[C] column g, at a.b, geo /p, byte 7: found x; expected e. H., and 2 more"
+        said = "error[C] column g, at a.b, geo /p, byte 7, and 2 more: found x; expected e. H."
         self.assertEqual(finding_words.words(self.MADE), said)
 
     def test_no_parts(self):
