@@ -20,12 +20,25 @@ use Rattle.parquet_columns.specs.declared.stored.StoredFault.TheVariants.{Encodi
 
 pub record Finding : Type 0 where
   pub code : FileCode
+  pub column : Option Text
+  pub path : List Text
   pub place : FilePlace
   pub found : Option Text
   pub wanted : Option Text
 
 abbrev pub finding : FileFinding → Finding
-finding f = record { code = f.code; place = f.place; found = option_map string_bytes f.found; wanted = option_map string_bytes f.wanted }
+finding f = record {
+  code = f.code;
+  column = option_map string_bytes f.column;
+  path = map string_bytes f.path.items;
+  place = f.place;
+  found = option_map string_bytes f.found;
+  wanted = option_map string_bytes f.wanted;
+}
+
+-- one that is in no column
+abbrev pub of_file : FileCode → FilePlace → Option Text → Option Text → Finding
+of_file code place found wanted = record { code = code; column = None; path = []; place = place; found = found; wanted = wanted }
 
 -- ---- a stored schema that is not read: what is wrong, and where in the text or in the message that it spells
 
@@ -46,7 +59,7 @@ stored_place (Broken fault) = record { part = StoredMessage; byte = Some fault.a
 stored_place (Budget at) = record { part = StoredMessage; byte = Some at }
 
 abbrev pub unreadable : StoredFault → Finding
-unreadable fault = record { code = ArrowSchemaUnreadable; place = stored_place fault; found = Some (stored_message fault); wanted = None }
+unreadable fault = of_file ArrowSchemaUnreadable (stored_place fault) (Some (stored_message fault)) None
 
 -- ---- a stored schema of other columns: the first name that is another, and the element's; none where there are no more
 
@@ -57,7 +70,7 @@ first_other (c ∷ cs) [] = Some (Some c.name, None)
 first_other (c ∷ cs) (d ∷ ds) = if bytes_eq c.name d.name then first_other cs ds else Some (Some c.name, Some d.name)
 
 abbrev pub other_names : Option Text × Option Text → Finding
-other_names p = record { code = ArrowSchemaNames; place = record { part = StoredMessage; byte = None }; found = p.0; wanted = p.1 }
+other_names p = of_file ArrowSchemaNames (record { part = StoredMessage; byte = None }) p.0 p.1
 
 -- ---- a key of several values: how many, and whether they differ; at the last
 
@@ -79,7 +92,7 @@ abbrev pub values_text : ℕ → Bool → Text
 values_text count same = decimal count ++ (if same then codes " values, which are equal" else codes " values, which differ")
 
 abbrev pub several : Text → List Spelled → Spelled → Finding
-several key vs last = record { code = RepeatedKey; place = record { part = Footer; byte = Some last.byte }; found = Some (values_text (length vs) (all_same last vs)); wanted = Some key }
+several key vs last = of_file RepeatedKey (record { part = Footer; byte = Some last.byte }) (Some (values_text (length vs) (all_same last vs))) (Some key)
 
 abbrev pub repeated_by : Text → List Spelled → Option Spelled → List Finding
 repeated_by key vs None = []

@@ -16,6 +16,13 @@ pub enum FileCode {
 }
 
 impl FileCode {
+    /// Each code, in the order of docs/FORMAT.md, 4.5.
+    pub const ALL: [FileCode; 3] = [
+        FileCode::ArrowSchemaUnreadable,
+        FileCode::ArrowSchemaNames,
+        FileCode::RepeatedKey,
+    ];
+
     /// Returns the code, as reports have it.
     pub fn code(self) -> &'static str
         ensures { result.now ≡ code_of self }

@@ -5,6 +5,7 @@ ghost use Rattle.parquet_footer.specs.Findings.{finding as text_finding};
 ghost use Rattle.parquet_footer.specs.Spelled.{spelled};
 ghost use Rattle.parquet_columns.specs.Reads.{footer_in, IsFileRead, IsValueRead, AreTextsRead};
 
+use crate::claim::ElementClaim;
 use crate::error::{SchemaError, error_of};
 use crate::finding::FileFinding;
 use crate::footer::{FooterColumns, columns_of_footer};
@@ -47,6 +48,8 @@ pub fn footer_in(end: &[u8]) -> Result<&[u8], SchemaError>
 pub struct FileColumns<'a> {
     /// Its columns.
     pub columns: Vec<SchemaColumn>,
+    /// What the elements say beside the columns, one claim for each, in their order (`docs/FORMAT.md`, 4.6).
+    pub elements: Vec<ElementClaim>,
     /// What is found of the schema at `ARROW:schema` and of keys that stand several times (`docs/FORMAT.md`, 4.5).
     pub findings: Vec<FileFinding>,
     /// What is found of names, keys and values that are not UTF-8 (`docs/FORMAT.md`, 4.3).
@@ -73,7 +76,7 @@ pub fn read_file<'a>(
     key: &str,
 ) -> Result<FileColumns<'a>, SchemaError>
     ensures columns { IfOk result (λ read. IsFileRead (footer_in end.now)
-        (Ok (record { columns = read.columns; findings = read.findings }))) }
+        (Ok (record { columns = read.columns; elements = read.elements; findings = read.findings }))) }
     ensures texts { IfOk result (λ read. AreTextsRead (footer_in end.now) (map text_finding read.texts.items)) }
     ensures value { IfOk result (λ read. IsValueRead key.now (footer_in end.now) (option_map spelled read.value)) }
     ensures fault { IfErr result (λ error. IsFileRead (footer_in end.now) (Err error)) }
@@ -85,13 +88,18 @@ pub fn read_file<'a>(
     };
     let read = columns_of_footer(alloc, &footer, bytes.len())?;
     let value = value_of(&footer, key);
-    let FooterColumns { columns, findings } = read;
+    let FooterColumns {
+        columns,
+        elements,
+        findings,
+    } = read;
     let Footer {
         findings: texts,
         ..
     } = footer;
     Ok(FileColumns {
         columns,
+        elements,
         findings,
         texts,
         value,

@@ -1,5 +1,5 @@
 //! What is found in the footer of a Parquet file.
-ghost use Rattle.std.specs.Prelude.{◌≡◌, IfOk, option_map, string_bytes};
+ghost use Rattle.std.specs.Prelude.{◌≡◌, [], None, IfOk, option_map, string_bytes};
 ghost use Rattle.arrow_values.specs.Texts.{text_of};
 ghost use Rattle.parquet_columns.specs.Findings.{finding};
 
@@ -20,7 +20,11 @@ pub struct FilePlace {
 pub struct FileFinding {
     /// What is wrong.
     pub code: FileCode,
-    /// Where.
+    /// The name of the column in which it is; none where it is in no column.
+    pub column: Option<String>,
+    /// The names of the child fields on the way down from the column; none where it is in the column itself.
+    pub path: Vec<String>,
+    /// Where in the file.
     pub place: FilePlace,
     /// What stands there; none where nothing does.
     pub found: Option<String>,
@@ -39,7 +43,7 @@ fn owned(alloc: Global, text: Option<&str>) -> Result<Option<String>, AllocError
 }
 
 impl FileFinding {
-    /// A finding of these texts. Errs only when out of memory.
+    /// A finding of these texts that is in no column. Errs only when out of memory.
     pub(crate) fn new(
         alloc: Global,
         code: FileCode,
@@ -48,12 +52,14 @@ impl FileFinding {
         wanted: Option<&str>,
     ) -> Result<FileFinding, AllocError>
         ensures { IfOk result (λ made. finding made
-            ≡ record { code = code; place = place; found = text_of found.entry; wanted = text_of wanted.entry }) }
+            ≡ record { code = code; column = None; path = []; place = place; found = text_of found.entry; wanted = text_of wanted.entry }) }
     {
         let found = owned(alloc, found)?;
         let wanted = owned(alloc, wanted)?;
         Ok(FileFinding {
             code,
+            column: None,
+            path: Vec::new(alloc),
             place,
             found,
             wanted,

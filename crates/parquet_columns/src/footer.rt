@@ -8,6 +8,7 @@ ghost use Rattle.parquet_columns.specs.Findings.{finding, first_other, other_nam
 ghost use Rattle.parquet_columns.specs.Reads.{IsBuilt, names_seen, read_of, by_names, chosen, IsReadWith, IsFooterRead};
 
 use crate::budget::report_budget;
+use crate::claim::ElementClaim;
 use crate::code::{FileCode, FilePart};
 use crate::columns::columns_of;
 use crate::error::SchemaError;
@@ -26,6 +27,8 @@ use std::alloc::{AllocError, Global};
 pub struct FooterColumns {
     /// Its columns.
     pub columns: Vec<SchemaColumn>,
+    /// What the elements say beside the columns, one claim for each, in their order (`docs/FORMAT.md`, 4.6).
+    pub elements: Vec<ElementClaim>,
     /// What is found: of the schema at `ARROW:schema`, and of keys that stand several times (`docs/FORMAT.md`, 4.5).
     pub findings: Vec<FileFinding>,
 }
@@ -90,12 +93,17 @@ fn by_names(
             let findings = Vec::new(alloc);
             return Ok(FooterColumns {
                 columns: stored,
+                elements: Vec::new(alloc),
                 findings,
             });
         }
     };
     let findings = vec![in alloc; found]?;
-    Ok(FooterColumns { columns, findings })
+    Ok(FooterColumns {
+        columns,
+        elements: Vec::new(alloc),
+        findings,
+    })
 }
 
 /// The columns of a footer before its geometry types are looked at, by what is stored and by the elements; and what is found of the
@@ -112,11 +120,19 @@ fn chosen(
         Some(Stored::Unreadable(fault)) => {
             let found = unreadable(alloc, fault)?;
             let findings = vec![in alloc; found]?;
-            Ok(FooterColumns { columns, findings })
+            Ok(FooterColumns {
+                columns,
+                elements: Vec::new(alloc),
+                findings,
+            })
         }
         None => {
             let findings = Vec::new(alloc);
-            Ok(FooterColumns { columns, findings })
+            Ok(FooterColumns {
+                columns,
+                elements: Vec::new(alloc),
+                findings,
+            })
         }
     }
 }
@@ -130,14 +146,22 @@ fn finished(
 ) -> Result<FooterColumns, SchemaError>
     ensures { IsReadWith bytes (contents footer.now) (read_of read) result }
 {
-    let FooterColumns { columns, findings } = read;
+    let FooterColumns {
+        columns,
+        findings,
+        ..
+    } = read;
     let mut findings = findings;
     let mut values = KeyValues::new(alloc, footer.key_value_metadata.as_slice())?;
     let most = report_budget(bytes);
     let elements = footer.schema.as_slice();
     let columns = marked_columns(alloc, &mut values, elements, columns, most)?;
     add_repeated_keys(alloc, &mut findings, footer)?;
-    Ok(FooterColumns { columns, findings })
+    Ok(FooterColumns {
+        columns,
+        elements: Vec::new(alloc),
+        findings,
+    })
 }
 
 /// Reads the columns of the footer of a Parquet file (`docs/FORMAT.md`, 4.5), which has so many
