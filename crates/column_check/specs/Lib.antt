@@ -1,6 +1,7 @@
 pub mod Metadata
 pub mod Types
 pub mod Finding
+pub mod Severities
 pub mod Unique
 pub mod States
 pub mod Shown

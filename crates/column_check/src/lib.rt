@@ -16,6 +16,7 @@ pub mod laws;
 mod malformed;
 mod metadata;
 mod said;
+mod severity;
 mod shown;
 mod walk;
 mod warning;
