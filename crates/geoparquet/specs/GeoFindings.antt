@@ -1,5 +1,6 @@
 -- What is found of the metadata at the key `geo`, against the columns of a file (docs/FORMAT.md, 5).
 use Rattle.std.specs.Prelude.{◌≡◌, ◌⊎◌, ◌||◌, Bool, true, false, not, List, [], ◌∷◌, ◌++◌, codes, Option, None, Some, is_some, flat_map, option_and_then, if◌then◌else◌}
+use Rattle.std.specs.Str.{is_utf8}
 use Rattle.json.specs.Json.{Json}
 use Rattle.json.specs.Find.{get, as_str}
 use Rattle.serde_json.specs.Read.{read}
@@ -8,6 +9,8 @@ use Rattle.arrow_values.specs.Tree.{Text}
 use Rattle.arrow_columns.specs.Column.{ColumnTree}
 use Rattle.arrow_columns.specs.Names.{first_of, is_one}
 use Rattle.geoparquet.specs.Findings.{Finding, shown}
+use Rattle.geoparquet.specs.Sources.{Source, unasked, missing, value, Element}
+use Rattle.geoparquet.specs.Spelled.{spelled}
 use Rattle.geoparquet.specs.Rules.{column_place, found_at, unless}
 use Rattle.geoparquet.specs.Versions.{version_of, version_findings}
 use Rattle.geoparquet.specs.MemberRules.{encoding_findings, crs_findings, edges_findings, orientation_findings, epoch_findings}
@@ -129,15 +132,27 @@ object_findings cs j =
 abbrev pub geo_findings : List ColumnTree → Json → List Finding
 geo_findings cs j = if is_object j then object_findings cs j else found_at NotObject None [] (Some j) None ∷ []
 
--- what is found of a text that is no JSON
+-- what is found of a value that is no JSON, as it is shown
 abbrev pub unread_finding : Text → Finding
-unread_finding geo = record { code = NotJson; column = None; pointer = []; found = Some (shown geo); wanted = None }
+unread_finding text = record { code = NotJson; column = None; pointer = []; found = Some (shown text); wanted = None }
 
 -- the version and the findings are those of the text: of the value that it is, where it is JSON
-abbrev pub AreGeoFindings : Text → List ColumnTree → Version → List Finding → Type 0
-AreGeoFindings geo cs version fs =
+abbrev pub AreTextFindings : Text → List ColumnTree → List Element → Version → List Finding → Type 0
+AreTextFindings geo cs es version fs =
     ((read geo ≡ None) × (version ≡ V1_1) × (fs ≡ unread_finding geo ∷ []))
     ⊎ ((j : Json) × IsJson geo j × (version ≡ version_of j) × (fs ≡ geo_findings cs j))
+
+-- those of a value, by its bytes
+abbrev pub AreValueFindings : Text → List ColumnTree → List Element → Version → List Finding → Type 0
+AreValueFindings bytes cs es version fs =
+    if is_utf8 bytes then AreTextFindings bytes cs es version fs
+    else ((version ≡ V1_1) × (fs ≡ unread_finding (spelled bytes) ∷ []))
+
+-- the version and the findings are those of what a file has at the key `geo`, with these columns, of which the elements say that
+abbrev pub AreGeoFindings : Source → List ColumnTree → List Element → Version → List Finding → Type 0
+AreGeoFindings unasked cs es version fs = (version ≡ V1_1) × (fs ≡ [])
+AreGeoFindings missing cs es version fs = (version ≡ V1_1) × (fs ≡ [])
+AreGeoFindings (value bytes) cs es version fs = AreValueFindings bytes cs es version fs
 
 -- ---- for private contracts
 

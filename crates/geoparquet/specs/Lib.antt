@@ -1,5 +1,7 @@
 pub mod Codes
 pub mod Findings
+pub mod Sources
+pub mod Spelled
 pub mod Weights
 pub mod Nearest
 pub mod Words

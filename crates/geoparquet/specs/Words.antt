@@ -5,7 +5,7 @@ use Rattle.geoparquet.specs.Nearest.{nearest}
 use Rattle.geoparquet.specs.declared.code.Severity.{Severity}
 use Rattle.geoparquet.specs.declared.code.Severity.TheVariants as severities
 use Rattle.geoparquet.specs.declared.code.GeoCode.{GeoCode}
-use Rattle.geoparquet.specs.declared.code.GeoCode.TheVariants.{NotJson, NotObject, Version, OldVersion, NewVersion, Columns, ColumnMissing, ColumnRepeated, Member, ColumnUndeclared, PrimaryColumn, Encoding, Layout, Types, TypesVersion, TypesContradict, Crs, CrsMalformed, Edges, Orientation, Epoch, Bbox, BboxOrder, BboxRange, BboxDimension, Covering, CoveringName, CoveringColumn, CoveringType, CoveringShape, CoveringAbsent, EncodingContradicts, CrsContradicts, CrsNotCompared, EdgesContradict, EdgesOnProjected}
+use Rattle.geoparquet.specs.declared.code.GeoCode.TheVariants.{NoMetadata, NotJson, NotObject, Version, OldVersion, NewVersion, Columns, ColumnMissing, ColumnRepeated, Member, ColumnUndeclared, PrimaryColumn, Encoding, Layout, Types, TypesVersion, TypesContradict, Crs, CrsMalformed, Edges, Orientation, Epoch, Bbox, BboxOrder, BboxRange, BboxDimension, Covering, CoveringName, CoveringColumn, CoveringType, CoveringShape, CoveringAbsent, EncodingContradicts, CrsContradicts, CrsNotCompared, EdgesContradict, EdgesOnProjected}
 use Rattle.geoparquet.specs.declared.finding.Version.{Version as GeoVersion}
 use Rattle.geoparquet.specs.declared.finding.Version.TheVariants as versions
 
@@ -16,6 +16,7 @@ severity_text severities.Note = codes "note"
 
 -- when a code is found
 abbrev pub rule_of : GeoCode → Text
+rule_of NoMetadata = codes "the file has columns of geometries, and no value at the key geo"
 rule_of NotJson = codes "the value of geo is absent, no UTF-8, or no JSON within 127 levels"
 rule_of NotObject = codes "the value of geo is JSON, and no object"
 rule_of Version = codes "version is absent, no text, or no version of the format"
@@ -72,6 +73,7 @@ bbox_text versions.V2 = codes "4, 6 or 8 finite numbers"
 bbox_text version = codes "4 or 6 finite numbers"
 
 abbrev pub expected_of : GeoVersion → GeoCode → Text
+expected_of version NoMetadata = codes "metadata of GeoParquet at the key geo"
 expected_of version NotJson = codes "JSON"
 expected_of version NotObject = codes "an object"
 expected_of version Version = codes "1.1.0"

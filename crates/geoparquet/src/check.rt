@@ -1,17 +1,18 @@
 //! What is found of the metadata at the key `geo`.
-ghost use Rattle.std.specs.Prelude.{◌≡◌, ◌++◌, List, IfOk, OnOk, map, None, option_and_then};
+ghost use Rattle.std.specs.Prelude.{◌≡◌, ◌∷◌, ◌++◌, [], IfOk, OnOk, map, option_and_then};
 ghost use Rattle.json.specs.Find.{as_str, get};
 ghost use Rattle.json.specs.Value.{value_view};
 ghost use Rattle.value_tokens.specs.Values.{IsReadable};
 ghost use Rattle.arrow_values.specs.Texts.{text_of};
-ghost use Rattle.serde_json.specs.Read.{read};
-ghost use Rattle.arrow_columns.specs.Column.{ColumnTree, column_tree};
+ghost use Rattle.arrow_columns.specs.Column.{column_tree};
 ghost use Rattle.geoparquet.specs.CoveringAbsent.{first_box};
 ghost use Rattle.geoparquet.specs.Findings.{finding};
 ghost use Rattle.geoparquet.specs.Extensions.{IsJson};
 ghost use Rattle.geoparquet.specs.Ordered.{columns_of, members_entries};
 ghost use Rattle.geoparquet.specs.Versions.{version_of};
-ghost use Rattle.geoparquet.specs.GeoFindings.{columns_findings, is_primary, has_primary, primary_findings, members_findings, missing_findings, object_findings, geo_findings, AreGeoFindings, AreRead};
+ghost use Rattle.geoparquet.specs.GeoFindings.{columns_findings, is_primary, has_primary, primary_findings, members_findings, missing_findings, object_findings, geo_findings, unread_finding, AreTextFindings, AreValueFindings, AreGeoFindings, AreRead};
+ghost use Rattle.geoparquet.specs.Sources.{source, element};
+ghost use Rattle.geoparquet.specs.declared.finding.Version.{Version};
 
 use crate::adding::add_at;
 use crate::code::GeoCode;
@@ -20,10 +21,13 @@ use crate::covering_absent::first_box;
 use crate::finding::{GeoFinding, GeoReport, Version};
 use crate::ordered::{ByKey, are_some, has_member, members_in};
 use crate::place::shown;
+use crate::source::GeoSource;
+use crate::spelled::spelled;
 use crate::undeclared::add_undeclared;
 use crate::version::{add_version, version_of};
 use arrow_columns::{ColumnNames, SchemaColumn};
 use json::{Scratch, Value};
+use parquet_columns::ElementClaim;
 use std::alloc::{AllocError, Global};
 use value_tokens::{Refusal, member_of, read_json};
 
@@ -46,35 +50,78 @@ use value_tokens::{Refusal, member_of, read_json};
 /// };
 /// let columns = vec![in alloc; column]?;
 /// let geo = r#"{"version":"1.1.0","primary_column":"geom","columns":{"geom":{"encoding":"WKB","geometry_types":["Dot"]}}}"#;
-/// let report = check_geo(alloc, geo, columns.as_slice())?;
+/// let report = check_geo(alloc, GeoSource::Value(geo.as_bytes()), columns.as_slice(), &[])?;
 /// assert_eq!(rt; report.findings.len(), 1);
 /// assert_eq!(rt; report.findings[0].pointer.as_str(), "/columns/geom/geometry_types/0");
 /// ```
 pub fn check_geo(
     alloc: Global,
+    geo: GeoSource<'_>,
+    columns: &[SchemaColumn],
+    elements: &[ElementClaim],
+) -> Result<GeoReport, AllocError>
+    ensures { IfOk result (λ report. AreGeoFindings (source geo.entry) (map column_tree columns.now) (map element elements.now) report.version (map finding report.findings.items)) }
+{
+    match geo {
+        GeoSource::Unasked => Ok(empty_report(alloc)),
+        GeoSource::Missing => Ok(empty_report(alloc)),
+        GeoSource::Value(bytes) => value_report(alloc, bytes, columns, elements),
+    }
+}
+
+/// A report without findings.
+fn empty_report(alloc: Global) -> GeoReport
+    ensures version { result.version ≡ Version.V1_1 }
+    ensures none { map finding result.findings.items ≡ [] }
+{
+    GeoReport {
+        version: Version::V1_1,
+        findings: Vec::new(alloc),
+    }
+}
+
+/// Returns what is found of a value. Errs only when out of memory.
+fn value_report(
+    alloc: Global,
+    bytes: &[u8],
+    columns: &[SchemaColumn],
+    elements: &[ElementClaim],
+) -> Result<GeoReport, AllocError>
+    ensures { IfOk result (λ report. AreValueFindings bytes.now (map column_tree columns.now) (map element elements.now) report.version (map finding report.findings.items)) }
+{
+    match str::from_utf8(bytes) {
+        Ok(geo) => text_report(alloc, geo, columns, elements),
+        Err(_) => unread_report(alloc, spelled(alloc, bytes)?.as_str()),
+    }
+}
+
+/// Returns what is found of a text. Errs only when out of memory.
+fn text_report(
+    alloc: Global,
     geo: &str,
     columns: &[SchemaColumn],
+    elements: &[ElementClaim],
 ) -> Result<GeoReport, AllocError>
-    ensures { IfOk result (λ report. AreGeoFindings geo.now (map column_tree columns.now) report.version (map finding report.findings.items)) }
+    ensures { IfOk result (λ report. AreTextFindings geo.now (map column_tree columns.now) (map element elements.now) report.version (map finding report.findings.items)) }
 {
     let mut scratch = Scratch::new(alloc);
     match read_json(alloc, geo, &mut scratch) {
-        Ok(value) => report_of(alloc, geo, &value, columns),
+        Ok(value) => report_of(alloc, geo, &value, columns, elements),
         Err(Refusal::Text) => unread_report(alloc, geo),
         Err(Refusal::Memory) => Err(AllocError),
     }
 }
 
-/// Returns what is found of a text that is no JSON. Errs only when out of memory.
-fn unread_report(alloc: Global, geo: &str) -> Result<GeoReport, AllocError>
-    requires { read geo.now ≡ None }
-    ensures { IfOk result (λ report. (cs : List ColumnTree) → AreGeoFindings geo.now cs report.version (map finding report.findings.items)) }
+/// Returns what is found of a value that is no JSON, as it is shown. Errs only when out of memory.
+fn unread_report(alloc: Global, text: &str) -> Result<GeoReport, AllocError>
+    ensures version { IfOk result (λ report. report.version ≡ Version.V1_1) }
+    ensures findings { IfOk result (λ report. map finding report.findings.items ≡ unread_finding text.now ∷ []) }
 {
     let found = GeoFinding {
         code: GeoCode::NotJson,
         column: None,
         pointer: String::new(alloc),
-        found: Some(shown(alloc, geo)?),
+        found: Some(shown(alloc, text)?),
         wanted: None,
     };
     let version = Version::V1_1;
@@ -89,10 +136,11 @@ fn report_of(
     geo: &str,
     value: &Value<'_>,
     columns: &[SchemaColumn],
+    elements: &[ElementClaim],
 ) -> Result<GeoReport, AllocError>
     requires is { IsJson geo.now (value_view value.now) }
     requires read { IsReadable (value_view value.now) }
-    ensures { IfOk result (λ report. AreGeoFindings geo.now (map column_tree columns.now) report.version (map finding report.findings.items)) }
+    ensures { IfOk result (λ report. AreTextFindings geo.now (map column_tree columns.now) (map element elements.now) report.version (map finding report.findings.items)) }
 {
     let version = version_of(value);
     let mut findings = Vec::new(alloc);

@@ -18,7 +18,9 @@ pub enum Severity {
 /// one column.
 #[derive(Clone, Copy, Debug, PartialEq, Eq)]
 pub enum GeoCode {
-    /// The text is no JSON.
+    /// There is no value at the key `geo`, and a column holds geometries by its extension name alone.
+    NoMetadata,
+    /// The value is no UTF-8, or no JSON.
     NotJson,
     /// It is JSON, and no object.
     NotObject,
@@ -103,6 +105,7 @@ impl GeoCode {
         ensures { result.now ≡ code_of self }
     {
         match self {
+            Self::NoMetadata => "NoGeoMetadata",
             Self::NotJson => "GeoNotJson",
             Self::NotObject => "GeoNotObject",
             Self::Version => "GeoVersion",
@@ -147,7 +150,8 @@ impl GeoCode {
         ensures { result ≡ severity_of self }
     {
         match self {
-            Self::OldVersion
+            Self::NoMetadata
+            | Self::OldVersion
             | Self::ColumnUndeclared
             | Self::BboxRange
             | Self::BboxDimension

@@ -66,6 +66,7 @@ impl GeoCode {
         ensures { result.now ≡ expected_of version self }
     {
         match self {
+            Self::NoMetadata => "metadata of GeoParquet at the key geo",
             Self::NotJson => "JSON",
             Self::NotObject => "an object",
             Self::Version => "1.1.0",

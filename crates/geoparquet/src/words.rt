@@ -23,7 +23,8 @@ impl Severity {
 
 impl GeoCode {
     /// Each code, in the order of docs/FORMAT.md, 5.
-    pub const ALL: [GeoCode; 36] = [
+    pub const ALL: [GeoCode; 37] = [
+        GeoCode::NoMetadata,
         GeoCode::NotJson,
         GeoCode::NotObject,
         GeoCode::Version,
@@ -71,6 +72,7 @@ impl GeoCode {
         ensures { result.now ≡ rule_of self }
     {
         match self {
+            Self::NoMetadata => "the file has columns of geometries, and no value at the key geo",
             Self::NotJson => "the value of geo is absent, no UTF-8, or no JSON within 127 levels",
             Self::NotObject => "the value of geo is JSON, and no object",
             Self::Version => "version is absent, no text, or no version of the format",
