@@ -34,6 +34,7 @@ Beside = collections.namedtuple("Beside", "metadata")
 Claims = collections.namedtuple("Claims", "encoding crs edges")
 
 CODES = (
+    "NoGeoMetadata",
     "GeoNotJson", "GeoNotObject", "GeoVersion", "GeoOldVersion", "GeoNewVersion", "GeoColumns",
     "GeoColumnMissing", "GeoColumnRepeated", "GeoMember", "GeoColumnUndeclared", "GeoPrimaryColumn",
     "GeoEncoding", "GeoLayout", "GeoTypes", "GeoTypesVersion", "TypesContradict", "GeoCrs",
@@ -128,10 +129,11 @@ def findings(geo, columns, elements=()):
         add_elements(judged, ())
         return V1_1, judged.found
     try:
-        judged.value = value = read("\ud800" if isinstance(geo, bytes) else geo)
+        judged.value = value = read(geo if isinstance(geo, str) else geo.decode())
+    except UnicodeDecodeError:
+        judged.found.append(Finding("GeoNotJson", None, "", shown_bytes(geo), None))
     except NotJson:
-        there = shown_bytes(geo) if isinstance(geo, bytes) else shown(geo)
-        judged.found.append(Finding("GeoNotJson", None, "", there, None))
+        judged.found.append(Finding("GeoNotJson", None, "", shown(geo), None))
     else:
         if not isinstance(value, Members):
             judged.add("GeoNotObject", None, ())
