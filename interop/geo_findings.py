@@ -148,7 +148,7 @@ def findings(geo, columns, elements=()):
         add_member(Member(judged, version, key, members.get(key)))
     if is_whole:
         add_undeclared(judged, members)
-    add_elements(judged, members.keys() if is_whole else ())
+    add_elements(judged, members.keys() if isinstance(members, Members) else ())
     return version, judged.found
 
 
@@ -160,11 +160,10 @@ def add_missing(judged):
 
 
 def add_elements(judged, keys):
-    """What an element says beside its column, where no member of these keys names that."""
+    """What elements say beside the fields of columns that have no member of these keys."""
     for column, element in zip(judged.columns, judged.elements):
-        if column["name"] not in keys or judged.column(column["name"])[0] is not column:
-            for code, _, _, found, wanted in disagreements(*claims_of(column, element), NOTHING):
-                judged.found.append(Finding(code, column["name"], "", found, wanted))
+        if column["name"] not in keys:
+            add_alone(judged, column, element)
 
 
 def add_version(judged):
@@ -192,13 +191,14 @@ def add_columns(judged, members, is_whole):
 
 
 def add_undeclared(judged, members):
-    """The columns of geometries that have no member, but for boxes and the columns of coverings."""
+    """The columns that hold geometries by their element or their field, and have no member, but for
+    boxes and the columns of coverings."""
     paths = [at(members.get(key), "covering", "bbox", bound, 0)
              for key in members.keys() for bound in HIGH]
-    for column in judged.columns:
-        claim = encoding_claim(column)
+    for column, element in zip(judged.columns, judged.elements):
+        is_geometry = element is not SILENT or encoding_claim(column) not in (None, "box")
         name = column["name"]
-        if claim not in (None, "box") and name not in members.keys() and name not in paths:
+        if is_geometry and name not in members.keys() and name not in paths:
             judged.add("GeoColumnUndeclared", name, ("columns",), name=name)
 
 
@@ -209,6 +209,8 @@ def add_member(it):
         it.add("GeoColumnRepeated" if count else "GeoColumnMissing")
     if not isinstance(it.value, Members):
         it.add("GeoMember")
+        if it.column:
+            add_alone(it.judged, it.column, it.element)
         return
     is_old = it.version is OLD
     if not is_old:
@@ -482,37 +484,46 @@ def verdict(fact, one, other):
 
 
 def claim_text(claim):
-    """A claim as a finding shows it."""
+    """What a source says, as JSON, and as it is wanted."""
     if isinstance(claim, geo_crs.Claim):
-        return shown(text_of(claim.value))
-    return claim
+        return (shown(text_of(claim.value)),) * 2
+    return text_of(claim), claim
 
 
 def disagreements(element, field, member):
-    """What the sources of a column do not agree on: the code, the fact, and of the first pair of
-    sources that contradict, or else of the first that are not compared, the second source and its
-    claim, and what is wanted, the claim of the first."""
+    """What the sources of a column do not agree on, by the first pair of sources that contradict, or
+    else by the first that are not compared: the code, the fact, what the field says where it is the
+    second of the pair, and what is wanted, which the first says."""
     for fact, *codes in FACTS:
-        pairs = ((element, member, "member"), (element, field, "field"), (field, member, "member"))
-        judged = [(getattr(one, fact), getattr(other, fact), source) for one, other, source in pairs]
-        judged = [(*pair, verdict(fact, *pair[:2])) for pair in judged if None not in pair]
+        pairs = (("element", element, member), ("element", element, field), ("field", field, member))
+        claims = [(first, getattr(one, fact), getattr(other, fact), other is field)
+                  for first, one, other in pairs]
+        judged = [(*it, verdict(fact, *it[1:3])) for it in claims if None not in it]
         for code, asked in zip(codes, ("Contradict", "NotCompared")):
-            first = next((pair for pair in judged if pair[3] == asked), None)
-            if first:
-                yield code, fact, first[2], claim_text(first[1]), claim_text(first[0])
+            found = next((it for it in judged if it[4] == asked), None)
+            if found:
+                first, one, other, is_field, _ = found
+                field_says = claim_text(other)[0] if is_field else None
+                yield code, fact, field_says, f"{claim_text(one)[1]} of the {first}"
                 break
 
 
+def add_alone(judged, column, element):
+    """What an element says beside the field of a column, without a member."""
+    for code, _, found, wanted in disagreements(*claims_of(column, element), NOTHING):
+        judged.found.append(Finding(code, column["name"], "", found, wanted))
+
+
 def add_contradictions(it):
-    """What the member says beside its column, and the element of the column beside its field."""
+    """What the element, the field and the member of a column say of one fact."""
     if it.column is None:
         return
     element, field = claims_of(it.column, it.element)
-    for code, fact, source, found, wanted in disagreements(element, field, claims_of_member(it)):
-        if source == "member":
+    for code, fact, field_says, wanted in disagreements(element, field, claims_of_member(it)):
+        if field_says is None:
             it.add(code, fact, wanted=wanted)
         else:
-            it.judged.found.append(Finding(code, it.key, "", found, wanted))
+            it.judged.found.append(Finding(code, it.key, "", field_says, wanted))
 
 
 def claims_of_member(it):
