@@ -27,9 +27,9 @@ use Rattle.parquet_columns.specs.declared.footer.FooterColumns.{FooterColumns}
 use Rattle.parquet_footer.specs.Findings.{finding as text_finding}
 use Rattle.parquet_footer.specs.Spelled.{Spelled}
 
--- nothing is found, as in each file but a Parquet file
-abbrev pub HasNoFindings : File → Type 0
-HasNoFindings file = (file.findings.items ≡ []) × (file.texts.items ≡ [])
+-- no elements say anything and nothing is found, as in each file but a Parquet file
+abbrev pub HasNoFooter : File → Type 0
+HasNoFooter file = (file.elements.items ≡ []) × (file.findings.items ≡ []) × (file.texts.items ≡ [])
 
 -- ---- lines
 
@@ -53,7 +53,7 @@ AreLinesInFile text (Err fault) = AreLinesRead text (Err fault)
 
 -- the columns of lines, where nothing else is read of a file
 abbrev pub IsOfLines : List ℕ → Result File FileFault → Type 0
-IsOfLines text (Ok file) = AreLinesInFile text (Ok file.columns) × HasNoFindings file × (geo_of file.geo ≡ absent)
+IsOfLines text (Ok file) = AreLinesInFile text (Ok file.columns) × HasNoFooter file × (geo_of file.geo ≡ absent)
 IsOfLines text (Err fault) = AreLinesInFile text (Err fault)
 
 -- ---- schemas
@@ -61,7 +61,7 @@ IsOfLines text (Err fault) = AreLinesInFile text (Err fault)
 -- what is read of a schema: its columns, and the text at the key `geo` of its metadata
 abbrev pub IsOfSchema : Schema → File → Type 0
 IsOfSchema s file =
-    (file.columns ≡ s.columns) × (geo_of file.geo ≡ of_schema (text_at geo_key (texts_of s.metadata.entries))) × HasNoFindings file
+    (file.columns ≡ s.columns) × (geo_of file.geo ≡ of_schema (text_at geo_key (texts_of s.metadata.entries))) × HasNoFooter file
 
 -- what is read where a flatbuffer holds a schema: that of the schema, or how it is refused
 abbrev pub IsSchemaRead : Result (List ℕ) IpcFault → (List ℕ → Result (SchemaTree × ℕ) IpcFault) → Result File FileFault → Type 0
@@ -92,11 +92,11 @@ IsFooterRead start bytes r = IsSchemaRead (footer_in bytes) (schema_of_footer 61
 abbrev pub HasGeo : Result (List ℕ) SchemaError → Geo → Type 0
 HasGeo footer geo = (value : Option Spelled) × parquet.IsValueRead geo_key footer value × (geo ≡ of_footer value)
 
--- the columns of a file, and what is found of them, as a footer gives them
+-- the columns of a file, what their elements say, and what is found of them, as a footer gives them
 abbrev pub footer_columns : File → FooterColumns
-footer_columns file = record { columns = file.columns; findings = file.findings }
+footer_columns file = record { columns = file.columns; elements = file.elements; findings = file.findings }
 
--- what is read of a Parquet file with that footer: its columns, all that is found, and the value of the key `geo`; or how it is refused
+-- what is read of a Parquet file with that footer: its columns and elements, all that is found, and the value of the key `geo`; or how it is refused
 abbrev pub IsParquetRead : Result (List ℕ) SchemaError → Result File FileFault → Type 0
 IsParquetRead footer (Ok file) =
     parquet.IsFileRead footer (Ok (footer_columns file)) × parquet.AreTextsRead footer (map text_finding file.texts.items) × HasGeo footer (geo_of file.geo)

@@ -71,6 +71,7 @@ pub(crate) fn file_of_lines<'a>(
         Ok(columns) => Ok(File {
             form: Form::Lines,
             columns,
+            elements: Vec::new(alloc),
             findings: Vec::new(alloc),
             texts: Vec::new(alloc),
             geo: GeoText::Absent,
@@ -165,6 +166,7 @@ fn file_of_schema<'a>(alloc: Global, form: Form, schema: Schema) -> File<'a>
     File {
         form,
         columns,
+        elements: Vec::new(alloc),
         findings: Vec::new(alloc),
         texts: Vec::new(alloc),
         geo,

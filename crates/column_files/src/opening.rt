@@ -9,7 +9,7 @@ use crate::geo::{GEO_KEY, GeoText, geo_of_footer};
 use crate::lines::columns_of_lines;
 use arrow_columns::SchemaColumn;
 use arrow_ipc::{read_file_footer, read_schema};
-use parquet_columns::{FileFinding, read_file};
+use parquet_columns::{ElementClaim, FileFinding, read_file};
 use parquet_footer::FooterFinding;
 use std::alloc::Global;
 
@@ -20,6 +20,9 @@ pub struct File<'a> {
     pub form: Form,
     /// Its columns.
     pub columns: Vec<SchemaColumn>,
+    /// Of a Parquet file, what the elements say beside its columns (docs/FORMAT.md, 4.6), one claim
+    /// for each; else none.
+    pub elements: Vec<ElementClaim>,
     /// Of a Parquet file, what is found of `ARROW:schema` and of repeated keys (docs/FORMAT.md, 4.5);
     /// else nothing.
     pub findings: Vec<FileFinding>,
@@ -93,6 +96,7 @@ fn open_parquet<'a>(alloc: Global, end: &'a [u8]) -> Result<File<'a>, FileFault>
         Ok(read) => Ok(File {
             form: Form::Parquet,
             columns: read.columns,
+            elements: read.elements,
             findings: read.findings,
             texts: read.texts,
             geo: geo_of_footer(read.value),
