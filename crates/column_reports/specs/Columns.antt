@@ -1,8 +1,10 @@
 -- What is said of a column, as one value.
-use Rattle.std.specs.Prelude.{◌≡◌}
+use Rattle.std.specs.Prelude.{◌≡◌, List}
 use Rattle.arrow_columns.specs.Column.{ColumnTree, column_tree}
 use Rattle.column_check.specs.Finding.{IsFinding}
 use Rattle.column_check.specs.Warnings.{AreWarnings}
+use Rattle.column_check.specs.declared.warning.Warning.{Warning}
+use Rattle.column_reports.specs.Gathered.{of_warnings}
 use Rattle.column_reports.specs.declared.report.ColumnReport.{ColumnReport}
 use Rattle.column_reports.specs.declared.report.Options.{Options}
 
@@ -10,4 +12,6 @@ use Rattle.column_reports.specs.declared.report.Options.{Options}
 pub record IsColumnReport (o : Options) (c : ColumnTree) (r : ColumnReport) : Type 0 where
   pub column : column_tree r.column ≡ c
   pub finding : IsFinding o.infer c r.finding
-  pub warnings : AreWarnings o.notes c r.finding r.warnings.items
+  pub warnings : List Warning
+  pub are : AreWarnings o.notes c r.finding warnings
+  pub findings : r.findings.items ≡ of_warnings warnings

@@ -1,11 +1,12 @@
+pub mod Codes
+pub mod Found
 pub mod Columns
 pub mod Objects
+pub mod FindingLines
+pub mod FindingWords
+pub mod Gathered
 pub mod Reasons
 pub mod Report
 pub mod Summary
-pub mod Warnings
-pub mod Checks
-pub mod GeoLines
-pub mod GeoWarning
 pub mod FileReport
 pub mod Faults

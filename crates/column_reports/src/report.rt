@@ -3,8 +3,10 @@ ghost use Rattle.std.specs.Prelude.{IfOk};
 ghost use Rattle.arrow_columns.specs.Column.{column_tree};
 ghost use Rattle.column_reports.specs.Columns.{IsColumnReport};
 
+use crate::finding::Finding;
+use crate::gathered::of_warnings;
 use arrow_columns::SchemaColumn;
-use column_check::{Finding, Warning, inspect_column, warnings};
+use column_check::{inspect_column, warnings};
 use json::Scratch;
 use std::alloc::{AllocError, Global};
 
@@ -24,9 +26,9 @@ pub struct ColumnReport {
     /// The column itself.
     pub column: SchemaColumn,
     /// What is said of it, as `inspect_column` of `column_check` answers it.
-    pub finding: Finding,
-    /// What is doubtful of it, as `warnings` of `column_check` answers it.
-    pub warnings: Vec<Warning>,
+    pub finding: column_check::Finding,
+    /// What is found of it: what is doubtful, as `warnings` of `column_check` answers it.
+    pub findings: Vec<Finding<'static>>,
 }
 
 /// Returns a column with what is said of it and what is doubtful of it. The scratch buffer is kept by
@@ -41,8 +43,8 @@ pub struct ColumnReport {
 /// };
 /// let options = Options { infer: true, notes: false };
 /// let report = report_column(alloc, &mut Scratch::new(alloc), column, options)?;
-/// assert!(rt; matches!(report.finding, Finding::Inferred(_)));
-/// assert!(rt; report.warnings.is_empty());
+/// assert!(rt; matches!(report.finding, column_check::Finding::Inferred(_)));
+/// assert!(rt; report.findings.is_empty());
 /// ```
 pub fn report_column(
     alloc: Global,
@@ -54,9 +56,10 @@ pub fn report_column(
 {
     let finding = inspect_column(alloc, scratch, &column, options.infer)?;
     let warnings = warnings(alloc, &column, &finding, options.notes)?;
+    let findings = of_warnings(alloc, warnings)?;
     Ok(ColumnReport {
         column,
         finding,
-        warnings,
+        findings,
     })
 }
