@@ -32,8 +32,12 @@ pub fn answer(it: &mut Asked<'_>) {
             Ok(bytes) => size(it, bytes.as_slice()),
             Err(_) => it.said.fail(),
         },
-        "report_file" | "report_file_noted" => match hex::decode(it.alloc, it.text) {
-            Ok(bytes) => report(it, bytes.as_slice(), false, it.command != "report_file"),
+        "report_file" => match hex::decode(it.alloc, it.text) {
+            Ok(bytes) => report(it, bytes.as_slice(), false, false),
+            Err(_) => it.said.fail(),
+        },
+        "report_file_noted" => match hex::decode(it.alloc, it.text) {
+            Ok(bytes) => report(it, bytes.as_slice(), false, true),
             Err(_) => it.said.fail(),
         },
         "file_words" => match hex::decode(it.alloc, it.text) {
