@@ -1,4 +1,3 @@
-mod Appending
 mod Adding
 mod Places
 pub mod Reported

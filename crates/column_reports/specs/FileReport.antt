@@ -17,7 +17,7 @@ use Rattle.column_files.specs.declared.columns.FileFault.TheVariants.{ReportTooL
 use Rattle.geoparquet.specs.Findings.{finding}
 use Rattle.geoparquet.specs.GeoColumns.{AreGeoColumns}
 use Rattle.geoparquet.specs.GeoFindings.{AreGeoFindings}
-use Rattle.geoparquet.specs.Sources.{Source, unasked, missing, value}
+use Rattle.geoparquet.specs.Sources.{Source, unasked, missing, value, element}
 use Rattle.geoparquet.specs.declared.finding.GeoReport.{GeoReport}
 use Rattle.parquet_columns.specs.Budget.{budget}
 use Rattle.column_reports.specs.Columns.{IsColumnReport}
@@ -68,7 +68,7 @@ pub record IsReport (o : Options) (opened : File) (r : FileReport) : Type 0 wher
   pub columns : AreReported o by r.columns.items
   -- what the metadata are found to be, of the columns that the file denotes
   pub geo : GeoReport
-  pub is_geo : AreGeoFindings (source_in opened.form opened.geo) (map column_tree opened.columns.items) [] geo.version (map finding geo.findings.items)
+  pub is_geo : AreGeoFindings (source_in opened.form opened.geo) (map column_tree opened.columns.items) (map element opened.elements.items) geo.version (map finding geo.findings.items)
   pub findings : r.findings.items ≡ of_file opened.texts.items opened.findings.items geo
   pub summary : IsSummary r.columns.items r.findings.items r.summary
 

@@ -55,12 +55,13 @@ pub fn report_of<'a>(
     let File {
         form,
         columns,
+        elements,
         findings,
         texts,
         geo,
     } = opened;
     let source = source_of(form, &geo);
-    let checked = check_geo(alloc, source, columns.as_slice(), &[])?;
+    let checked = check_geo(alloc, source, columns.as_slice(), elements.as_slice())?;
     let findings = of_file(alloc, texts, findings, checked)?;
     let columns = columns_by(alloc, &geo, columns)?;
     let columns = report_columns(alloc, columns, options)?;

@@ -4,9 +4,12 @@ use Rattle.column_reports.proofs.file.report_of.Goals as goal
 
 pub returns : goal.returns
 returns c = record {
-  form_is = refl;
-  by = map column_tree c.in_ok-checked.checked.columns.items;
-  are = c.in_ok-checked.ensures;
-  columns = c.in_ok-columns.ensures;
+  form = refl;
+  by = map column_tree c.in_ok-columns.columns.items;
+  are_by = c.in_ok-columns.ensures;
+  columns = c.in_ok-columns-2.ensures;
+  geo = c.in_ok-checked.checked;
+  is_geo = c.in_ok-checked.ensures;
+  findings = c.in_ok-findings.ensures;
   summary = record { invalid = search rules; geometry = search rules; failed = search rules };
 }
