@@ -39,8 +39,7 @@ class Words(unittest.TestCase):
             for key, code in codes.items():
                 with self.subTest(code):
                     self.assertEqual(finding_words.WEIGHS[code], weights[key])
-                    if code in finding_words.WORDS:
-                        self.assertEqual(finding_words.WORDS[code], [expected[key], advice[key]])
+                    self.assertEqual(finding_words.WORDS[code], [expected[key], advice[key]])
 
     def test_each_code_has_words(self):
         told = {code for file, name, *_ in DEFINITIONS for code in rows(file, name).values()}
