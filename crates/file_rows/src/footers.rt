@@ -2,7 +2,8 @@
 //! hexadecimal digits.
 use arrow_columns::SchemaColumn;
 use parquet_columns::{
-    ColumnsError, ElementFault, FileColumns, FileFinding, SchemaError, columns_of, read_file,
+    ColumnsError, ElementClaim, ElementFault, FileColumns, FileFinding, SchemaError, columns_of,
+    read_file,
 };
 use parquet_footer::{
     Footer, FooterError, FooterFinding, FooterText, KeyValue, LogicalType, SchemaElement,
@@ -46,6 +47,10 @@ fn answer_bytes(it: &mut Asked<'_>, bytes: &[u8], key: &str) {
             let read = ManuallyDrop::new(read_file(it.alloc, bytes, key));
             it.after();
             say_file(&mut it.said, &read);
+        }
+        "elements_of_file" => {
+            let read = ManuallyDrop::new(read_file(it.alloc, bytes, key));
+            say_elements(&mut it.said, &read);
         }
         "footer_length" => match bytes.first_chunk::<8>() {
             Some(tail) => {
@@ -235,10 +240,19 @@ fn say_part(said: &mut Said, text: &Option<String>) {
     });
 }
 
-/// Says what is found in a file: the code, the place, what stands there and what is wanted.
+/// Says what is found in a file: the code, the column and the child fields below it, the place, what stands there and what is wanted.
 fn say_file_finding(said: &mut Said, finding: &FileFinding) {
     let (code, part) = (finding.code.code(), finding.place.part.text());
-    say!(said, " | {code} {part}");
+    say!(said, " | {code}");
+    if let Some(column) = &finding.column {
+        said.push(" ");
+        said.push(column.as_str());
+    }
+    for name in &finding.path {
+        said.push(".");
+        said.push(name.as_str());
+    }
+    say!(said, " {part}");
     say_or_dash(said, &finding.place.byte);
     say_part(said, &finding.found);
     said.push(" ->");
@@ -256,6 +270,24 @@ fn say_file(said: &mut Said, read: &Result<FileColumns<'_>, SchemaError>) {
             for finding in &read.texts {
                 said.push(" | ");
                 say_finding(said, finding);
+            }
+        }
+        Err(error) => say_fault(said, error),
+    }
+}
+
+/// Says what the elements of a file say beside its columns, or why there are none.
+fn say_elements(said: &mut Said, read: &Result<FileColumns<'_>, SchemaError>) {
+    match read {
+        Ok(read) => {
+            for (at, element) in read.elements.iter().enumerate() {
+                said.push(if at > 0 { "; " } else { "" });
+                match element {
+                    ElementClaim::Silent => said.push("silent"),
+                    ElementClaim::Given { names_crs: false } => said.push("given"),
+                    ElementClaim::Given { names_crs: true } => said.push("given CRS"),
+                    ElementClaim::Beside(metadata) => said.push(metadata.as_str()),
+                }
             }
         }
         Err(error) => say_fault(said, error),
