@@ -1,5 +1,5 @@
 -- What is doubtful of a CRS in extension metadata (docs/FORMAT.md, 2.6; its forms and PROJJSON: 5.3).
-use Rattle.std.specs.Prelude.{ℕ, nat_lt, ◌&&◌, not, List, [], ◌∷◌, ◌++◌, length, map, codes, Bool, true, false, Option, None, Some, option_map, option_and_then, if◌then◌else◌}
+use Rattle.std.specs.Prelude.{nat_lt, ◌&&◌, not, List, [], ◌∷◌, ◌++◌, length, map, codes, Bool, true, false, Option, None, Some, option_map, option_and_then, if◌then◌else◌}
 use Rattle.std.specs.Char.{is_ascii_digit}
 use Rattle.std.specs.List.{list_all}
 use Rattle.json.specs.Json.{Json, number, string, object}

@@ -1,12 +1,16 @@
--- Keys of extension metadata that are those of the format but for their letters (GeoArrow, "Extension metadata").
+-- Keys of extension metadata that are those of the format but for their letters, and edges that are planar by name
+-- (GeoArrow, "Extension metadata").
 use Rattle.std.specs.Prelude.{◌&&◌, ◌||◌, not, List, [], ◌∷◌, ◌++◌, bytes_eq, codes, Bool, Option, None, Some, if◌then◌else◌}
 use Rattle.std.specs.Str.{str_to_ascii_lowercase}
 use Rattle.json.specs.Json.{Json, object, Members, no_members, member}
+use Rattle.serde_json.specs.Data.{Data}
+use Rattle.serde_json.specs.Read.{read}
 use Rattle.arrow_values.specs.Tree.{Text}
 use Rattle.crs_identity.specs.Forms.{json_in}
 use Rattle.column_check.specs.Parts.{Spot, spot_in}
-use Rattle.column_check.specs.Said.{Said, at_each}
-use Rattle.column_check.specs.declared.code.WarningCode.TheVariants.{MetadataKeyCase}
+use Rattle.column_check.specs.Metadata.{are_planar}
+use Rattle.column_check.specs.Said.{Said, said_if, at_each}
+use Rattle.column_check.specs.declared.code.WarningCode.TheVariants.{MetadataKeyCase, EdgesPlanar}
 
 -- the keys of the format
 abbrev pub is_key : Text → Bool
@@ -28,7 +32,11 @@ abbrev pub spots_in : Option Json → List Spot
 spots_in (Some (object ms)) = key_spots ms
 spots_in o = []
 
+-- edges that are planar by name, which are shown as JSON
+abbrev pub edges_warnings : Option Data → List Said
+edges_warnings o = said_if EdgesPlanar (are_planar o) (spot_in (codes "/edges") (Some (codes "\"planar\"")))
+
 -- of a metadata text
 abbrev pub key_warnings : Option Text → List Said
 key_warnings None = []
-key_warnings (Some s) = at_each MetadataKeyCase (spots_in (json_in s))
+key_warnings (Some s) = at_each MetadataKeyCase (spots_in (json_in s)) ++ edges_warnings (read s)

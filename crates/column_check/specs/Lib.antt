@@ -1,5 +1,6 @@
 pub mod Metadata
 pub mod Types
+pub mod OldNames
 pub mod Finding
 pub mod Severities
 pub mod Unique

@@ -7,8 +7,10 @@ use Rattle.column_check.specs.declared.code.WarningCode.{WarningCode}
 use Rattle.column_check.specs.declared.code.WarningCode.TheVariants as warnings
 
 abbrev pub warning_code : WarningCode → Text
+warning_code warnings.OldExtensionName = codes "OldExtensionName"
 warning_code warnings.MetadataEmpty = codes "MetadataEmpty"
 warning_code warnings.MetadataKeyCase = codes "MetadataKeyCase"
+warning_code warnings.EdgesPlanar = codes "EdgesPlanar"
 warning_code warnings.CrsMalformed = codes "CrsMalformed"
 warning_code warnings.CrsEmpty = codes "CrsEmpty"
 warning_code warnings.CrsTypeContradicts = codes "CrsTypeContradicts"
@@ -25,8 +27,10 @@ warning_code warnings.UnionMode = codes "UnionMode"
 warning_code warnings.NestedGeometry = codes "NestedGeometry"
 
 abbrev pub severity_of : WarningCode → Severity
+severity_of warnings.OldExtensionName = Warning
 severity_of warnings.MetadataEmpty = Warning
 severity_of warnings.MetadataKeyCase = Warning
+severity_of warnings.EdgesPlanar = Warning
 severity_of warnings.CrsMalformed = Error
 severity_of warnings.CrsEmpty = Warning
 severity_of warnings.CrsTypeContradicts = Error
@@ -43,8 +47,10 @@ severity_of warnings.UnionMode = Warning
 severity_of warnings.NestedGeometry = Warning
 
 abbrev pub warning_message : WarningCode → Text
+warning_message warnings.OldExtensionName = codes "extension name is an old one"
 warning_message warnings.MetadataEmpty = codes "metadata is an empty text"
 warning_message warnings.MetadataKeyCase = codes "metadata key is one of the format's but for its letters"
+warning_message warnings.EdgesPlanar = codes "edges are planar by name"
 warning_message warnings.CrsMalformed = codes "CRS is an object that is no PROJJSON"
 warning_message warnings.CrsEmpty = codes "CRS is an empty text"
 warning_message warnings.CrsTypeContradicts = codes "CRS is not of the form that crs_type says"
@@ -61,8 +67,10 @@ warning_message warnings.UnionMode = codes "union is sparse"
 warning_message warnings.NestedGeometry = codes "child field has a GeoArrow extension name"
 
 abbrev pub warning_expected : WarningCode → Text
+warning_expected warnings.OldExtensionName = codes "geoarrow.wkb or geoarrow.wkt"
 warning_expected warnings.MetadataEmpty = codes "no metadata, or {}"
 warning_expected warnings.MetadataKeyCase = codes "crs, crs_type or edges"
+warning_expected warnings.EdgesPlanar = codes "no edges"
 warning_expected warnings.CrsMalformed = codes "PROJJSON"
 warning_expected warnings.CrsEmpty = codes "a CRS, or none"
 warning_expected warnings.CrsTypeContradicts = codes "a CRS of that form"
@@ -79,8 +87,10 @@ warning_expected warnings.UnionMode = codes "a dense union"
 warning_expected warnings.NestedGeometry = codes "the name of a column alone"
 
 abbrev pub warning_help : WarningCode → Option Text
+warning_help warnings.OldExtensionName = Some (codes "The column is read under the new name.")
 warning_help warnings.MetadataEmpty = Some (codes "It is read as no metadata.")
 warning_help warnings.MetadataKeyCase = Some (codes "The key is passed over.")
+warning_help warnings.EdgesPlanar = Some (codes "Leave it out; planar is the default.")
 warning_help warnings.CrsMalformed = Some (codes "projinfo -o PROJJSON prints it, as of EPSG:4326.")
 warning_help warnings.CrsEmpty = Some (codes "It is read as no CRS.")
 warning_help warnings.CrsTypeContradicts = Some (codes "Name the form in crs_type, or leave it out.")

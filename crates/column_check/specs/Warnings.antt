@@ -7,7 +7,7 @@ use Rattle.arrow_values.specs.Tree.{Text, Metadata, Tree, plain, float16, float3
 use Rattle.arrow_values.specs.Texts.{text_at, name_key}
 use Rattle.arrow_values.specs.declared.tree.UnionMode.{UnionMode}
 use Rattle.arrow_values.specs.declared.tree.UnionMode.TheVariants.{Sparse, Dense}
-use Rattle.arrow_columns.specs.Column.{TypeTree, known, other, ColumnTree, metadata_on}
+use Rattle.arrow_columns.specs.Column.{TypeTree, known, other, ColumnTree, name_on, metadata_on}
 use Rattle.geoarrow_layout.specs.declared.dimensions.Dimension.{Dimension}
 use Rattle.geoarrow_layout.specs.declared.dimensions.Dimension.TheVariants.{XY, XYZ, XYM, XYZM}
 use Rattle.geoarrow_layout.specs.declared.native_kinds.NativeKind.TheVariants.{Point, LineString, Polygon, MultiPoint, MultiLineString, MultiPolygon, GeometryCollection}
@@ -18,6 +18,7 @@ use Rattle.geoarrow_layout.specs.declared.names.ExtensionName.TheVariants as nam
 use Rattle.geoarrow_layout.specs.Kinds.{name_text}
 use Rattle.geoarrow_layout.specs.Shapes.{names_of, has_name}
 use Rattle.geoarrow_layout.specs.Layouts.{coordinate_names, box_names}
+use Rattle.column_check.specs.OldNames.{current_name, has_old_name}
 use Rattle.column_check.specs.States.{geometry_in}
 use Rattle.column_check.specs.Said.{Said, said, said_if, at_each}
 use Rattle.column_check.specs.CrsWarnings.{crs_warnings}
@@ -27,9 +28,15 @@ use Rattle.column_check.specs.Shown.{type_shown}
 use Rattle.column_check.specs.declared.finding.Finding.{Finding as ColumnFinding}
 use Rattle.column_check.specs.declared.finding.Geometry.{Geometry as GeometryColumn}
 use Rattle.column_check.specs.declared.code.WarningCode.{WarningCode}
-use Rattle.column_check.specs.declared.code.WarningCode.TheVariants.{MetadataEmpty, CoordinatesNotFloat, CoordinatesNotDouble, AxisOrder, AxisNames, NullableInner, NestedGeometry}
+use Rattle.column_check.specs.declared.code.WarningCode.TheVariants.{OldExtensionName, MetadataEmpty, CoordinatesNotFloat, CoordinatesNotDouble, AxisOrder, AxisNames, NullableInner, NestedGeometry}
 use Rattle.column_check.specs.declared.code.WarningCode.TheVariants as codes_of
 use Rattle.column_check.specs.declared.warning.Warning.{Warning}
+
+-- ---- of the extension name
+
+-- of an old one, which is shown
+abbrev pub name_warnings : Option Text → List Said
+name_warnings name = said_if OldExtensionName (has_old_name name) ([], None, name)
 
 -- ---- of the metadata text
 
@@ -115,11 +122,12 @@ extensions =
     names.Native Point ∷ names.Native LineString ∷ names.Native Polygon ∷ names.Native MultiPoint ∷ names.Native MultiLineString ∷ names.Native MultiPolygon ∷ names.Native GeometryCollection
     ∷ names.Geometry ∷ names.Rect ∷ names.Wkb ∷ names.Wkt ∷ []
 
+-- there is an extension name, and it is one of them, or an old one of them
 abbrev pub is_extension_name : Option Text → Bool
 is_extension_name None = false
-is_extension_name (Some s) = has_name s (map name_text extensions)
+is_extension_name (Some s) = has_name (current_name s) (map name_text extensions)
 
--- a field has one of the eleven extension names
+-- a field has one of the eleven extension names, or an old one of them
 abbrev pub has_extension_name : Metadata → Bool
 has_extension_name m = is_extension_name (text_at name_key m)
 
@@ -170,7 +178,7 @@ geometry_warnings notes c None = []
 geometry_warnings notes c (Some g) =
     text_warnings (metadata_on c) ++ (key_warnings (metadata_on c) ++ (crs_warnings notes g.metadata ++ type_warnings g.kind c.data_type))
 
--- the warnings of a column of which that is said, with notes or without: those of its metadata text, of its CRS, of its coordinates and what
--- they are in, and of the fields below it
+-- the warnings of a column of which that is said, with notes or without: those of its extension name, of its metadata text, of its CRS, of
+-- its coordinates and what they are in, and of the fields below it
 abbrev pub AreWarnings : Bool → ColumnTree → ColumnFinding → List Warning → Type 0
-AreWarnings notes c f ws = map said ws ≡ geometry_warnings notes c (geometry_in f) ++ nested_warnings c.data_type
+AreWarnings notes c f ws = map said ws ≡ name_warnings (name_on c) ++ (geometry_warnings notes c (geometry_in f) ++ nested_warnings c.data_type)

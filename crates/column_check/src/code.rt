@@ -16,11 +16,17 @@ pub enum Severity {
 /// What a warning says.
 #[derive(Debug, Clone, Copy, PartialEq, Eq)]
 pub enum WarningCode {
+    /// The extension name is an old one, `ogc.wkb` or `ogc.wkt`, which is read as `geoarrow.wkb` or
+    /// `geoarrow.wkt`; `from_extension_field` of `geoarrow_schema` refuses the column.
+    OldExtensionName,
     /// The extension metadata are an empty text, which is read as none here;
     /// `from_extension_field` and `from_arrow_field` of `geoarrow_schema` refuse the column.
     MetadataEmpty,
     /// A key of the extension metadata is `crs`, `crs_type` or `edges` but for its letters.
     MetadataKeyCase,
+    /// The edges in the extension metadata are `planar`, which is read as no edges;
+    /// `from_extension_field` and `from_arrow_field` of `geoarrow_schema` refuse the column.
+    EdgesPlanar,
     /// The CRS is an object, or with the type `projjson` a text that is one, and no PROJJSON.
     CrsMalformed,
     /// The CRS is an empty text, which is read as no CRS.
@@ -50,15 +56,17 @@ pub enum WarningCode {
     NullableInner,
     /// A union of a geometry or of a collection is sparse.
     UnionMode,
-    /// A field below the column has one of GeoArrow's eleven extension names.
+    /// A field below the column has one of GeoArrow's eleven extension names, or an old one of them.
     NestedGeometry,
 }
 
 impl WarningCode {
     /// Each code, in the order of docs/FORMAT.md, 2.6.
-    pub const ALL: [WarningCode; 16] = [
+    pub const ALL: [WarningCode; 18] = [
+        WarningCode::OldExtensionName,
         WarningCode::MetadataEmpty,
         WarningCode::MetadataKeyCase,
+        WarningCode::EdgesPlanar,
         WarningCode::CrsMalformed,
         WarningCode::CrsEmpty,
         WarningCode::CrsTypeContradicts,
@@ -80,8 +88,10 @@ impl WarningCode {
         ensures { result.now ≡ warning_code self }
     {
         match self {
+            WarningCode::OldExtensionName => "OldExtensionName",
             WarningCode::MetadataEmpty => "MetadataEmpty",
             WarningCode::MetadataKeyCase => "MetadataKeyCase",
+            WarningCode::EdgesPlanar => "EdgesPlanar",
             WarningCode::CrsMalformed => "CrsMalformed",
             WarningCode::CrsEmpty => "CrsEmpty",
             WarningCode::CrsTypeContradicts => "CrsTypeContradicts",
@@ -118,9 +128,11 @@ impl WarningCode {
         ensures { result.now ≡ warning_message self }
     {
         match self {
+            WarningCode::OldExtensionName => "extension name is an old one",
             WarningCode::MetadataEmpty => "metadata is an empty text",
             WarningCode::MetadataKeyCase =>
                 "metadata key is one of the format's but for its letters",
+            WarningCode::EdgesPlanar => "edges are planar by name",
             WarningCode::CrsMalformed => "CRS is an object that is no PROJJSON",
             WarningCode::CrsEmpty => "CRS is an empty text",
             WarningCode::CrsTypeContradicts => "CRS is not of the form that crs_type says",
@@ -143,8 +155,10 @@ impl WarningCode {
         ensures { result.now ≡ warning_expected self }
     {
         match self {
+            WarningCode::OldExtensionName => "geoarrow.wkb or geoarrow.wkt",
             WarningCode::MetadataEmpty => "no metadata, or {}",
             WarningCode::MetadataKeyCase => "crs, crs_type or edges",
+            WarningCode::EdgesPlanar => "no edges",
             WarningCode::CrsMalformed => "PROJJSON",
             WarningCode::CrsEmpty => "a CRS, or none",
             WarningCode::CrsTypeContradicts => "a CRS of that form",
@@ -167,8 +181,10 @@ impl WarningCode {
         ensures { option_map (λ text. text.now) result ≡ warning_help self }
     {
         match self {
+            WarningCode::OldExtensionName => Some("The column is read under the new name."),
             WarningCode::MetadataEmpty => Some("It is read as no metadata."),
             WarningCode::MetadataKeyCase => Some("The key is passed over."),
+            WarningCode::EdgesPlanar => Some("Leave it out; planar is the default."),
             WarningCode::CrsMalformed => Some("projinfo -o PROJJSON prints it, as of EPSG:4326."),
             WarningCode::CrsEmpty => Some("It is read as no CRS."),
             WarningCode::CrsTypeContradicts => Some("Name the form in crs_type, or leave it out."),

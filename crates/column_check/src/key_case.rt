@@ -1,20 +1,26 @@
-//! Keys of extension metadata that are those of the format but for their letters.
-ghost use Rattle.std.specs.Prelude.{◌≡◌, ◌++◌, map, option_map, IfOk, OnOk};
+//! Keys of extension metadata that are those of the format but for their letters, and edges that are
+//! planar by name.
+ghost use Rattle.std.specs.Prelude.{◌≡◌, ◌++◌, map, Some, IfOk, OnOk};
 ghost use Rattle.json.specs.Value.{members_view, value_view};
+ghost use Rattle.serde_json.specs.Data.{Data};
+ghost use Rattle.serde_json.specs.Read.{of_json};
 ghost use Rattle.arrow_values.specs.Texts.{text_of};
-ghost use Rattle.column_check.specs.KeyWarnings.{is_key, is_other_case, key_spot, key_spots, spots_in, key_warnings};
+ghost use Rattle.value_tokens.specs.Values.{IsReadable};
+ghost use Rattle.column_check.specs.KeyWarnings.{is_key, is_other_case, key_spot, key_spots, spots_in, edges_warnings, key_warnings};
 ghost use Rattle.column_check.specs.Said.{said, at_each};
 ghost use Rattle.column_check.specs.Walk.{telling, tell_all};
 ghost use Rattle.column_check.specs.declared.code.WarningCode.TheVariants.{MetadataKeyCase};
 
 use crate::code::WarningCode;
-use crate::said::{value_in, warning_in};
+use crate::metadata::are_planar;
+use crate::said::{push_shown, value_in, warning_in};
 use crate::warning::Warning;
 use crate::way::{Rest, finish, tell};
 use json::{Scratch, Value};
 use std::alloc::{AllocError, Global};
 
-/// Adds a warning of each key of a metadata text that is one of the format but for its letters.
+/// Adds a warning of each key of a metadata text that is one of the format but for its letters, and
+/// one of edges that are planar by name.
 pub(crate) fn push_keys(
     alloc: Global,
     warnings: &mut Vec<Warning>,
@@ -26,20 +32,39 @@ pub(crate) fn push_keys(
         return Ok(());
     };
     let mut scratch = Scratch::new(alloc);
-    let value = value_in(alloc, text, &mut scratch)?;
-    push_of(alloc, warnings, value.as_ref())
+    match value_in(alloc, text, &mut scratch)? {
+        Some(value) => push_value(alloc, warnings, &value),
+        None => Ok(()),
+    }
+}
+
+/// Adds those of a value.
+fn push_value(
+    alloc: Global,
+    warnings: &mut Vec<Warning>,
+    value: &Value<'_>,
+) -> Result<(), AllocError>
+    requires { IsReadable (value_view value.now) }
+    ensures { (d : Data) → of_json (value_view value.now) ≡ Some d → OnOk result (map said warnings.new.items ≡ map said warnings.old.items ++ (at_each MetadataKeyCase (spots_in (Some (value_view value.now))) ++ edges_warnings (Some d))) }
+{
+    push_of(alloc, warnings, value)?;
+    let holds = are_planar(value);
+    push_shown(
+        alloc,
+        warnings,
+        WarningCode::EdgesPlanar,
+        "/edges",
+        "\"planar\"",
+        holds,
+    )
 }
 
 /// Adds one of each such key of a value, if it is an object.
-fn push_of(
-    alloc: Global,
-    warnings: &mut Vec<Warning>,
-    value: Option<&Value<'_>>,
-) -> Result<(), AllocError>
-    ensures { OnOk result (map said warnings.new.items ≡ map said warnings.old.items ++ at_each MetadataKeyCase (spots_in (option_map (λ v. value_view v.now) value.entry))) }
+fn push_of(alloc: Global, warnings: &mut Vec<Warning>, value: &Value<'_>) -> Result<(), AllocError>
+    ensures { OnOk result (map said warnings.new.items ≡ map said warnings.old.items ++ at_each MetadataKeyCase (spots_in (Some (value_view value.now)))) }
 {
     match value {
-        Some(Value::Object(members)) => push_members(alloc, warnings, members.as_slice()),
+        Value::Object(members) => push_members(alloc, warnings, members.as_slice()),
         _ => Ok(()),
     }
 }

@@ -15,6 +15,7 @@ mod key_case;
 pub mod laws;
 mod malformed;
 mod metadata;
+mod old_names;
 mod said;
 mod severity;
 mod shown;

@@ -1,10 +1,11 @@
 //! Warnings of places in the extension metadata.
-ghost use Rattle.std.specs.Prelude.{◌≡◌, ◌++◌, map, option_map, string_bytes, IfOk, IfSome, OnOk};
+ghost use Rattle.std.specs.Prelude.{◌≡◌, ◌++◌, map, option_map, string_bytes, Some, IfOk, IfSome, OnOk};
 ghost use Rattle.json.specs.Value.{value_view};
 ghost use Rattle.value_tokens.specs.Values.{IsReadable};
 ghost use Rattle.crs_identity.specs.Forms.{json_in};
 ghost use Rattle.column_check.specs.Parts.{spot_in};
 ghost use Rattle.column_check.specs.Said.{said, said_if};
+ghost use Rattle.column_check.specs.Metadata.{IsReadFrom};
 
 use crate::code::WarningCode;
 use crate::warning::Warning;
@@ -29,6 +30,24 @@ pub(crate) fn push_in(
     let pointer = String::from_str(alloc, pointer)?;
     warnings.push(warning_in(alloc, code, pointer, found))?;
     Ok(())
+}
+
+/// Adds that warning of a place in the extension metadata, which shows that text, if the test holds.
+pub(crate) fn push_shown(
+    alloc: Global,
+    warnings: &mut Vec<Warning>,
+    code: WarningCode,
+    pointer: &str,
+    found: &str,
+    holds: bool,
+) -> Result<(), AllocError>
+    ensures { OnOk result (map said warnings.new.items ≡ map said warnings.old.items ++ said_if code holds (spot_in pointer.now (Some found.now))) }
+{
+    if !holds {
+        return Ok(());
+    }
+    let found = String::from_str(alloc, found)?;
+    push_in(alloc, warnings, code, pointer, Some(found), true)
 }
 
 /// A warning of a place in the extension metadata.
@@ -57,6 +76,7 @@ pub(crate) fn value_in<'t>(
 ) -> Result<Option<Value<'t>>, AllocError>
     ensures value { IfOk result (λ o. option_map value_view o ≡ json_in text.now) }
     ensures readable { IfOk result (λ o. IfSome o (λ v. IsReadable (value_view v))) }
+    ensures read { IfOk result (λ o. IsReadFrom text.now (option_map value_view o)) }
 {
     match read_json(alloc, text, scratch) {
         Ok(value) => Ok(Some(value)),

@@ -7,6 +7,7 @@ ghost use Rattle.column_check.specs.Walk.{names_on, is_own, own_word, own_spots,
 
 use crate::code::WarningCode;
 use crate::coordinates::is_doubtful;
+use crate::old_names::current_name;
 use crate::warning::Warning;
 use crate::way::{Rest, Shown, Way, finish, tell_if};
 use arrow_values::{DataType, Field, UnionMode};
@@ -25,7 +26,7 @@ pub(crate) enum Sought {
 /// Which fields and unions are looked for.
 #[derive(Clone, Copy)]
 pub(crate) enum Inner {
-    /// Fields with one of the eleven extension names.
+    /// Fields with one of the eleven extension names, or an old one of them.
     Extensions,
     /// Nullable fields, below no such field, but for the members of unions.
     Nullables,
@@ -237,12 +238,12 @@ fn is_own_union(part: Inner, mode: UnionMode) -> bool
     }
 }
 
-/// Whether a field has one of the eleven extension names.
+/// Whether a field has one of the eleven extension names, or an old one of them.
 fn has_extension_name(field: &Field) -> bool
     ensures { result ≡ has_extension_name field.now.metadata }
 {
     match field.extension_type_name() {
-        Some(text) => ExtensionName::from_text(text).is_some(),
+        Some(text) => ExtensionName::from_text(current_name(text)).is_some(),
         None => false,
     }
 }

@@ -4,12 +4,13 @@ ghost use Rattle.arrow_values.specs.Texts.{text_of};
 ghost use Rattle.arrow_values.specs.View.{tree};
 ghost use Rattle.arrow_columns.specs.Column.{column_tree, type_tree};
 ghost use Rattle.column_check.specs.Said.{said};
-ghost use Rattle.column_check.specs.Warnings.{is_empty_text, text_warnings, coordinate_warnings, nullable_warnings, type_warnings, geometry_warnings, nested_warnings, AreWarnings};
+ghost use Rattle.column_check.specs.Warnings.{name_warnings, is_empty_text, text_warnings, coordinate_warnings, nullable_warnings, type_warnings, geometry_warnings, nested_warnings, AreWarnings};
 
 use crate::code::WarningCode;
 use crate::crs::push_crs;
 use crate::finding::{Finding, Geometry};
 use crate::key_case::push_keys;
+use crate::old_names::is_old_name;
 use crate::walk::{Inner, Sought, push_sought};
 use arrow_columns::{AnyType, SchemaColumn};
 use arrow_values::DataType;
@@ -36,7 +37,7 @@ pub struct Warning {
 /// (`docs/FORMAT.md`, 2.6): in the order of `WarningCode`, and under one code from left to right, a
 /// field before those below it; of one code at most sixteen, of which the last says how many more
 /// there are. Of the metadata text, of a CRS, of coordinates and of what they are in it speaks where
-/// the finding is of geometries; of fields below the column always. `notes` asks for the notes too.
+/// the finding is of geometries; of the extension name and of fields below the column always. `notes` asks for the notes too.
 /// Errs only when out of memory.
 ///
 /// ```rust
@@ -54,6 +55,7 @@ pub fn warnings(
     ensures { IfOk result (λ them. AreWarnings notes (column_tree column.now) finding.now them.items) }
 {
     let mut warnings = Vec::new(alloc);
+    push_name(alloc, &mut warnings, column.extension_type_name())?;
     if let Some(geometry) = finding.geometry() {
         push_geometry(alloc, &mut warnings, column, geometry, notes)?;
     }
@@ -66,6 +68,31 @@ pub fn warnings(
         )?;
     }
     Ok(warnings)
+}
+
+/// Adds what is doubtful of an extension name.
+fn push_name(
+    alloc: Global,
+    warnings: &mut Vec<Warning>,
+    name: Option<&str>,
+) -> Result<(), AllocError>
+    ensures { OnOk result (map said warnings.new.items ≡ map said warnings.old.items ++ name_warnings (text_of name.entry)) }
+{
+    let Some(name) = name else {
+        return Ok(());
+    };
+    if !is_old_name(name) {
+        return Ok(());
+    }
+    let found = String::from_str(alloc, name)?;
+    warnings.push(Warning {
+        code: WarningCode::OldExtensionName,
+        path: Vec::new(alloc),
+        pointer: None,
+        found: Some(found),
+        more: 0,
+    })?;
+    Ok(())
 }
 
 /// Adds what is doubtful of geometries.

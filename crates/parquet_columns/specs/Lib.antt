@@ -7,7 +7,9 @@ pub mod Columns
 pub mod Budget
 pub mod SchemaFault
 pub mod Geometry
+pub mod Says
 pub mod Keys
+pub mod Claims
 pub mod Marks
 pub mod Codes
 pub mod Findings

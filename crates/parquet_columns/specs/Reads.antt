@@ -18,12 +18,14 @@ use Rattle.parquet_columns.specs.Columns.{columns_of}
 use Rattle.parquet_columns.specs.declared.fault.ElementFault as elements
 use Rattle.parquet_columns.specs.Keys.{schema_key, value_of}
 use Rattle.parquet_columns.specs.Budget.{budget}
-use Rattle.parquet_columns.specs.Geometry.{root_children, given_bytes, marked_columns}
+use Rattle.parquet_columns.specs.Geometry.{root_children, marked_columns}
+use Rattle.parquet_columns.specs.Claims.{Claim, claim, claims, made_bytes}
 use Rattle.parquet_columns.specs.Findings.{Finding, finding, first_other, other_names, unreadable, repeated_keys}
 use Rattle.parquet_columns.specs.Stored.{AreStored}
 use Rattle.parquet_columns.specs.declared.stored.Stored.{Stored}
 use Rattle.parquet_columns.specs.declared.stored.Stored.TheVariants.{Schema, Unreadable}
 use Rattle.parquet_columns.specs.declared.footer.FooterColumns.{FooterColumns}
+use Rattle.parquet_columns.specs.declared.footer.Unmarked.{Unmarked}
 use Rattle.parquet_columns.specs.declared.error.SchemaError.{SchemaError}
 use Rattle.parquet_columns.specs.declared.error.SchemaError.TheVariants.{Footer, Cut, Elements, Budget, OutOfMemory}
 
@@ -34,39 +36,55 @@ IsBuilt there (Err (Elements fault)) = there ≡ Err fault
 IsBuilt there (Err OutOfMemory) = ⊤
 IsBuilt there (Err _) = ⊥
 
--- columns, and what is found
+-- columns, what the elements say beside them, and what is found
 pub record Read : Type 0 where
   pub columns : List ColumnTree
+  pub elements : List Claim
   pub findings : List Finding
 
 abbrev pub read_of : FooterColumns → Read
-read_of r = record { columns = map column_tree r.columns.items; findings = map finding r.findings.items }
+read_of r = record { columns = map column_tree r.columns.items; elements = map claim r.elements.items; findings = map finding r.findings.items }
+
+-- columns before the geometry types of their elements are looked at, and what is found
+pub record Choice : Type 0 where
+  pub columns : List ColumnTree
+  pub findings : List Finding
+
+abbrev pub choice : Unmarked → Choice
+choice r = record { columns = map column_tree r.columns.items; findings = map finding r.findings.items }
 
 -- two names, without where they lie
 abbrev pub names_seen : Option (Bor Text) × Option (Bor Text) → Option Text × Option Text
 names_seen p = (text_of p.0, text_of p.1)
 
 -- the columns of a stored schema, if their names are those of the elements' columns; else these
-abbrev pub by_names : Option (Option Text × Option Text) → List ColumnTree → List ColumnTree → Read
+abbrev pub by_names : Option (Option Text × Option Text) → List ColumnTree → List ColumnTree → Choice
 by_names None stored cs = record { columns = stored; findings = [] }
 by_names (Some names) stored cs = record { columns = cs; findings = other_names names ∷ [] }
 
 -- by what is stored, beside the columns of the elements
-abbrev pub chosen : Option Stored → List ColumnTree → Read
+abbrev pub chosen : Option Stored → List ColumnTree → Choice
 chosen None cs = record { columns = cs; findings = [] }
 chosen (Some (Schema s)) cs = by_names (first_other (map column_tree s.columns.items) cs) (map column_tree s.columns.items) cs
 chosen (Some (Unreadable fault)) cs = record { columns = cs; findings = unreadable fault ∷ [] }
 
--- how many bytes the extension metadata have that geometry types give the columns
-abbrev pub given_to : Contents → List ColumnTree → ℕ
-given_to c cs = given_bytes c.key_value_metadata (root_children c.schema) cs
+-- how many bytes the extension metadata have that are made of geometry types, those that the columns are given and those beside their own
+abbrev pub made_of : Contents → List ColumnTree → ℕ
+made_of c cs = made_bytes c.key_value_metadata (root_children c.schema) cs
 
--- what is read of a footer of so many bytes, by the columns that are chosen: the ones of geometry types have the extension that their elements denote,
--- within the budget; and what is found of repeated keys comes behind
-abbrev pub IsReadWith : ℕ → Contents → Read → Result FooterColumns SchemaError → Type 0
-IsReadWith n c read (Ok r) = (given_to c read.columns ≤ budget n)
-    × (read_of r ≡ record { columns = marked_columns c.key_value_metadata (root_children c.schema) read.columns; findings = read.findings ++ repeated_keys c.key_value_metadata })
-IsReadWith n c read (Err Budget) = budget n < given_to c read.columns
+-- columns of geometry types have the extension that their elements denote, or the elements say it beside them; and what is found of repeated keys
+-- comes behind
+abbrev pub read_with : Contents → Choice → Read
+read_with c read = record {
+  columns = marked_columns c.key_value_metadata (root_children c.schema) read.columns;
+  elements = claims c.key_value_metadata (root_children c.schema) read.columns;
+  findings = read.findings ++ repeated_keys c.key_value_metadata;
+}
+
+-- what is read of a footer of so many bytes, by the columns that are chosen, within the budget
+abbrev pub IsReadWith : ℕ → Contents → Choice → Result FooterColumns SchemaError → Type 0
+IsReadWith n c read (Ok r) = (made_of c read.columns ≤ budget n) × (read_of r ≡ read_with c read)
+IsReadWith n c read (Err Budget) = budget n < made_of c read.columns
 IsReadWith n c read (Err OutOfMemory) = ⊤
 IsReadWith n c read (Err _) = ⊥
 

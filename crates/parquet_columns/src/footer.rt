@@ -5,7 +5,7 @@ ghost use Rattle.parquet_footer.specs.Element.{element};
 ghost use Rattle.parquet_footer.specs.Footer.{contents};
 ghost use Rattle.parquet_columns.specs.Columns.{columns_of};
 ghost use Rattle.parquet_columns.specs.Findings.{finding, first_other, other_names};
-ghost use Rattle.parquet_columns.specs.Reads.{IsBuilt, names_seen, read_of, by_names, chosen, IsReadWith, IsFooterRead};
+ghost use Rattle.parquet_columns.specs.Reads.{IsBuilt, names_seen, choice, by_names, chosen, IsReadWith, IsFooterRead};
 
 use crate::budget::report_budget;
 use crate::claim::ElementClaim;
@@ -14,7 +14,7 @@ use crate::columns::columns_of;
 use crate::error::SchemaError;
 use crate::fault::ColumnsError;
 use crate::finding::{FileFinding, FilePlace};
-use crate::marks::marked_columns;
+use crate::marks::{Marks, marked_columns};
 use crate::repeated::add_repeated_keys;
 use crate::stored::{Stored, stored_in, unreadable};
 use crate::values::KeyValues;
@@ -31,6 +31,13 @@ pub struct FooterColumns {
     pub elements: Vec<ElementClaim>,
     /// What is found: of the schema at `ARROW:schema`, and of keys that stand several times (`docs/FORMAT.md`, 4.5).
     pub findings: Vec<FileFinding>,
+}
+
+/// Columns before the geometry types of their elements are looked at, and what is found.
+#[derive(Drop)]
+struct Unmarked {
+    columns: Vec<SchemaColumn>,
+    findings: Vec<FileFinding>,
 }
 
 /// Two names, of which one may be absent.
@@ -83,27 +90,22 @@ fn by_names(
     alloc: Global,
     stored: Vec<SchemaColumn>,
     columns: Vec<SchemaColumn>,
-) -> Result<FooterColumns, AllocError>
-    ensures { IfOk result (λ read. read_of read
+) -> Result<Unmarked, AllocError>
+    ensures { IfOk result (λ read. choice read
         ≡ by_names (first_other (map column_tree stored.items) (map column_tree columns.items)) (map column_tree stored.items) (map column_tree columns.items)) }
 {
     let found = match first_other(stored.as_slice(), columns.as_slice()) {
         Some(names) => other_names(alloc, names)?,
         None => {
             let findings = Vec::new(alloc);
-            return Ok(FooterColumns {
+            return Ok(Unmarked {
                 columns: stored,
-                elements: Vec::new(alloc),
                 findings,
             });
         }
     };
     let findings = vec![in alloc; found]?;
-    Ok(FooterColumns {
-        columns,
-        elements: Vec::new(alloc),
-        findings,
-    })
+    Ok(Unmarked { columns, findings })
 }
 
 /// The columns of a footer before its geometry types are looked at, by what is stored and by the elements; and what is found of the
@@ -112,27 +114,19 @@ fn chosen(
     alloc: Global,
     stored: Option<Stored>,
     columns: Vec<SchemaColumn>,
-) -> Result<FooterColumns, AllocError>
-    ensures { IfOk result (λ read. read_of read ≡ chosen stored (map column_tree columns.items)) }
+) -> Result<Unmarked, AllocError>
+    ensures { IfOk result (λ read. choice read ≡ chosen stored (map column_tree columns.items)) }
 {
     match stored {
         Some(Stored::Schema(schema)) => by_names(alloc, schema.columns, columns),
         Some(Stored::Unreadable(fault)) => {
             let found = unreadable(alloc, fault)?;
             let findings = vec![in alloc; found]?;
-            Ok(FooterColumns {
-                columns,
-                elements: Vec::new(alloc),
-                findings,
-            })
+            Ok(Unmarked { columns, findings })
         }
         None => {
             let findings = Vec::new(alloc);
-            Ok(FooterColumns {
-                columns,
-                elements: Vec::new(alloc),
-                findings,
-            })
+            Ok(Unmarked { columns, findings })
         }
     }
 }
@@ -141,25 +135,22 @@ fn chosen(
 fn finished(
     alloc: Global,
     footer: &Footer<'_>,
-    read: FooterColumns,
+    read: Unmarked,
     bytes: usize,
 ) -> Result<FooterColumns, SchemaError>
-    ensures { IsReadWith bytes (contents footer.now) (read_of read) result }
+    ensures { IsReadWith bytes (contents footer.now) (choice read) result }
 {
-    let FooterColumns {
-        columns,
-        findings,
-        ..
-    } = read;
+    let Unmarked { columns, findings } = read;
     let mut findings = findings;
     let mut values = KeyValues::new(alloc, footer.key_value_metadata.as_slice())?;
     let most = report_budget(bytes);
     let elements = footer.schema.as_slice();
-    let columns = marked_columns(alloc, &mut values, elements, columns, most)?;
+    let marked = marked_columns(alloc, &mut values, elements, columns, most)?;
     add_repeated_keys(alloc, &mut findings, footer)?;
+    let Marks { columns, elements } = marked;
     Ok(FooterColumns {
         columns,
-        elements: Vec::new(alloc),
+        elements,
         findings,
     })
 }

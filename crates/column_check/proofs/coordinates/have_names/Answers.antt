@@ -1,4 +1,4 @@
-use Rattle.std.proofs.Common.{rules, ◌≡◌, ◌&&◌, ◌==◌, Bool, true, false, length, map, sym, ap, ◌∙◌, arith}
+use Rattle.std.proofs.Common.{rules, ◌≡◌, ◌&&◌, ◌==◌, true, false, length, map, sym, ap, ◌∙◌, arith}
 use Rattle.std.specs.List.{list_all}
 use Rattle.arrow_values.specs.View.{field_trees}
 use Rattle.geoarrow_layout.specs.Shapes.{names_of, has_name}
