@@ -1,5 +1,5 @@
 -- The report of a file: its columns with what is said of each, and what is found of it; and its lines of JSON.
-use Rattle.std.specs.Prelude.{◌≡◌, ◌⊎◌, ◌<◌, ◌≤◌, ◌+◌, ◌++◌, ℕ, ⊤, ⊥, Bool, List, [], ◌∷◌, codes, length, map, Option, None, Some, Result, Ok, Err, String, string_bytes, if◌then◌else◌}
+use Rattle.std.specs.Prelude.{◌≡◌, ◌⊎◌, ◌<◌, ◌≤◌, ◌+◌, ◌++◌, ℕ, ⊤, Bool, List, [], ◌∷◌, codes, length, map, Option, None, Some, Result, Ok, Err, String, string_bytes, if◌then◌else◌}
 use Rattle.std.specs.Global.{Global}
 use Rattle.std.specs.Str.{is_utf8}
 use Rattle.json.specs.Print.{print}
@@ -17,9 +17,10 @@ use Rattle.column_files.specs.declared.columns.FileFault.TheVariants.{ReportTooL
 use Rattle.geoparquet.specs.Findings.{finding}
 use Rattle.geoparquet.specs.GeoColumns.{AreGeoColumns}
 use Rattle.geoparquet.specs.GeoFindings.{AreGeoFindings}
-use Rattle.geoparquet.specs.Sources.{Source, unasked, missing, value, element}
+use Rattle.geoparquet.specs.Sources.{Source, unasked, missing, value}
 use Rattle.geoparquet.specs.declared.finding.GeoReport.{GeoReport}
 use Rattle.parquet_columns.specs.Budget.{budget}
+use Rattle.parquet_columns.specs.Claims.{claim}
 use Rattle.column_reports.specs.Columns.{IsColumnReport}
 use Rattle.column_reports.specs.FindingLines.{findings_text}
 use Rattle.column_reports.specs.Gathered.{of_file}
@@ -70,7 +71,7 @@ pub record IsReport (infer : Bool) (w : Weighing) (opened : File) (r : FileRepor
   pub columns : AreReported infer w by r.columns.items
   -- what the metadata are found to be, of the columns that the file denotes
   pub geo : GeoReport
-  pub is_geo : AreGeoFindings (source_in opened.form opened.geo) (map column_tree opened.columns.items) (map element opened.elements.items) geo.version (map finding geo.findings.items)
+  pub is_geo : AreGeoFindings (source_in opened.form opened.geo) (map column_tree opened.columns.items) (map claim opened.elements.items) geo.version (map finding geo.findings.items)
   pub findings : r.findings.items ≡ weighed w (of_file opened.texts.items opened.findings.items geo)
   pub summary : IsSummary r.columns.items r.findings.items r.summary
 

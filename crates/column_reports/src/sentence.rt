@@ -41,20 +41,21 @@ pub fn finding_words(alloc: Global, found: &Weighed<'_>) -> Result<String, Alloc
     let finding = &found.finding;
     let severity = found.severity.word();
     let word = finding.code().word();
-    let place = placed(alloc, place_parts(alloc, finding)?)?;
+    let parts = place_parts(alloc, finding)?;
+    let place = placed(alloc, parts.as_slice())?;
     let said = said_words(alloc, finding)?;
     format!(in alloc; "{severity}[{word}]{place}: {said}")
 }
 
 /// The parts of a place behind a blank, with commas between them; nothing where there are none.
-fn placed(alloc: Global, parts: Vec<String>) -> Result<String, AllocError>
-    ensures { IfOk result (λ text. string_bytes text ≡ placed (map string_bytes parts.items)) }
+fn placed(alloc: Global, parts: &[String]) -> Result<String, AllocError>
+    ensures { IfOk result (λ text. string_bytes text ≡ placed (map string_bytes parts.now)) }
 {
     if parts.is_empty() {
         return Ok(String::new(alloc));
     }
-    let place = parts.as_slice().join(alloc, ", ")?;
-    format!(in alloc; " {place}")
+    let place = parts.join(alloc, ", ")?;
+    led(alloc, " ", place.as_str())
 }
 
 /// The parts of the place of a finding.
@@ -101,7 +102,7 @@ fn path_words(alloc: Global, path: &[String]) -> Result<Option<String>, AllocErr
         return Ok(None);
     }
     let names = path.join(alloc, ".")?;
-    Ok(Some(format!(in alloc; "at {names}")?))
+    Ok(Some(led(alloc, "at ", names.as_str())?))
 }
 
 /// The part of the file, and the pointer into it.
@@ -171,6 +172,13 @@ fn around(
         Some(text) => between(alloc, before, text.as_str(), behind),
         None => Ok(String::new(alloc)),
     }
+}
+
+/// A text behind another.
+fn led(alloc: Global, before: &str, text: &str) -> Result<String, AllocError>
+    ensures { IfOk result (λ s. string_bytes s ≡ before.now ++ text.now) }
+{
+    format!(in alloc; "{before}{text}")
 }
 
 /// A text between two others.
