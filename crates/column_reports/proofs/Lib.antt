@@ -1,4 +1,5 @@
 mod Adding
 mod Places
+mod Joined
 pub mod Reported
 pub mod Whole

@@ -10,8 +10,6 @@ use Rattle.parquet_footer.specs.declared.code.Severity.TheVariants as weighs
 use Rattle.parquet_columns.specs.Codes as files
 use Rattle.geoparquet.specs.Codes as geo
 use Rattle.geoparquet.specs.Words as geo_words
-use Rattle.geoparquet.specs.declared.code.Severity.{Severity as GeoSeverity}
-use Rattle.geoparquet.specs.declared.code.Severity.TheVariants as geo_weighs
 use Rattle.geoparquet.specs.declared.finding.Version.{Version}
 use Rattle.column_reports.specs.declared.code.Code.{Code}
 use Rattle.column_reports.specs.declared.code.Code.TheVariants as of
@@ -29,18 +27,12 @@ as_of_columns weighs.Error = Error
 as_of_columns weighs.Warning = Warning
 as_of_columns weighs.Note = Note
 
--- a severity of GeoParquet metadata, as those of columns are
-abbrev pub of_geo : GeoSeverity → Severity
-of_geo geo_weighs.Error = Error
-of_geo geo_weighs.Warning = Warning
-of_geo geo_weighs.Note = Note
-
 -- how much a finding of a code weighs
 abbrev pub severity_of : Code → Severity
 severity_of (of.Column code) = columns.severity_of code
 severity_of (of.Text code) = as_of_columns (footers.severity_of code)
 severity_of (of.File code) = as_of_columns (files.severity_of code)
-severity_of (of.Geo code) = of_geo (geo.severity_of code)
+severity_of (of.Geo code) = geo.severity_of code
 
 -- when a code is found
 abbrev pub rule_of : Code → Text

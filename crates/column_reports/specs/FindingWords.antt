@@ -3,9 +3,10 @@ use Rattle.std.specs.Prelude.{ℕ, List, [], ◌∷◌, ◌++◌, codes, decimal
 use Rattle.std.specs.List.{join_by}
 use Rattle.arrow_values.specs.Tree.{Text}
 use Rattle.column_check.specs.Severities.{severity_text}
-use Rattle.column_reports.specs.Codes.{word_of, severity_of}
+use Rattle.column_reports.specs.Codes.{word_of}
 use Rattle.column_reports.specs.Found.{code_in, column_in, path_in, part_in, pointer_in, byte_in, found_in, expected_in, help_in, more_in}
 use Rattle.column_reports.specs.declared.finding.Finding.{Finding}
+use Rattle.column_reports.specs.declared.weighed.Weighed.{Weighed}
 
 -- ---- the parts of a place, each if it applies
 
@@ -65,8 +66,8 @@ around before (Some text) behind = before ++ (text ++ behind)
 abbrev pub said_words : Finding → Text
 said_words f = around (codes "found ") (found_in f) (codes "; ") ++ (codes "expected " ++ (expected_in f ++ around (codes ". ") (help_in f) []))
 
--- a finding: the severity and the code, the place, and what is said
-abbrev pub finding_words : Finding → Text
-finding_words f =
-    severity_text (severity_of (code_in f))
-    ++ (codes "[" ++ (word_of (code_in f) ++ (codes "]" ++ (placed (place_parts f) ++ (codes ": " ++ said_words f)))))
+-- a finding: how much it counts and the code, the place, and what is said
+abbrev pub finding_words : Weighed → Text
+finding_words w =
+    severity_text w.severity
+    ++ (codes "[" ++ (word_of (code_in w.finding) ++ (codes "]" ++ (placed (place_parts w.finding) ++ (codes ": " ++ said_words w.finding)))))

@@ -1,14 +1,12 @@
 -- What is found of a column or of a file, part by part (docs/FORMAT.md, 2.5 and 5.1).
-use Rattle.std.specs.Prelude.{ℕ, ◌/◌, ◌%◌, Bool, false, not, ◌||◌, List, [], ◌∷◌, ◌++◌, codes, flat_map, nat_lt, map, Option, None, Some, option_map, string_bytes, if◌then◌else◌}
-use Rattle.std.specs.Fmt.{digit_glyph}
+use Rattle.std.specs.Prelude.{ℕ, List, [], codes, map, Option, None, Some, option_map, string_bytes}
 use Rattle.arrow_values.specs.Tree.{Text}
 use Rattle.column_check.specs.Shown.{shown}
-use Rattle.column_check.specs.Severities.{is_error_of, is_note_of}
 use Rattle.column_check.specs.WarningWords as columns
 use Rattle.parquet_footer.specs.Codes as footers
 use Rattle.parquet_columns.specs.Codes as files
+use Rattle.geoparquet.specs.Spelled.{spelled}
 use Rattle.geoparquet.specs.Words as geo
-use Rattle.column_reports.specs.Codes.{severity_of}
 use Rattle.column_reports.specs.declared.code.Code.{Code}
 use Rattle.column_reports.specs.declared.code.Code.TheVariants as codes_of
 use Rattle.column_reports.specs.declared.finding.Finding.{Finding}
@@ -20,13 +18,6 @@ code_in (of.Column w) = codes_of.Column w.code
 code_in (of.Text f) = codes_of.Text f.code
 code_in (of.File f) = codes_of.File f.code
 code_in (of.Geo version f) = codes_of.Geo f.code
-
--- it is an error; it is shown, as each is that is no note, and where notes are asked for each
-abbrev pub is_error : Finding → Bool
-is_error f = is_error_of (severity_of (code_in f))
-
-abbrev pub is_shown : Bool → Finding → Bool
-is_shown notes f = notes || not (is_note_of (severity_of (code_in f)))
 
 -- ---- where
 
@@ -72,17 +63,10 @@ byte_in (of.Geo version f) = None
 
 -- ---- what
 
--- a byte of ASCII as it is, another as two hexadecimal digits behind \x
-abbrev pub byte_text : ℕ → Text
-byte_text b = if nat_lt b 128 then b ∷ [] else codes "\\x" ++ (digit_glyph false (b / 16) ∷ digit_glyph false (b % 16) ∷ [])
-
-abbrev pub bytes_text : List ℕ → Text
-bytes_text bytes = flat_map byte_text bytes
-
--- what stands there; bytes that are not UTF-8 are shown in hexadecimal digits
+-- what stands there; bytes that are not UTF-8 with ASCII as it is, and the others in hexadecimal digits
 abbrev pub found_in : Finding → Option Text
 found_in (of.Column w) = option_map string_bytes w.found
-found_in (of.Text f) = Some (shown (bytes_text f.text.bytes.now))
+found_in (of.Text f) = Some (shown (spelled f.text.bytes.now))
 found_in (of.File f) = option_map string_bytes f.found
 found_in (of.Geo version f) = option_map string_bytes f.found
 

@@ -10,3 +10,5 @@ pub mod Report
 pub mod Summary
 pub mod FileReport
 pub mod Faults
+pub mod Weights
+pub mod Weighed

@@ -30,10 +30,10 @@ member_if k (Some j) = (k, j) ∷ []
 
 -- a member whose value is a string, or a number, if there is one
 abbrev pub string_if : Text → Option Text → List (Text × Json)
-string_if key text = member_if key (option_map string text)
+string_if k text = member_if k (option_map string text)
 
 abbrev pub number_if : Text → Option ℕ → List (Text × Json)
-number_if key n = member_if key (option_map (λ m. number (decimal m)) n)
+number_if k n = member_if k (option_map (λ m. number (decimal m)) n)
 
 -- ---- while they are written
 

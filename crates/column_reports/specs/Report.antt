@@ -16,8 +16,8 @@ use Rattle.column_check.specs.States.{geometry_in}
 use Rattle.column_reports.specs.FindingLines.{findings_in}
 use Rattle.column_reports.specs.Objects.{array_of, object_of, member_if, string_if}
 use Rattle.column_reports.specs.Reasons.{reasons_of}
-use Rattle.column_reports.specs.declared.finding.Finding.{Finding}
 use Rattle.column_reports.specs.declared.report.ColumnReport.{ColumnReport}
+use Rattle.column_reports.specs.declared.weighed.Weighed.{Weighed}
 
 abbrev pub state_word : ColumnFinding → Text
 state_word (Geometry g) = codes "geometry"
@@ -66,7 +66,7 @@ names_of file c g =
     ++ string_if (codes "extension") (name_on c)
     ++ string_if (codes "file") file
 
-abbrev pub found_of : ℕ → ColumnFinding → Text → List Finding → List (Text × Json)
+abbrev pub found_of : ℕ → ColumnFinding → Text → List Weighed → List (Text × Json)
 found_of index f word fs =
     member_if (codes "index") (Some (number (decimal index)))
     ++ member_if (codes "reasons") (reasons_in f)
@@ -74,7 +74,7 @@ found_of index f word fs =
     ++ string_if (codes "type") (Some word)
     ++ member_if (codes "warnings") (findings_in fs)
 
-abbrev pub members_of : Option Text → ℕ → ColumnTree → ColumnFinding → List Finding → List (Text × Json)
+abbrev pub members_of : Option Text → ℕ → ColumnTree → ColumnFinding → List Weighed → List (Text × Json)
 members_of file index c f fs =
     string_if (codes "column") (Some c.name)
     ++ member_if (codes "crs") (crs_of (geometry_in f))

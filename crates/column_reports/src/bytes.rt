@@ -1,8 +1,8 @@
 //! Bytes that are not UTF-8, as reports show them.
-ghost use Rattle.std.specs.Prelude.{◌≡◌, ◌++◌, IfOk, OnOk, length, string_bytes, take};
+ghost use Rattle.std.specs.Prelude.{◌≡◌, ◌<◌, ◌++◌, IfOk, OnOk, length, string_bytes, take};
 ghost use Rattle.std.specs.Str.{chars, encode_utf8_all};
 ghost use Rattle.column_check.specs.Shown.{shown};
-ghost use Rattle.column_reports.specs.Found.{byte_text, bytes_text};
+ghost use Rattle.geoparquet.specs.Spelled.{hex_digit, spelled_byte, spelled};
 
 use std::alloc::{AllocError, Global};
 
@@ -13,9 +13,9 @@ const SHOWN: usize = 120;
 /// digits behind `\x`; at most 120 characters, and `..` behind them where there are more. Errs only
 /// when out of memory.
 pub(crate) fn bytes_shown(alloc: Global, bytes: &[u8]) -> Result<String, AllocError>
-    ensures { IfOk result (λ text. string_bytes text ≡ shown (bytes_text bytes.now)) }
+    ensures { IfOk result (λ text. string_bytes text ≡ shown (spelled bytes.now)) }
 {
-    let text = bytes_text(alloc, bytes)?;
+    let text = spelled(alloc, bytes)?;
     shown(alloc, text)
 }
 
@@ -47,23 +47,36 @@ fn first_of(alloc: Global, text: &str) -> Result<String, AllocError>
 }
 
 /// The text of bytes, all of it.
-fn bytes_text(alloc: Global, bytes: &[u8]) -> Result<String, AllocError>
-    ensures { IfOk result (λ text. string_bytes text ≡ bytes_text bytes.now) }
+fn spelled(alloc: Global, bytes: &[u8]) -> Result<String, AllocError>
+    ensures { IfOk result (λ text. string_bytes text ≡ spelled bytes.now) }
 {
     let mut text = String::with_capacity(alloc, bytes.len())?;
     for byte in bytes {
-        push_byte(alloc, &mut text, *byte)?;
+        push_spelled(&mut text, *byte)?;
     }
     Ok(text)
 }
 
 /// Adds the text of a byte.
-fn push_byte(alloc: Global, text: &mut String, byte: u8) -> Result<(), AllocError>
-    ensures { OnOk result (string_bytes text.new ≡ string_bytes text.old ++ byte_text byte) }
+fn push_spelled(text: &mut String, byte: u8) -> Result<(), AllocError>
+    ensures { OnOk result (string_bytes text.new ≡ string_bytes text.old ++ spelled_byte byte) }
 {
-    if byte.is_ascii() {
+    if byte < 128 {
         return text.push(char::from(byte));
     }
-    let digits = format!(in alloc; "\\x{byte:02x}")?;
-    text.push_str(digits.as_str())
+    text.push_str("\\x")?;
+    text.push(hex_digit(byte / 16))?;
+    text.push(hex_digit(byte % 16))
+}
+
+/// The character of a digit from 0 to 15.
+fn hex_digit(digit: u8) -> char
+    requires { digit < 16 }
+    ensures { result ≡ hex_digit digit }
+{
+    if digit < 10 {
+        char::from(48 + digit)
+    } else {
+        char::from(87 + digit)
+    }
 }

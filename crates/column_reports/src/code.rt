@@ -1,7 +1,7 @@
 //! The codes of what may be found, of whatever source.
 ghost use Rattle.std.specs.Prelude.{◌≡◌};
 ghost use Rattle.arrow_values.specs.Texts.{text_of};
-ghost use Rattle.column_reports.specs.Codes.{word_of, as_of_columns, of_geo, severity_of, rule_of};
+ghost use Rattle.column_reports.specs.Codes.{word_of, as_of_columns, severity_of, rule_of};
 ghost use Rattle.column_reports.specs.Codes.{expected_of, help_of};
 
 use column_check::{Severity, WarningCode};
@@ -30,17 +30,6 @@ fn as_of_columns(severity: parquet_footer::Severity) -> Severity
         parquet_footer::Severity::Error => Severity::Error,
         parquet_footer::Severity::Warning => Severity::Warning,
         parquet_footer::Severity::Note => Severity::Note,
-    }
-}
-
-/// A severity of GeoParquet metadata, as those of columns are.
-fn of_geo(severity: geoparquet::Severity) -> Severity
-    ensures { result ≡ of_geo severity }
-{
-    match severity {
-        geoparquet::Severity::Error => Severity::Error,
-        geoparquet::Severity::Warning => Severity::Warning,
-        geoparquet::Severity::Note => Severity::Note,
     }
 }
 
@@ -75,7 +64,7 @@ impl Code {
             Code::Column(code) => code.severity(),
             Code::Text(code) => as_of_columns(code.severity()),
             Code::File(code) => as_of_columns(code.severity()),
-            Code::Geo(code) => of_geo(code.severity()),
+            Code::Geo(code) => code.severity(),
         }
     }
 

@@ -6,13 +6,15 @@ ghost use Rattle.arrow_columns.specs.Column.{column_tree};
 ghost use Rattle.column_check.specs.States.{is_invalid, is_geometry};
 ghost use Rattle.column_reports.specs.FileReport.{AreReported, IsReport, Reports};
 ghost use Rattle.column_reports.specs.Summary.{has_error};
+ghost use Rattle.column_reports.specs.Weights.{weighing};
 
-use crate::finding::Finding;
 use crate::gathered::of_file;
 use crate::geo::{columns_by, source_of};
 use crate::lines::json_lines;
-use crate::report::{ColumnReport, Options, report_column};
+use crate::report::{ColumnReport, Options, weighed_column};
 use crate::summary::{Summary, has_error};
+use crate::weighed::{Weighed, weigh};
+use crate::weights::Weights;
 use arrow_columns::SchemaColumn;
 use column_files::{File, FileFault, Form, open};
 use geoparquet::check_geo;
@@ -27,30 +29,32 @@ pub struct FileReport<'a> {
     pub form: Form,
     /// Its columns, by its GeoParquet metadata (docs/FORMAT.md, 5.2), each with what is said of it.
     pub columns: Vec<ColumnReport>,
-    /// What is found of the file: of the texts of its footer (docs/FORMAT.md, 4.3), then of its
+    /// What is found of the file and shown: of the texts of its footer (docs/FORMAT.md, 4.3), then of its
     /// schemas and keys (4.5), then of its GeoParquet metadata (5).
-    pub findings: Vec<Finding<'a>>,
+    pub findings: Vec<Weighed<'a>>,
     /// What counts of the columns and of the findings.
     pub summary: Summary,
 }
 
 /// Returns the report of a file that was opened: what each of its columns holds and what is found
-/// of it, where the columns are those by its GeoParquet metadata; and what is found of the file.
-/// Errs only when out of memory.
+/// of it, where the columns are those by its GeoParquet metadata; and what is found of the file. A
+/// column without an extension name is taken for what is inferred from its data type, if `infer` says
+/// so, and findings count by what is asked of them. Errs only when out of memory.
 ///
 /// ```rust
 /// let bytes = br#"{"name":"id","nullable":true,"type":"int64"}"#;
 /// let Ok(opened) = open(alloc, bytes) else { return Ok(()); };
-/// let report = report_of(alloc, opened, Options { infer: false, notes: false })?;
+/// let report = report_of(alloc, opened, false, &Weights::new(alloc, false))?;
 /// assert_eq!(rt; report.columns.len(), 1);
 /// assert!(rt; !report.summary.has_invalid);
 /// ```
 pub fn report_of<'a>(
     alloc: Global,
     opened: File<'a>,
-    options: Options,
+    infer: bool,
+    weights: &Weights,
 ) -> Result<FileReport<'a>, AllocError>
-    ensures { IfOk result (IsReport options opened.entry) }
+    ensures { IfOk result (IsReport infer (weighing weights.now) opened.entry) }
 {
     let File {
         form,
@@ -62,9 +66,10 @@ pub fn report_of<'a>(
     } = opened;
     let source = source_of(form, &geo);
     let checked = check_geo(alloc, source, columns.as_slice(), elements.as_slice())?;
-    let findings = of_file(alloc, texts, findings, checked)?;
+    let found = of_file(alloc, texts, findings, checked)?;
+    let findings = weigh(alloc, weights, found)?;
     let columns = columns_by(alloc, &geo, columns)?;
-    let columns = report_columns(alloc, columns, options)?;
+    let columns = report_columns(alloc, columns, infer, weights)?;
     let summary = summary_of(columns.as_slice(), findings.as_slice());
     Ok(FileReport {
         form,
@@ -78,21 +83,22 @@ pub fn report_of<'a>(
 fn report_columns(
     alloc: Global,
     columns: Vec<SchemaColumn>,
-    options: Options,
+    infer: bool,
+    weights: &Weights,
 ) -> Result<Vec<ColumnReport>, AllocError>
-    ensures { IfOk result (λ reported. AreReported options (map column_tree columns.items) reported.items) }
+    ensures { IfOk result (λ reported. AreReported infer (weighing weights.now) (map column_tree columns.items) reported.items) }
 {
     let mut scratch = Scratch::new(alloc);
     let mut reported = Vec::new(alloc);
     for column in columns {
-        let said = report_column(alloc, &mut scratch, column, options)?;
+        let said = weighed_column(alloc, &mut scratch, column, infer, weights)?;
         reported.push(said)?;
     }
     Ok(reported)
 }
 
 /// Returns what counts of columns, and of what is found of a file.
-fn summary_of(columns: &[ColumnReport], findings: &[Finding<'_>]) -> Summary
+fn summary_of(columns: &[ColumnReport], findings: &[Weighed<'_>]) -> Summary
     ensures invalid { result.has_invalid ≡ list_any (λ r. is_invalid r.finding) columns.now }
     ensures geometry { result.has_geometry ≡ list_any (λ r. is_geometry r.finding) columns.now }
     ensures failed { result.has_failed ≡ (list_any (λ r. has_error r.findings.items) columns.now || has_error findings.now) }
@@ -151,10 +157,11 @@ pub fn report_file(
     ensures { Reports (text_of file.entry) options bytes.now result }
 {
     let limit = report_budget(bytes.len());
+    let weights = Weights::new(alloc, options.notes);
     match open(alloc, bytes) {
         Ok(opened) => {
-            let report = report_of(alloc, opened, options)?;
-            json_lines(alloc, file, &report, options.notes, limit)
+            let report = report_of(alloc, opened, options.infer, &weights)?;
+            json_lines(alloc, file, &report, limit)
         }
         Err(fault) => Err(fault),
     }

@@ -1,7 +1,7 @@
 //! What is found, of whatever source.
 ghost use Rattle.std.specs.Prelude.{◌≡◌, map, option_map, string_bytes};
 ghost use Rattle.arrow_values.specs.Texts.{text_of};
-ghost use Rattle.column_reports.specs.Found.{code_in, is_error, is_shown, column_in, path_in};
+ghost use Rattle.column_reports.specs.Found.{code_in, column_in, path_in};
 ghost use Rattle.column_reports.specs.Found.{metadata_if, part_in, pointer_in, byte_in, more_in};
 
 use crate::code::Code;
@@ -35,22 +35,6 @@ impl<'a> Finding<'a> {
             Finding::File(finding) => Code::File(finding.code),
             Finding::Geo(_, finding) => Code::Geo(finding.code),
         }
-    }
-
-    /// Returns whether the finding is an error: the file breaks a rule of its format, or
-    /// contradicts itself.
-    pub fn is_error(&self) -> bool
-        ensures { result ≡ is_error self.now }
-    {
-        self.code().severity().is_error()
-    }
-
-    /// Returns whether the finding is shown: a note is shown where notes are asked for, any other
-    /// finding always.
-    pub fn is_shown(&self, notes: bool) -> bool
-        ensures { result ≡ is_shown notes self.now }
-    {
-        notes || !self.code().severity().is_note()
     }
 
     /// Returns the name of the column, if the finding is of one. A finding of a column leaves it

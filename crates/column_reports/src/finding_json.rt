@@ -10,6 +10,7 @@ ghost use Rattle.column_reports.specs.FindingLines.{finding_text};
 
 use crate::finding::Finding;
 use crate::put::{put_number, put_number_if, put_text, put_text_if, put_texts};
+use crate::weighed::Weighed;
 use json::Writer;
 use std::alloc::{AllocError, Global};
 use value_tokens::text_of;
@@ -27,26 +28,28 @@ use value_tokens::text_of;
 ///     found: Some(String::from_str(alloc, "1")?),
 ///     wanted: None,
 /// };
-/// let line = finding_line(alloc, None, &Finding::Geo(Version::V1_1, finding))?;
+/// let finding = Finding::Geo(Version::V1_1, finding);
+/// let line = finding_line(alloc, None, &Weighed { severity: Severity::Error, finding })?;
 /// let text = r#"{"severity":"error","code":"GeoVersion","in":"geo","pointer":"/version","found":"1","expected":"1.1.0","help":"The rules of 1.1.0 are used."}"#;
 /// assert_eq!(rt; line.as_str(), text);
 ///
 /// let text = FooterText { bytes: &[0xff, b'a'], byte: 8 };
 /// let finding = Finding::Text(FooterFinding { code: FooterCode::KeyNotText, text });
-/// let line = finding_line(alloc, Some("a.parquet"), &finding)?;
+/// let note = Weighed { severity: Severity::Note, finding };
+/// let line = finding_line(alloc, Some("a.parquet"), &note)?;
 /// let text = r#"{"severity":"note","code":"KeyNotText","file":"a.parquet","in":"footer","byte":8,"found":"\\xffa","expected":"UTF-8","help":"It is passed over."}"#;
 /// assert_eq!(rt; line.as_str(), text);
 /// ```
 pub fn finding_line(
     alloc: Global,
     file: Option<&str>,
-    finding: &Finding<'_>,
+    found: &Weighed<'_>,
 ) -> Result<String, AllocError>
-    ensures text { IfOk result (λ line. string_bytes line ≡ finding_text (text_of file.entry) finding.now) }
+    ensures text { IfOk result (λ line. string_bytes line ≡ finding_text (text_of file.entry) found.now) }
     ensures one_line { IfOk result (λ line. All (λ b. b ≢ 10) (string_bytes line)) }
 {
     let mut out = Writer::new(Vec::new(alloc));
-    put_finding(alloc, &mut out, file, finding)?;
+    put_finding(alloc, &mut out, file, found)?;
     Ok(text_of(out))
 }
 
@@ -54,7 +57,7 @@ pub fn finding_line(
 pub(crate) fn put_findings(
     alloc: Global,
     out: &mut Writer,
-    findings: &[Finding<'_>],
+    findings: &[Weighed<'_>],
 ) -> Result<(), AllocError>
     ensures { OnOk result (AddsMembers (member_if (codes "warnings") (findings_in findings.now)) out.old out.new) }
 {
@@ -74,24 +77,23 @@ fn put_finding(
     alloc: Global,
     out: &mut Writer,
     file: Option<&str>,
-    finding: &Finding<'_>,
+    found: &Weighed<'_>,
 ) -> Result<(), AllocError>
-    ensures { OnOk result (Adds (json_tokens (finding_value (text_of file.entry) finding.now)) out.old out.new) }
+    ensures { OnOk result (Adds (json_tokens (finding_value (text_of file.entry) found.now)) out.old out.new) }
 {
     out.begin_object()?;
-    put_rule(out, file, finding)?;
-    put_place(out, finding)?;
-    put_words(alloc, out, finding)?;
+    put_rule(out, file, found)?;
+    put_place(out, &found.finding)?;
+    put_words(alloc, out, &found.finding)?;
     out.end_object()
 }
 
-/// Writes the rule, and the file.
-fn put_rule(out: &mut Writer, file: Option<&str>, finding: &Finding<'_>) -> Result<(), AllocError>
-    ensures { OnOk result (AddsMembers (rule_members (text_of file.entry) finding.now) out.old out.new) }
+/// Writes how much the finding counts, the rule, and the file.
+fn put_rule(out: &mut Writer, file: Option<&str>, found: &Weighed<'_>) -> Result<(), AllocError>
+    ensures { OnOk result (AddsMembers (rule_members (text_of file.entry) found.now) out.old out.new) }
 {
-    let code = finding.code();
-    put_text(out, "severity", code.severity().word())?;
-    put_text(out, "code", code.word())?;
+    put_text(out, "severity", found.severity.word())?;
+    put_text(out, "code", found.finding.code().word())?;
     put_text_if(out, "file", file)
 }
 

@@ -3,7 +3,8 @@ ghost use Rattle.std.specs.Prelude.{◌≡◌, IfOk, map};
 ghost use Rattle.arrow_values.specs.Texts.{text_of};
 ghost use Rattle.arrow_columns.specs.Column.{column_tree};
 ghost use Rattle.geoparquet.specs.Sources.{source};
-ghost use Rattle.column_reports.specs.FileReport.{source_in, text_in, AreColumnsBy};
+ghost use Rattle.column_reports.specs.FileReport.{source_in, text_of_bytes, text_in};
+ghost use Rattle.column_reports.specs.FileReport.{AreColumnsBy};
 
 use arrow_columns::SchemaColumn;
 use column_files::{Form, GeoText};
@@ -29,8 +30,18 @@ fn text_in<'g>(geo: &'g GeoText<'_>) -> Option<&'g str>
 {
     match geo {
         GeoText::Absent => None,
-        GeoText::Footer(text) => str::from_utf8(text.bytes).ok(),
+        GeoText::Footer(text) => utf8_in(text.bytes),
         GeoText::Schema(text) => Some(text.as_str()),
+    }
+}
+
+/// The text that bytes are, if they are one.
+fn utf8_in(bytes: &[u8]) -> Option<&str>
+    ensures { text_of result ≡ text_of_bytes bytes.now }
+{
+    match str::from_utf8(bytes) {
+        Ok(text) => Some(text),
+        Err(_) => None,
     }
 }
 

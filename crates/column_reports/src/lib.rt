@@ -3,7 +3,8 @@
 //! and [`Summary`] keeps what counts of it for the status; beside them its parts in words for people.
 //! The report of a file, [`FileReport`], is made by one call, [`report_of`]: its columns, what is found
 //! of the file, and what counts for the status; [`json_lines`] writes it. All that is found, of a column
-//! or of a file, is a [`Finding`], which [`finding_line`] writes as JSON and [`finding_words`] in words.
+//! or of a file, is a [`Finding`], which [`finding_line`] writes as JSON and [`finding_words`] in words;
+//! [`Weights`] say which findings are shown, and how much each counts.
 #![tactic(auto)]
 
 mod bytes;
@@ -24,6 +25,8 @@ mod said;
 mod sentence;
 mod shown_lines;
 mod summary;
+mod weighed;
+mod weights;
 mod words;
 
 pub use code::Code;
@@ -35,8 +38,10 @@ pub use line::json_line;
 pub use lines::json_lines;
 pub use parquet_columns::report_budget;
 pub use plain::reason_words;
-pub use report::{ColumnReport, Options, report_column};
+pub use report::{ColumnReport, Options, report_column, weighed_column};
 pub use sentence::finding_words;
 pub use shown_lines::finding_lines;
 pub use summary::Summary;
+pub use weighed::Weighed;
+pub use weights::{CodeWeight, Weight, Weights};
 pub use words::type_word;

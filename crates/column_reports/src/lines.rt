@@ -12,9 +12,8 @@ use json::Scratch;
 use std::alloc::{AllocError, Global};
 
 /// Returns the report of a file as lines of JSON, each with its line feed: one for each column
-/// (docs/FORMAT.md, 2.5), and behind them one for each finding of the file that is an error or a
-/// warning, and with `notes` for each note too (docs/FORMAT.md, 5.1). `file` is the name that the
-/// lines give the file, if any.
+/// (docs/FORMAT.md, 2.5), and behind them one for each finding of the file that is shown
+/// (docs/FORMAT.md, 5.1). `file` is the name that the lines give the file, if any.
 ///
 /// Errs with `ReportTooLarge` where the lines have more than `limit` bytes, as soon as those of the
 /// first columns have; and when out of memory.
@@ -22,15 +21,14 @@ pub fn json_lines(
     alloc: Global,
     file: Option<&str>,
     report: &FileReport<'_>,
-    notes: bool,
     limit: u128,
 ) -> Result<String, FileFault>
-    ensures { IsWithin limit (report_text (text_of file.entry) notes report.now) result }
+    ensures { IsWithin limit (report_text (text_of file.entry) report.now) result }
 {
     match column_lines(alloc, file, report.columns.as_slice(), limit) {
         Ok(lines) => {
             let findings = report.findings.as_slice();
-            let behind = finding_lines(alloc, file, findings, notes)?;
+            let behind = finding_lines(alloc, file, findings)?;
             let mut text = lines;
             text.push_str(behind.as_str())?;
             within(text, limit)

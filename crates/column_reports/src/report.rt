@@ -2,9 +2,11 @@
 ghost use Rattle.std.specs.Prelude.{IfOk};
 ghost use Rattle.arrow_columns.specs.Column.{column_tree};
 ghost use Rattle.column_reports.specs.Columns.{IsColumnReport};
+ghost use Rattle.column_reports.specs.Weights.{plain, weighing};
 
-use crate::finding::Finding;
 use crate::gathered::of_warnings;
+use crate::weighed::{Weighed, weigh};
+use crate::weights::Weights;
 use arrow_columns::SchemaColumn;
 use column_check::{inspect_column, warnings};
 use json::Scratch;
@@ -27,8 +29,8 @@ pub struct ColumnReport {
     pub column: SchemaColumn,
     /// What is said of it, as `inspect_column` of `column_check` answers it.
     pub finding: column_check::Finding,
-    /// What is found of it: what is doubtful, as `warnings` of `column_check` answers it.
-    pub findings: Vec<Finding<'static>>,
+    /// What is found of it and shown: of what is doubtful, as `warnings` of `column_check` answers it.
+    pub findings: Vec<Weighed<'static>>,
 }
 
 /// Returns a column with what is said of it and what is doubtful of it. The scratch buffer is kept by
@@ -52,11 +54,27 @@ pub fn report_column(
     column: SchemaColumn,
     options: Options,
 ) -> Result<ColumnReport, AllocError>
-    ensures { IfOk result (IsColumnReport options (column_tree column)) }
+    ensures { IfOk result (IsColumnReport options.infer (plain options.notes) (column_tree column)) }
 {
-    let finding = inspect_column(alloc, scratch, &column, options.infer)?;
-    let warnings = warnings(alloc, &column, &finding, options.notes)?;
-    let findings = of_warnings(alloc, warnings)?;
+    let weights = Weights::new(alloc, options.notes);
+    weighed_column(alloc, scratch, column, options.infer, &weights)
+}
+
+/// Returns a column with what is said of it and what is doubtful of it, as it counts by what is asked
+/// of findings. `infer` and the scratch buffer are as those of [`report_column`]. Errs only when out
+/// of memory.
+pub fn weighed_column(
+    alloc: Global,
+    scratch: &mut Scratch,
+    column: SchemaColumn,
+    infer: bool,
+    weights: &Weights,
+) -> Result<ColumnReport, AllocError>
+    ensures { IfOk result (IsColumnReport infer (weighing weights.now) (column_tree column)) }
+{
+    let finding = inspect_column(alloc, scratch, &column, infer)?;
+    let warnings = warnings(alloc, &column, &finding, true)?;
+    let findings = weigh(alloc, weights, of_warnings(alloc, warnings)?)?;
     Ok(ColumnReport {
         column,
         finding,

@@ -7,9 +7,10 @@ ghost use Rattle.column_reports.specs.FindingWords.{place_parts, placed, around,
 ghost use Rattle.column_reports.specs.FindingWords.{finding_words};
 
 use crate::finding::Finding;
+use crate::weighed::Weighed;
 use std::alloc::{AllocError, Global};
 
-/// Returns a finding in words (docs/FORMAT.md, 5.1): `SEVERITY[CODE] column NAME, at A.B, IN
+/// Returns a finding in words (docs/FORMAT.md, 5.1), as it counts: `SEVERITY[CODE] column NAME, at A.B, IN
 /// POINTER, byte N, and M more: found FOUND; expected EXPECTED. HELP`, where parts that do not
 /// apply are left out. Errs only when out of memory.
 ///
@@ -18,6 +19,7 @@ use std::alloc::{AllocError, Global};
 /// let found = Some(String::from_str(alloc, "nullable")?);
 /// let code = WarningCode::NullableInner;
 /// let finding = Finding::Column(Warning { code, path, pointer: None, found, more: 4 });
+/// let finding = Weighed { severity: Severity::Warning, finding };
 /// let text = "warning[NullableInner] at rings.vertices, and 4 more: found nullable; expected not null";
 /// assert_eq!(rt; finding_words(alloc, &finding)?.as_str(), text);
 ///
@@ -28,30 +30,32 @@ use std::alloc::{AllocError, Global};
 ///     found: Some(String::from_str(alloc, "\"2020\"")?),
 ///     wanted: None,
 /// };
-/// let words = finding_words(alloc, &Finding::Geo(Version::V1_1, finding))?;
+/// let finding = Finding::Geo(Version::V1_1, finding);
+/// let words = finding_words(alloc, &Weighed { severity: Severity::Error, finding })?;
 /// let text = "error[GeoEpoch] column geom, geo /columns/geom/epoch: found \"2020\"; expected a number. A number has no quotes.";
 /// assert_eq!(rt; words.as_str(), text);
 /// ```
-pub fn finding_words(alloc: Global, finding: &Finding<'_>) -> Result<String, AllocError>
-    ensures { IfOk result (λ text. string_bytes text ≡ finding_words finding.now) }
+pub fn finding_words(alloc: Global, found: &Weighed<'_>) -> Result<String, AllocError>
+    ensures { IfOk result (λ text. string_bytes text ≡ finding_words found.now) }
 {
-    let code = finding.code();
-    let severity = code.severity().word();
-    let word = code.word();
-    let place = placed(alloc, place_parts(alloc, finding)?)?;
+    let finding = &found.finding;
+    let severity = found.severity.word();
+    let word = finding.code().word();
+    let parts = place_parts(alloc, finding)?;
+    let place = placed(alloc, parts.as_slice())?;
     let said = said_words(alloc, finding)?;
     format!(in alloc; "{severity}[{word}]{place}: {said}")
 }
 
 /// The parts of a place behind a blank, with commas between them; nothing where there are none.
-fn placed(alloc: Global, parts: Vec<String>) -> Result<String, AllocError>
-    ensures { IfOk result (λ text. string_bytes text ≡ placed (map string_bytes parts.items)) }
+fn placed(alloc: Global, parts: &[String]) -> Result<String, AllocError>
+    ensures { IfOk result (λ text. string_bytes text ≡ placed (map string_bytes parts.now)) }
 {
     if parts.is_empty() {
         return Ok(String::new(alloc));
     }
-    let place = parts.as_slice().join(alloc, ", ")?;
-    format!(in alloc; " {place}")
+    let place = parts.join(alloc, ", ")?;
+    led(alloc, " ", place.as_str())
 }
 
 /// The parts of the place of a finding.
@@ -98,7 +102,7 @@ fn path_words(alloc: Global, path: &[String]) -> Result<Option<String>, AllocErr
         return Ok(None);
     }
     let names = path.join(alloc, ".")?;
-    Ok(Some(format!(in alloc; "at {names}")?))
+    Ok(Some(led(alloc, "at ", names.as_str())?))
 }
 
 /// The part of the file, and the pointer into it.
@@ -168,6 +172,13 @@ fn around(
         Some(text) => between(alloc, before, text.as_str(), behind),
         None => Ok(String::new(alloc)),
     }
+}
+
+/// A text behind another.
+fn led(alloc: Global, before: &str, text: &str) -> Result<String, AllocError>
+    ensures { IfOk result (λ s. string_bytes s ≡ before.now ++ text.now) }
+{
+    format!(in alloc; "{before}{text}")
 }
 
 /// A text between two others.

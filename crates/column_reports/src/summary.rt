@@ -3,8 +3,8 @@ ghost use Rattle.std.specs.Prelude.{◌≡◌, ◌||◌, false};
 ghost use Rattle.column_check.specs.States.{is_invalid, is_geometry};
 ghost use Rattle.column_reports.specs.Summary.{has_error, status};
 
-use crate::finding::Finding;
 use crate::report::ColumnReport;
+use crate::weighed::Weighed;
 
 /// What counts of a file for its status: of its columns, and of what is found of them and of it.
 #[derive(Debug, Clone, Copy)]
@@ -14,7 +14,7 @@ pub struct Summary {
     /// Whether a column holds geometries by its extension name: its state is `geometry`, and not
     /// `inferred`.
     pub has_geometry: bool,
-    /// Whether a finding, of a column or of the file, is an error.
+    /// Whether a finding, of a column or of the file, counts as an error.
     pub has_failed: bool,
 }
 
@@ -44,7 +44,7 @@ impl Summary {
     }
 
     /// Returns the status of a file that is reported to its end (`docs/FORMAT.md`, 2.7): 1 where a
-    /// column is invalid, where a finding is an error, or where what is asked of the file is not
+    /// column is invalid, where a finding counts as an error, or where what is asked of the file is not
     /// met, and else 0.
     ///
     /// ```rust
@@ -65,8 +65,8 @@ impl Summary {
     }
 }
 
-/// Returns whether one of some findings is an error.
-pub(crate) fn has_error(findings: &[Finding<'_>]) -> bool
+/// Returns whether one of some findings counts as an error.
+pub(crate) fn has_error(findings: &[Weighed<'_>]) -> bool
     ensures { result ≡ has_error findings.now }
 {
     findings.iter().any(|finding| finding.is_error())

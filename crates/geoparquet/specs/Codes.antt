@@ -1,8 +1,8 @@
 -- The codes of what may be found in the metadata of GeoParquet, and how much each weighs (docs/FORMAT.md, 5).
 use Rattle.std.specs.Prelude.{codes}
 use Rattle.arrow_values.specs.Tree.{Text}
-use Rattle.geoparquet.specs.declared.code.Severity.{Severity}
-use Rattle.geoparquet.specs.declared.code.Severity.TheVariants.{Error, Warning, Note}
+use Rattle.column_check.specs.declared.code.Severity.{Severity}
+use Rattle.column_check.specs.declared.code.Severity.TheVariants.{Error, Warning, Note}
 use Rattle.geoparquet.specs.declared.code.GeoCode.{GeoCode}
 use Rattle.geoparquet.specs.declared.code.GeoCode.TheVariants.{NoMetadata, NotJson, NotObject, Version, OldVersion, NewVersion, Columns, ColumnMissing, ColumnRepeated, Member, ColumnUndeclared, PrimaryColumn, Encoding, Layout, Types, TypesVersion, TypesContradict, Crs, CrsMalformed, Edges, Orientation, Epoch, Bbox, BboxOrder, BboxRange, BboxDimension, Covering, CoveringName, CoveringColumn, CoveringType, CoveringShape, CoveringAbsent, EncodingContradicts, CrsContradicts, CrsNotCompared, EdgesContradict, EdgesOnProjected}
 

@@ -6,6 +6,7 @@ pub mod Weights
 pub mod Nearest
 pub mod Words
 pub mod Rules
+pub mod Pairs
 pub mod Versions
 pub mod MemberRules
 pub mod TypeNames

@@ -1,5 +1,5 @@
 //! Bytes that are no text, as a finding shows them.
-ghost use Rattle.std.specs.Prelude.{◌≡◌, ◌++◌, IfOk, OnOk, string_bytes};
+ghost use Rattle.std.specs.Prelude.{◌≡◌, ◌<◌, ◌++◌, IfOk, OnOk, string_bytes};
 ghost use Rattle.geoparquet.specs.Spelled.{hex_digit, spelled_byte, spelled};
 
 use std::alloc::{AllocError, Global};

@@ -3,11 +3,11 @@ use Rattle.std.proofs.lemmas.List.{take_more, take_all}
 use Rattle.value_tokens.proofs.Adding.{sent}
 use Rattle.column_reports.specs.FindingLines.{finding_value, findings_in}
 use Rattle.column_reports.specs.Objects.{array_of, member_if, AddsMembers, AddsValues}
-use Rattle.column_reports.specs.declared.finding.Finding.{Finding}
+use Rattle.column_reports.specs.declared.weighed.Weighed.{Weighed}
 use Rattle.column_reports.proofs.Adding.{finished, array, named, one, one_more}
 use Rattle.column_reports.proofs.finding_json.put_findings.Goals as goal
 
-some_member : (fs : List Finding) → fs ≢ [] → member_if (codes "warnings") (findings_in fs) ≡ (codes "warnings", array_of (map (finding_value None) fs)) ∷ []
+some_member : (fs : List Weighed) → fs ≢ [] → member_if (codes "warnings") (findings_in fs) ≡ (codes "warnings", array_of (map (finding_value None) fs)) ∷ []
 some_member [] some = absurd (some refl)
 some_member (f ∷ fs) some = refl
 
