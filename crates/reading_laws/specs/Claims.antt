@@ -1,5 +1,5 @@
 -- When what a file says of its geometry columns is sound: no two of its sources contradict (docs/FORMAT.md, 5).
-use Rattle.std.specs.Prelude.{◌≡◌, Bool, true, false, List, [], All, Option, None, Some, codes}
+use Rattle.std.specs.Prelude.{◌≡◌, true, false, List, [], All, Option, None, Some, codes}
 use Rattle.std.specs.Str.{IsUtf8}
 use Rattle.json.specs.Json.{Json}
 use Rattle.json.specs.Find.{get}
