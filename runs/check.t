@@ -496,27 +496,37 @@ The status by what is found, notes too, of the files of a row each: how many, th
   >     geoarrow_check --quiet file
   >     echo $?
   > done | LC_ALL=C sort | uniq -c
-       24 0
-        3 CrsContradicts 1
+       40 0
+        1 ArrowSchemaNames 0
+        1 ArrowSchemaNames GeoEncoding 1
+        1 ArrowSchemaNames NameNotText 1
+        2 ArrowSchemaUnreadable 1
+       12 CrsContradicts 1
+        1 CrsContradicts GeoCrs 1
         2 CrsMalformed 1
         2 CrsNotCompared 0
-        2 EdgesContradict 1
-        1 EncodingContradicts 1
+        8 EdgesContradict 1
+        2 EncodingContradicts 1
+        1 EncodingContradicts GeoLayout 1
         1 GeoColumnMissing 1
+        1 GeoColumnMissing NameNotText 1
         1 GeoCoveringColumn 1
         3 GeoCoveringName 1
         2 GeoCoveringShape 0
         2 GeoCoveringType 1
-        1 GeoCrs 1
+        2 GeoCrs 1
         1 GeoEdges 1
-        2 GeoEncoding 1
+        4 GeoEncoding 1
         4 GeoLayout 1
         1 GeoNewVersion 0
-        4 GeoNotJson 1
+        9 GeoNotJson 1
         2 GeoOldVersion 0
         1 GeoTypes 1
         1 GeoTypesVersion 1
         1 GeoVersion 1
+        1 KeyNotText 0
+        3 NoGeoMetadata 0
+        2 RepeatedKey 0
         1 TypesContradict 1
 
 What is denied counts and is printed as an error; what is allowed is not printed and does not count: codes, and all warnings

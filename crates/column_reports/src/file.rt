@@ -6,7 +6,7 @@ ghost use Rattle.arrow_columns.specs.Column.{column_tree};
 ghost use Rattle.column_check.specs.States.{is_invalid, is_geometry};
 ghost use Rattle.column_reports.specs.FileReport.{AreReported, IsReport, Reports};
 ghost use Rattle.column_reports.specs.Summary.{has_error};
-ghost use Rattle.column_reports.specs.Weights.{weighing};
+ghost use Rattle.column_reports.specs.Weights.{plain, weighing};
 
 use crate::gathered::of_file;
 use crate::geo::{columns_by, source_of};
@@ -37,18 +37,31 @@ pub struct FileReport<'a> {
 }
 
 /// Returns the report of a file that was opened: what each of its columns holds and what is found
-/// of it, where the columns are those by its GeoParquet metadata; and what is found of the file. A
-/// column without an extension name is taken for what is inferred from its data type, if `infer` says
-/// so, and findings count by what is asked of them. Errs only when out of memory.
+/// of it, where the columns are those by its GeoParquet metadata; and what is found of the file.
+/// Errs only when out of memory.
 ///
 /// ```rust
 /// let bytes = br#"{"name":"id","nullable":true,"type":"int64"}"#;
 /// let Ok(opened) = open(alloc, bytes) else { return Ok(()); };
-/// let report = report_of(alloc, opened, false, &Weights::new(alloc, false))?;
+/// let report = report_of(alloc, opened, Options { infer: false, notes: false })?;
 /// assert_eq!(rt; report.columns.len(), 1);
 /// assert!(rt; !report.summary.has_invalid);
 /// ```
 pub fn report_of<'a>(
+    alloc: Global,
+    opened: File<'a>,
+    options: Options,
+) -> Result<FileReport<'a>, AllocError>
+    ensures { IfOk result (IsReport options.infer (plain options.notes) opened.entry) }
+{
+    let weights = Weights::new(alloc, options.notes);
+    weighed_report(alloc, opened, options.infer, &weights)
+}
+
+/// Returns the report of a file that was opened, as [`report_of`] does, but that findings count by
+/// what is asked of them. A column without an extension name is taken for what is inferred from its
+/// data type, if `infer` says so. Errs only when out of memory.
+pub fn weighed_report<'a>(
     alloc: Global,
     opened: File<'a>,
     infer: bool,
@@ -157,10 +170,9 @@ pub fn report_file(
     ensures { Reports (text_of file.entry) options bytes.now result }
 {
     let limit = report_budget(bytes.len());
-    let weights = Weights::new(alloc, options.notes);
     match open(alloc, bytes) {
         Ok(opened) => {
-            let report = report_of(alloc, opened, options.infer, &weights)?;
+            let report = report_of(alloc, opened, options)?;
             json_lines(alloc, file, &report, limit)
         }
         Err(fault) => Err(fault),

@@ -31,7 +31,7 @@ mod words;
 
 pub use code::Code;
 pub use fault::{fault_line, fault_text};
-pub use file::{FileReport, report_file, report_of};
+pub use file::{FileReport, report_file, report_of, weighed_report};
 pub use finding::Finding;
 pub use finding_json::finding_line;
 pub use line::json_line;

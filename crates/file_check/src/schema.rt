@@ -11,7 +11,7 @@ use crate::print::{Made, named_table};
 use crate::table::row_bytes;
 use arrow_columns::SchemaColumn;
 use column_files::{FileFault, Form, open_end};
-use column_reports::{ColumnReport, FileReport, json_lines, report_budget, report_of};
+use column_reports::{ColumnReport, FileReport, json_lines, report_budget, weighed_report};
 use std::alloc::{AllocError, Global};
 
 /// What is made of a file in that format by its end, before which so many bytes stand.
@@ -28,7 +28,7 @@ pub(crate) fn made_of_end(
     let limit = report_budget(end.len());
     match open_end(alloc, form, start, end) {
         Ok(opened) => {
-            let report = report_of(alloc, opened, asked.flags.infer, &asked.weights)?;
+            let report = weighed_report(alloc, opened, asked.flags.infer, &asked.weights)?;
             made_of(alloc, asked, file, report, limit)
         }
         Err(fault) => Err(fault),

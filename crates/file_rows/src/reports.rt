@@ -6,7 +6,7 @@
 use column_check::read_metadata;
 use column_files::{FileFault, Form, open, open_end};
 use column_reports::{
-    ColumnReport, Finding, Options, finding_words, reason_words, report_column, report_file,
+    ColumnReport, Options, Weighed, finding_words, reason_words, report_column, report_file,
     report_of,
 };
 use json::Scratch;
@@ -132,7 +132,7 @@ fn file_words(alloc: Global, bytes: &[u8]) -> Result<Vec<String>, FileFault> {
 }
 
 /// Findings in words.
-fn words_of(alloc: Global, findings: &[Finding<'_>]) -> Result<Vec<String>, AllocError> {
+fn words_of(alloc: Global, findings: &[Weighed<'_>]) -> Result<Vec<String>, AllocError> {
     let mut words = Vec::new(alloc);
     for finding in findings {
         words.push(finding_words(alloc, finding)?)?;

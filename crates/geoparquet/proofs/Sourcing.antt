@@ -1,11 +1,11 @@
 -- Columns, each with what its element says, and what a map of those has.
-use Rattle.std.proofs.Common.{◌≡◌, ◌<◌, ◌≤◌, ◌+◌, ℕ, Bool, true, false, cond, List, [], ◌∷◌, ◌++◌, Option, Some, None, is_some, option_map, bytes_eq, get_or, length, refl, sym, ap, ◌∙◌, subst, map, take, true≢false}
+use Rattle.std.proofs.Common.{◌≡◌, ◌≤◌, ℕ, Bool, true, false, cond, List, [], ◌∷◌, ◌++◌, Option, Some, None, is_some, option_map, bytes_eq, length, refl, sym, ap, ◌∙◌, subst, map, take, true≢false}
 use Rattle.std.specs.Borrow.{Bor}
 use Rattle.std.specs.BTreeMap.{BTreeMap, get_by}
 use Rattle.std.specs.Cmp.Lexicographic.{slice_cmp}
 use Rattle.std.specs.Ordering.{nat_cmp}
 use Rattle.std.specs.Option.{option_or}
-use Rattle.std.proofs.lemmas.List.{map-append, take_more, take_all}
+use Rattle.std.proofs.lemmas.List.{map-append, take_all}
 use Rattle.std.proofs.lemmas.List.Folds.{find-append}
 use Rattle.std.proofs.lemmas.Slice.Eq.{bytes_eq-Decides}
 use Rattle.arrow_values.specs.Tree.{Text}
@@ -70,9 +70,5 @@ element_taken ss s m n key same put none are name =
     (λ is. subst (λ q. is_some (at m q) ≡ false) (same ∙ (bytes_eq-Decides x.0.name name).0 is) none) (are name)
     ∙ ap first (sym (one_behind xs x name)) ∙ ap (λ ys. element_first ys name) (sym (map-append sourced ss (s ∷ [])))
 
-pub next_element : (ss : List Sourced) (i : ℕ) (d : Sourced) (m : Named) → i < length ss → AreElements (map sourced (take i ss ++ get_or ss i d ∷ [])) m
-    → AreElements (map sourced (take (i + 1) ss)) m
-next_element ss i d m lt are = subst (λ xs. AreElements (map sourced xs) m) (sym (take_more ss i d lt)) are
-
 pub all_elements : (ss : List Sourced) (i : ℕ) (m : Named) → length ss ≤ i → AreElements (map sourced (take i ss)) m → AreElements (map sourced ss) m
-all_elements ss i m past are = subst (λ xs. AreElements (map sourced xs) m) (take_all ss i past) are
+all_elements ss i m past are = subst (λ xs. AreElements (map sourced xs) m) (take_all i ss past) are

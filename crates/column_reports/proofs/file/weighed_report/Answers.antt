@@ -2,7 +2,7 @@ use Rattle.std.proofs.Common.{refl, map, ap, ◌∙◌, rules}
 use Rattle.arrow_columns.specs.Column.{column_tree}
 use Rattle.column_reports.specs.Weighed.{weighed}
 use Rattle.column_reports.specs.Weights.{weighing}
-use Rattle.column_reports.proofs.file.report_of.Goals as goal
+use Rattle.column_reports.proofs.file.weighed_report.Goals as goal
 
 pub returns : goal.returns
 returns c = record {
