@@ -20,8 +20,7 @@ use Rattle.geoparquet.specs.Counting.{edges_on_projected_findings}
 use Rattle.geoparquet.specs.Extensions.{IsJson}
 use Rattle.geoparquet.specs.Findings.{Finding}
 use Rattle.geoparquet.specs.Spelled.{spelled}
-use Rattle.geoparquet.specs.GeoFindings as parts
-use Rattle.geoparquet.specs.GeoFindings.{columns_findings, primary_findings, has_primary, key_finding, key_findings, part_findings, own_findings, value_findings, member_findings, members_findings, column_alone_findings, alone_findings, missing_findings, object_findings, json_findings, geo_findings, unread_finding, AreTextFindings, AreValueFindings, AreSourceFindings, AreGeoFindings}
+use Rattle.geoparquet.specs.GeoFindings.{columns_findings, primary_findings, has_primary, key_finding, key_findings, storage_findings, fact_findings, box_findings, covered_findings, claim_findings, part_findings, own_findings, value_findings, member_findings, members_findings, column_alone_findings, alone_findings, missing_findings, object_findings, json_findings, geo_findings, unread_finding, AreTextFindings, AreSourceFindings}
 use Rattle.geoparquet.specs.Ordered.{are_some, columns_of, has_member}
 use Rattle.geoparquet.specs.Pairs.{first_pair, differ, of_element, of_field, pair_findings, text_findings}
 use Rattle.geoparquet.specs.Rules.{unless, found_at, part_place}
@@ -83,7 +82,8 @@ otherwise false fs gs is h = h
 
 -- no pair is found where one would be an error
 no_pair : (code : GeoCode) (key name : Text) (found : Option Json) (element : Option Text) (field : Option Json) (own : Option Text) (a b c : Bool)
-    → is_error_of (severity_of code) ≡ true → HasNoError (pair_findings code key name found element field own (first_pair a b c)) → (a ≡ false) × (b ≡ false) × (c ≡ false)
+    → is_error_of (severity_of code) ≡ true → HasNoError (pair_findings code key name found element field own (first_pair a b c))
+    → (a ≡ false) × (b ≡ false) × (c ≡ false)
 no_pair code key name found element field own false false false is h = (refl, refl, refl)
 no_pair code key name found element field own false false true is h =
     absurd (no_first (found_at code (Some key) (part_place key name) found (option_map of_field own)) [] is h)
@@ -134,11 +134,17 @@ none_contradicts key found shown own element field said h =
 together : (key : Text) (c : Option ColumnTree) (e : Option Element) (f g k : Option Json) (encoding : Option Text) (crs : Option Claimed) (edges : Option Text)
     → HasNoError (encodings_findings key f c e encoding) → HasNoError (crs_claims_findings key g c e crs) → HasNoError (edges_claims_findings key k c e edges)
     → GoesTogether e c encoding crs edges
-together key c e f g k encoding crs edges no_encoding no_crs no_edges = record {
-  encodings = texts_one EncodingContradicts key (codes "encoding") f (element_encoding e) (field_encoding e c) encoding refl no_encoding;
-  crss = none_contradicts key g (claim_shown (element_crs e (element_json e c)) (element_json e c)) (field_json e c) (element_crs e (element_json e c)) (own_crs_in (field_json e c)) crs no_crs;
-  edges_said = texts_one EdgesContradict key (codes "edges") k (element_edges e (element_metadata e c)) (field_edges e (own_metadata c)) edges refl no_edges;
-}
+together key c e f g k encoding crs edges no_encoding no_crs no_edges =
+    let own = element_json e c in
+    let element = element_crs e own in
+    let field = field_json e c in
+    let edges_of_element = element_edges e (element_metadata e c) in
+    let edges_of_field = field_edges e (own_metadata c) in
+    record {
+      encodings = texts_one EncodingContradicts key (codes "encoding") f (element_encoding e) (field_encoding e c) encoding refl no_encoding;
+      crss = none_contradicts key g (claim_shown element own) field element (own_crs_in field) crs no_crs;
+      edges_said = texts_one EdgesContradict key (codes "edges") k edges_of_element edges_of_field edges refl no_edges;
+    }
 
 own_together : (key : Text) (c : Option ColumnTree) (e : Option Element) → HasNoError (own_findings key c e) → GoesTogether e c None None None
 own_together key c e h =
@@ -152,13 +158,20 @@ part_together : (cs : List ColumnTree) (version : Version) (key : Text) (c : Opt
     → HasNoError (part_findings cs version key c e j)
     → GoesTogether e c (layout_encoding version c j) (said_crs version (get (codes "crs") j)) (said_edges version (get (codes "edges") j))
 part_together cs version key c e j h =
-    let said = behind (parts.storage_findings version key c j ++ parts.fact_findings version key j ++ parts.box_findings version key c e j ++ parts.covered_findings cs version key c j) (parts.claim_findings version key c e j) h in
+    let storage = storage_findings version key c j in
+    let facts = fact_findings version key j in
+    let boxes = box_findings version key c e j in
+    let covered = covered_findings cs version key c j in
+    let said = behind (storage ++ facts ++ boxes ++ covered) (claim_findings version key c e j) h in
     let encodings = encoding_contradicts_findings version key c e j in
     let crss = crs_contradicts_findings version key c e j in
     let edges = edges_contradict_findings version key c e j in
     let three = before (encodings ++ crss ++ edges) (edges_on_projected_findings version key c e j) said in
     let two = before (encodings ++ crss) edges three in
-    together key c e (get (codes "encoding") j) (get (codes "crs") j) (get (codes "edges") j) (layout_encoding version c j) (said_crs version (get (codes "crs") j)) (said_edges version (get (codes "edges") j))
+    let encoding = get (codes "encoding") j in
+    let crs = get (codes "crs") j in
+    let edge = get (codes "edges") j in
+    together key c e encoding crs edge (layout_encoding version c j) (said_crs version crs) (said_edges version edge)
     (before encodings crss two)
     (behind encodings crss two)
     (behind (encodings ++ crss) edges three)
@@ -184,16 +197,19 @@ module _ (cs : List ColumnTree) (xs : List (ColumnTree × Option Element)) where
   sound_alone ms x h none = own_together x.0.name (Some x.0) x.1 (otherwise (has_member x.0.name ms) [] (own_findings x.0.name (Some x.0) x.1) none h)
 
   all_alone : (ms : List (Text × Json)) → HasNoError (alone_findings ms xs) → All (IsSoundAlone ms) xs
-  all_alone ms h = All-weaker (λ x. HasNoError (column_alone_findings ms x)) (IsSoundAlone ms) (sound_alone ms) xs (each IsNoError (column_alone_findings ms) xs h)
+  all_alone ms h =
+      let all = each IsNoError (column_alone_findings ms) xs h in
+      All-weaker (λ x. HasNoError (column_alone_findings ms x)) (IsSoundAlone ms) (sound_alone ms) xs all
 
   all_members : (version : Version) (ms : List (Text × Json)) → HasNoError (members_findings cs xs version ms) → All (IsSoundMember cs xs version) ms
   all_members version ms h =
-      All-weaker (λ m. HasNoError (member_findings cs xs version m)) (IsSoundMember cs xs version) (sound_member version) ms (each IsNoError (member_findings cs xs version) ms h)
+      let all = each IsNoError (member_findings cs xs version) ms h in
+      All-weaker (λ m. HasNoError (member_findings cs xs version m)) (IsSoundMember cs xs version) (sound_member version) ms all
 
   -- ---- what stands at the key
 
-  sound_object : (text : Text) (j : Json) → IsJson text j → is_object j ≡ true → HasNoError (object_findings cs xs j) → HasNoError (alone_findings (columns_of j) xs)
-      → IsSoundText text cs xs (version_of j) j
+  sound_object : (text : Text) (j : Json) → IsJson text j → is_object j ≡ true → HasNoError (object_findings cs xs j)
+      → HasNoError (alone_findings (columns_of j) xs) → IsSoundText text cs xs (version_of j) j
   sound_object text j json object h alone =
       let versions = version_findings j in
       let columns = columns_findings j in
@@ -202,11 +218,13 @@ module _ (cs : List ColumnTree) (xs : List (ColumnTree × Option Element)) where
       let four = before (versions ++ columns ++ primary ++ members) (missing_findings xs j) h in
       let three = before (versions ++ columns ++ primary) members four in
       let two = before (versions ++ columns) primary three in
+      let no_columns = found_at Columns None (codes "/columns") (get (codes "columns") j) None in
+      let no_primary = found_at PrimaryColumn None (codes "/primary_column") (get (codes "primary_column") j) None in
       record {
         json = json;
         object = object;
-        columns = kept (are_some (columns_of j)) (found_at Columns None (codes "/columns") (get (codes "columns") j) None) refl (behind versions columns two);
-        primary = kept (has_primary j) (found_at PrimaryColumn None (codes "/primary_column") (get (codes "primary_column") j) None) refl (behind (versions ++ columns) primary three);
+        columns = kept (are_some (columns_of j)) no_columns refl (behind versions columns two);
+        primary = kept (has_primary j) no_primary refl (behind (versions ++ columns) primary three);
         members = all_members (version_of j) (columns_of j) (behind (versions ++ columns ++ primary) members four);
         others = all_alone (columns_of j) alone;
       }
@@ -214,15 +232,19 @@ module _ (cs : List ColumnTree) (xs : List (ColumnTree × Option Element)) where
   sound_json : (text : Text) (j : Json) → IsJson text j → HasNoError (geo_findings cs xs j) → IsSoundText text cs xs (version_of j) j
   sound_json text j json h =
       let alone = behind (json_findings cs xs j) (alone_findings (columns_of j) xs) h in
-      let object = chosen (is_object j) (object_findings cs xs j) (found_at NotObject None [] (Some j) None) [] refl (before (json_findings cs xs j) (alone_findings (columns_of j) xs) h) in
+      let of_json = before (json_findings cs xs j) (alone_findings (columns_of j) xs) h in
+      let object = chosen (is_object j) (object_findings cs xs j) (found_at NotObject None [] (Some j) None) [] refl of_json in
       sound_object text j json object.0 object.1 alone
 
-  sound_text : (text : Text) (version : Version) (fs : List Finding) → AreTextFindings text cs xs version fs → HasNoError fs → (j : Json) × IsSoundText text cs xs version j
-  sound_text text version fs (inl (none, said, same)) h = absurd (no_first (unread_finding text) (alone_findings [] xs) refl (subst (λ gs. HasNoError gs) same h))
+  sound_text : (text : Text) (version : Version) (fs : List Finding) → AreTextFindings text cs xs version fs → HasNoError fs
+      → (j : Json) × IsSoundText text cs xs version j
+  sound_text text version fs (inl (none, said, same)) h =
+      absurd (no_first (unread_finding text) (alone_findings [] xs) refl (subst (λ gs. HasNoError gs) same h))
   sound_text text version fs (inr (j, json, said, same)) h =
       (j, subst (λ v. IsSoundText text cs xs v j) (sym said) (sound_json text j json (subst (λ gs. HasNoError gs) same h)))
 
-  sound_source : (geo : Source) (version : Version) (fs : List Finding) → AreSourceFindings geo cs xs version fs → HasNoError fs → IsSoundSource geo cs xs version
+  sound_source : (geo : Source) (version : Version) (fs : List Finding) → AreSourceFindings geo cs xs version fs → HasNoError fs
+      → IsSoundSource geo cs xs version
   sound_source unasked version fs (said, same) h = all_alone [] (subst (λ gs. HasNoError gs) same h)
   sound_source missing version fs (said, same) h = all_alone [] (behind (no_metadata_findings xs) (alone_findings [] xs) (subst (λ gs. HasNoError gs) same h))
   sound_source (value bytes) version fs (inl (utf8, are)) h = (utf8, sound_text bytes version fs are h)
