@@ -43,7 +43,7 @@ fn made_of(
     report: FileReport<'_>,
     limit: u128,
 ) -> Result<Made, FileFault>
-    ensures { MakesOf asked.now file.now limit report result }
+    ensures { MakesOf asked.now file.now limit report.entry result }
 {
     let found = found_in(alloc, asked.wants.as_slice(), report.columns.as_slice())?;
     let summary = report.summary;
