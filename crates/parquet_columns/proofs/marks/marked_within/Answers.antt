@@ -49,4 +49,4 @@ returns c =
     let es = map element c.args.children.now in
     let road = YieldsList-from_vec {s = c.into_iter-column-iterator.result} c.args.columns.items (search rules) (search rules) in
     let end = YieldsList-end road l.yielded l.column-iterator l.yielded_by c.next.result c.next.new.self c.in-None.is c.next.ensures.steps in
-    all_paid ps es _ l.yielded c.args.columns.items l.left c.args.amount (sym (map-id l.yielded) ∙ end.0) l.invariant.so_far l.invariant.said l.invariant.paid
+    all_paid ps es (record { columns = l.made; elements = l.elements }) l.yielded c.args.columns.items l.left c.args.amount (sym (map-id l.yielded) ∙ end.0) l.invariant.so_far l.invariant.said l.invariant.paid
