@@ -2,6 +2,8 @@ mod Leaves
 mod Shapes
 mod Walks
 mod Children
+mod Found
+mod Resolving
 mod Jsons
 mod Laters
 mod Maps
