@@ -1,12 +1,21 @@
 -- What is found of elements, one after the other.
-use Rattle.std.proofs.Common.{◌≡◌, ℕ, ◌+◌, ◌<◌, ◌≤◌, ◌==◌, List, [], ◌∷◌, ◌++◌, length, map, drop, get_or, refl, sym, ap, ◌∙◌, append_assoc}
+use Rattle.std.proofs.Common.{◌≡◌, ℕ, ◌+◌, ◌<◌, ◌≤◌, ◌==◌, Bool, true, false, true≢false, if◌then◌else◌, codes, None, List, [], ◌∷◌, ◌++◌, length, map, drop, get_or, refl, sym, ap, ◌∙◌, append_assoc}
 use Rattle.std.proofs.lemmas.List.{at_drop_more, drop_all, append-nil}
 use Rattle.parquet_footer.specs.declared.element.SchemaElement.{SchemaElement}
 use Rattle.parquet_footer.specs.Element.{Element, element}
 use Rattle.parquet_footer.specs.Footer.{Pairing}
 use Rattle.parquet_columns.specs.Geometry.{count_of}
 use Rattle.parquet_columns.specs.Findings.{Finding}
-use Rattle.parquet_columns.specs.Elements.{element_findings, next_below, findings_from}
+use Rattle.parquet_columns.specs.Elements.{of_element, is_empty_group, empty_group, element_findings, next_below, findings_from}
+use Rattle.parquet_columns.specs.declared.code.FileCode.TheVariants.{EmptyGroup}
+
+-- what is found of a group of no children
+pub of_group : (is_column : Bool) (e : Element) → is_empty_group e ≡ true → empty_group is_column e ≡ of_element EmptyGroup is_column e (codes "0 children") None ∷ []
+of_group is_column e yes = by_test (is_empty_group e) yes
+  where
+    by_test : (b : Bool) → b ≡ true → (if b then of_element EmptyGroup is_column e (codes "0 children") None ∷ [] else []) ≡ of_element EmptyGroup is_column e (codes "0 children") None ∷ []
+    by_test true is = refl
+    by_test false is = absurd (true≢false (sym is))
 
 first : (pairs : List Pairing) (below : ℕ) (e : Element) (es : List Element)
     → findings_from pairs below (e ∷ es) ≡ element_findings pairs (below == 0) e ++ findings_from pairs (next_below below (count_of e)) es

@@ -2,6 +2,7 @@ mod Leaves
 mod Shapes
 mod Walks
 mod Children
+mod Fitting
 mod Found
 mod Resolving
 mod Jsons

@@ -35,9 +35,10 @@ module _ (es : List Element) (cs : List ColumnTree) (made yielded : List SchemaC
   one_more : resolved_from 0 es cs (map column_tree (yielded ++ c ∷ [])) ≡ resolved_from 0 es cs (map column_tree yielded) ++ resolve child other (column_tree c) ∷ []
   one_more =
       let ys = map column_tree yielded in
+      let zero_more : 0 + length ys ≡ length ys = omega arith in
       let e : slice_get es (length ys) ≡ child = sym (element_is ∙ ap (slice_get es) here) in
       let o : slice_get cs (length ys) ≡ other = sym (column_is ∙ ap (slice_get cs) here) in
-      ap (resolved_from 0 es cs) (map-append column_tree yielded (c ∷ [])) ∙ resolved_more 0 es cs ys (column_tree c)
+      ap (resolved_from 0 es cs) (map-append column_tree yielded (c ∷ [])) ∙ resolved_more 0 es cs ys (column_tree c) ∙ ap (λ n. resolved_from 0 es cs ys ++ resolve (slice_get es n) (slice_get cs n) (column_tree c) ∷ []) zero_more
       ∙ ap (λ x. resolved_from 0 es cs ys ++ resolve x (slice_get cs (length ys)) (column_tree c) ∷ []) e
       ∙ ap (λ x. resolved_from 0 es cs ys ++ resolve child x (column_tree c) ∷ []) o
 

@@ -111,5 +111,4 @@ abbrev mutual
 abbrev pub type_fits : TypeTree → TypeTree → Bool
 type_fits (known t) (known s) = fits t s
 type_fits (known t) (other s) = are_same (sort_of t) (text_sort s)
-type_fits (other t) (known s) = are_same (text_sort t) (sort_of s)
-type_fits (other t) (other s) = are_same (text_sort t) (text_sort s)
+type_fits (other t) s = are_same (text_sort t) (any_sort s)

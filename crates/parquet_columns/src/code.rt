@@ -84,12 +84,16 @@ impl FileCode {
                 "the value of ARROW:schema is no base64, or no message of a schema",
             Self::ArrowSchemaNames =>
                 "the columns at ARROW:schema have other names than the elements, another number or another order",
-            Self::ArrowSchemaContradicts => "the type of a field at ARROW:schema does not fit the element, of a column that may hold geometries",
-            Self::GeoNotInFooter => "geo stands in the metadata of the schema at ARROW:schema, and has no value in the footer",
+            Self::ArrowSchemaContradicts =>
+                "the type of a field at ARROW:schema does not fit the element, of a column that may hold geometries",
+            Self::GeoNotInFooter =>
+                "geo stands in the metadata of the schema at ARROW:schema, and has no value in the footer",
             Self::EmptyGroup => "a group has no children",
-            Self::LogicalTypeInvalid => "a logical or converted type stands on a physical type that it does not go with",
+            Self::LogicalTypeInvalid =>
+                "a logical or converted type stands on a physical type that it does not go with",
             Self::UnknownAlgorithm => "the algorithm of a GEOGRAPHY has a number other than 0 to 4",
-            Self::CrsKeyMissing => "the CRS of a geometry type is projjson:KEY, and KEY has no value that is a JSON object",
+            Self::CrsKeyMissing =>
+                "the CRS of a geometry type is projjson:KEY, and KEY has no value that is a JSON object",
             Self::RepeatedKey => "geo or ARROW:schema stands several times with a value",
         }
     }
@@ -120,8 +124,10 @@ impl FileCode {
                 "The columns are those of the elements; remove the key or write it anew.",
             Self::ArrowSchemaNames =>
                 "The columns are those of the elements; remove the key or write it anew.",
-            Self::ArrowSchemaContradicts => "Readers that follow the stored schema cannot read the column; its type here is that of the element.",
-            Self::GeoNotInFooter => "Readers of GeoParquet look in the footer; it is not used here.",
+            Self::ArrowSchemaContradicts =>
+                "Readers that follow the stored schema cannot read the column; its type here is that of the element.",
+            Self::GeoNotInFooter =>
+                "Readers of GeoParquet look in the footer; it is not used here.",
             Self::EmptyGroup => "It is a struct of no fields.",
             Self::LogicalTypeInvalid => "Other readers refuse the file; the type is ignored here.",
             Self::UnknownAlgorithm => "The edges are not known; they are taken as spherical.",

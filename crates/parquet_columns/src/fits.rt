@@ -189,8 +189,11 @@ fn fields_fit(fields: &Fields, others: &Fields) -> bool
 pub(crate) fn type_fits(said: &AnyType, stored: &AnyType) -> bool
     ensures { result ≡ type_fits (type_tree said.now) (type_tree stored.now) }
 {
-    match (said, stored) {
-        (AnyType::Data(said), AnyType::Data(stored)) => fits(said, stored),
-        _ => are_same(any_sort(said), any_sort(stored)),
+    match said {
+        AnyType::Data(said) => match stored {
+            AnyType::Data(stored) => fits(said, stored),
+            AnyType::Other(text) => are_same(sort_of(said), text_sort(text.as_bytes())),
+        },
+        AnyType::Other(text) => are_same(text_sort(text.as_bytes()), any_sort(stored)),
     }
 }

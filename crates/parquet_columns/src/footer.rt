@@ -6,7 +6,7 @@ ghost use Rattle.parquet_footer.specs.Element.{element};
 ghost use Rattle.parquet_footer.specs.Footer.{contents, pairing};
 ghost use Rattle.parquet_columns.specs.Columns.{columns_of};
 ghost use Rattle.parquet_columns.specs.Findings.{finding, first_other, other_names};
-ghost use Rattle.parquet_columns.specs.declared.stored.Stored.TheVariants.{Schema};
+ghost use Rattle.parquet_columns.specs.declared.stored.Stored.TheVariants as holds;
 ghost use Rattle.parquet_columns.specs.Reads.{IsBuilt, names_seen, choice, by_names, geo_beside, chosen, IsReadWith, IsFooterRead};
 
 use crate::budget::report_budget;
@@ -141,7 +141,7 @@ fn of_schema(
     schema: Schema,
     columns: Vec<SchemaColumn>,
 ) -> Result<Unmarked, AllocError>
-    ensures { IfOk result (λ read. choice read ≡ chosen (contents footer.now) (Some (Schema schema)) (map column_tree columns.items)) }
+    ensures { IfOk result (λ read. choice read ≡ chosen (contents footer.now) (Some (holds.Schema schema)) (map column_tree columns.items)) }
 {
     let Schema {
         columns: stored,

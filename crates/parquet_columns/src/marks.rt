@@ -106,7 +106,10 @@ fn marked_by(
 }
 
 /// The child of the root at a place.
-pub(crate) fn child_at<'c, 'a>(children: &'c [SchemaElement<'a>], at: usize) -> Option<&'c SchemaElement<'a>>
+pub(crate) fn child_at<'c, 'a>(
+    children: &'c [SchemaElement<'a>],
+    at: usize,
+) -> Option<&'c SchemaElement<'a>>
     ensures { option_map (λ e. element e.now) result ≡ slice_get (map element children.now) at }
 {
     children.get(at)

@@ -23,7 +23,10 @@ use std::collections::BTreeMap;
 fn is_geometry_type(logical_type: Option<LogicalType<'_>>) -> bool
     ensures { result ≡ is_geometry_type (option_map logical logical_type.entry) }
 {
-    matches!(logical_type, Some(LogicalType::Geometry(_) | LogicalType::Geography(_, _)))
+    matches!(
+        logical_type,
+        Some(LogicalType::Geometry(_) | LogicalType::Geography(_, _))
+    )
 }
 
 /// Whether an element, if there is one, is of a geometry type.
