@@ -1,5 +1,5 @@
 -- What is said of a column, and what its field is read as.
-use Rattle.std.proofs.Common.{◌≡◌, ◌||◌, [], ◌∷◌, Bool, true, false, cond, bytes_eq, codes, Option, None, Some, option_map, option_and_then, refl, sym, ap, ◌∙◌}
+use Rattle.std.proofs.Common.{◌≡◌, ◌||◌, [], ◌∷◌, Bool, true, false, cond, bytes_eq, codes, Option, None, Some, option_map, refl, sym, ap, ◌∙◌}
 use Rattle.json.specs.Lex.{lex, punctuate}
 use Rattle.json.specs.Json.{value}
 use Rattle.serde_json.specs.Data.{Data}
@@ -23,7 +23,6 @@ use Rattle.geoarrow_schema.specs.Reads.{HasGeoArrowName, ReadsAsNone}
 use Rattle.geoarrow_schema.specs.Infers.{InfersAs, InfersNone}
 use Rattle.column_check.specs.OldNames.{current_name, has_old_name}
 use Rattle.column_check.specs.Metadata.{Values, values_of, is_planar, unless_planar, are_planar, TextDenotes, HasMetadataFault}
-use Rattle.column_check.specs.Warnings.{is_empty_text}
 use Rattle.column_check.specs.Types.{TypeAccepted, HasTypeFault}
 use Rattle.column_check.specs.Finding.{HasName, IsOfKind, IsTakenFor, IsInvalidFor}
 use Rattle.reading_laws.specs.Agrees.{values_in, is_odd_text, AgreesWithType, IsReadWhereWhole, HasNameUnlessOld, RefusesWithReading, PassesOverOldNames, AgreesWithInference, IsInferredWhereWhole}
