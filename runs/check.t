@@ -496,16 +496,23 @@ The status by what is found, notes too, of the files of a row each: how many, th
   >     geoarrow_check --quiet file
   >     echo $?
   > done | LC_ALL=C sort | uniq -c
-       40 0
+       42 0
+        4 ArrowSchemaContradicts 1
+        1 ArrowSchemaContradicts CrsContradicts 1
+        2 ArrowSchemaContradicts GeoLayout 1
+       11 ArrowSchemaContradicts NoGeoMetadata 1
         1 ArrowSchemaNames 0
         1 ArrowSchemaNames GeoEncoding 1
+        1 ArrowSchemaNames GeoNotInFooter 0
         1 ArrowSchemaNames NameNotText 1
         2 ArrowSchemaUnreadable 1
        12 CrsContradicts 1
         1 CrsContradicts GeoCrs 1
+        4 CrsKeyMissing 1
         2 CrsMalformed 1
         2 CrsNotCompared 0
         8 EdgesContradict 1
+        2 EmptyGroup 0
         2 EncodingContradicts 1
         1 EncodingContradicts GeoLayout 1
         1 GeoColumnMissing 1
@@ -518,16 +525,21 @@ The status by what is found, notes too, of the files of a row each: how many, th
         1 GeoEdges 1
         4 GeoEncoding 1
         4 GeoLayout 1
+        1 GeoLayout LogicalTypeInvalid 1
         1 GeoNewVersion 0
+        1 GeoNotInFooter 0
+        1 GeoNotInFooter NoGeoMetadata 0
         9 GeoNotJson 1
         2 GeoOldVersion 0
         1 GeoTypes 1
         1 GeoTypesVersion 1
         1 GeoVersion 1
         1 KeyNotText 0
+        3 LogicalTypeInvalid 1
         3 NoGeoMetadata 0
         2 RepeatedKey 0
         1 TypesContradict 1
+        1 UnknownAlgorithm 0
 
 What is denied counts and is printed as an error; what is allowed is not printed and does not count: codes, and all warnings
 
