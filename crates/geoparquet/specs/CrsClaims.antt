@@ -100,7 +100,7 @@ abbrev pub element_crs : Option Element → Option Json → Option Claimed
 element_crs None own = None
 element_crs (Some silent) own = None
 element_crs (Some (gives false)) own = Some default_claim
-element_crs (Some (gives true)) own = own_crs_in own
+element_crs (Some (gives true)) own = or_default (own_crs_in own)
 element_crs (Some (beside s)) own = or_default (own_crs_in own)
 
 -- ---- findings

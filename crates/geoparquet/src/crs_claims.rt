@@ -269,7 +269,7 @@ pub(crate) fn element_crs<'v, 'a>(
     };
     match element {
         ElementClaim::Silent => None,
-        ElementClaim::Given { names_crs: true } => own_crs_in(own),
+        ElementClaim::Given { names_crs: true } => or_default(own_crs_in(own), default),
         ElementClaim::Given { names_crs: false } => Some(default_claim(default)),
         ElementClaim::Beside(_) => or_default(own_crs_in(own), default),
     }
