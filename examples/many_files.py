@@ -2,10 +2,10 @@
 """Checks many files, a report for each as it comes, and one summary: examples/many_files.py [--with dask|threads|loop] [--infer] PATH..
 
 A PATH is a file, or a folder with all files in it but those whose names begin with `_` or `.`; `-` is a list of paths on standard input. A report is a
-line of JSON (geoarrow_fields.files): the `file`, its number of `columns`, its `geometries`, its `invalid` columns and what is found in its
-GeoParquet metadata in words, the `errors` apart from the `warnings`, and an `error` where it cannot be read, as one of 0 bytes, which never ends the run. The
+line of JSON (geoarrow_fields.files): the `file`, its number of `columns`, its `geometries`, its `invalid` columns and what is found in words, of its
+columns and of the file, the `errors` apart from the `warnings`; and an `error` where it cannot be read, as one of 0 bytes, which never ends the run. The
 summary is the last line. How far the run is stands on standard error where that is a terminal, and standard output is not. The status is 2 where
-a file cannot be read, 1 where a column is invalid or metadata have errors, otherwise 0.
+a file cannot be read, 1 where a column is invalid or what is found is an error, otherwise 0.
 
 `--scheduler ADDRESS` gives the files to the workers of a running Dask cluster. Each needs the package of `python/`, and the files under the same paths; a worker
 that lacks the package, or is lost, is an `error` of its files. With Spark, the package on each executor:
@@ -148,7 +148,7 @@ class Progress:
 def summary(counts: Dict[str, int], seconds: float) -> str:
     """The summary of a run."""
     return ("{files:,} files: {columns:,} columns, {geometries:,} of them geometries; {invalid:,} files with invalid columns, {errors:,} with errors "
-            "in metadata, {error:,} not read; ".format_map(counts) + f"{seconds:.1f} s")
+            "found, {error:,} not read; ".format_map(counts) + f"{seconds:.1f} s")
 
 
 WAYS = {"dask": dask_reports, "threads": thread_reports, "loop": loop_reports}

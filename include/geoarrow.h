@@ -38,8 +38,8 @@ extern "C" {
 /* What is asked of a line. */
 enum { GEOARROW_READ = 0, GEOARROW_INFER = 1, GEOARROW_CANON = 2, GEOARROW_COLUMNS = 3 };
 
-/* Options of geoarrow_report, 0 or a sum of these: infer a type for columns without an extension name; notes among the warnings of
- * columns and the findings (docs/FORMAT.md, 2.6 and 5). */
+/* Options of geoarrow_report, 0 or a sum of these: infer a type for columns without an extension name; notes among the findings, of
+ * columns and of the file (docs/FORMAT.md, 2.6, 4.3 and 5). */
 enum { GEOARROW_INFER_TYPES = 1, GEOARROW_NOTES = 2 };
 
 /* Statuses. */
@@ -63,9 +63,17 @@ uint8_t geoarrow_answer(uint8_t command, const uint8_t *line, size_t line_len, u
  * Statuses: as geoarrow_answer, and LIMIT, at which `out` and `*len` are unchanged. */
 uint8_t geoarrow_run(uint8_t command, const uint8_t *input, size_t input_len, uint8_t *out, size_t out_len, size_t *len);
 
-/* The report of a file, from its bytes: a line of JSON for each of its columns (docs/FORMAT.md, 2.5 to 2.7), and behind them, of a
- * Parquet file, one for each finding in its GeoParquet metadata (5.1), or one that says that it has columns of
- * geometries and no such metadata; each with a line feed behind it. Where the file is refused, the line that says why (2.8).
+/* The report of a file, from its bytes: a line of JSON for each of its columns (docs/FORMAT.md, 2.5 to 2.7), and behind them one for
+ * each finding beside the columns, in the footer of a Parquet file, in the schema that it stores and in GeoParquet metadata; each with
+ * a line feed behind it. Where the file is refused, the line that says why (2.8).
+ *
+ * A finding is an object, a line of its own, or of a column an item of the array `warnings`, which is the last member of its line. Its
+ * keys, in this order, of which those that do not apply are left out (5.1): `severity`, that is `error`, `warning` or `note`, and
+ * `code`; `file`; the place, that is `column`, `path`, an array of the names of child fields, `in`, the part of the file, `pointer`, a
+ * JSON pointer into it, and `byte`, a number; `found`, what stands there, `expected` and `help`, in words; and `more`, how many more of
+ * the code there are. Those of a column have neither `file` nor `column`, which its line has. As
+ * `{"severity":"error","code":"GeoEpoch","column":"g","in":"geo","pointer":"/columns/g/epoch","found":"\"2020\"","expected":"a number"}`.
+ *
  * `options` is 0 to 3, a sum of GEOARROW_INFER_TYPES and GEOARROW_NOTES. `name` is the name of the file in UTF-8, which the lines
  * have at `file`; where `name_len` is 0 they have none. Of an Arrow or Parquet file its end may stand for the file; a byte of an
  * Arrow file is then counted from the first byte given.

@@ -8,8 +8,9 @@ import re
 
 from .geo_json import ABSENT, Members, NotJson, Number, at, read
 
-# A CRS that is said: its value, None for one not known; whether it is a number of a database.
-Claim = collections.namedtuple("Claim", "value is_srid")
+# A CRS that is said: its value, None for one not known; whether it is a number of a database; and
+# whether it is the format's default, which nobody wrote.
+Claim = collections.namedtuple("Claim", "value is_srid is_default", defaults=(False, False))
 # What is compared: identifiers, a class, and what is equal of equal values.
 Identity = collections.namedtuple("Identity", "identifiers area equal")
 
@@ -49,6 +50,8 @@ def malformed(crs):
     for place, it in enumerate(ids if isinstance(ids, list) else ()):
         if identifier(it) is None:
             paths.append(("ids", place))
+    if ABSENT not in (crs.get("id"), ids):
+        paths.append(("ids",))
     return paths
 
 
@@ -150,7 +153,8 @@ def is_paired(claim):
 def verdict(one, other):
     """Whether two CRSs agree: the first row of the table that applies."""
     if one.value is None or other.value is None:
-        return "Agree" if one.value is other.value else "Contradict"
+        is_default = one.is_default or other.is_default
+        return "Agree" if one.value is other.value else "NotCompared" if is_default else "Contradict"
     a, b = identity(one), identity(other)
     if a.identifiers & b.identifiers or a.equal == b.equal:
         return "Agree"

@@ -3,9 +3,10 @@
     python3 -m interop.geo_findings [FILE ..]
 
 A model of its own, which shares no code with the crates: `findings` says the version by which
-metadata are judged, and what is found in them beside the columns of a file. The command answers the
-rows of `check_geo` in crates/file_rows/data/geo, or in the files that are named, and prints each
-whose answer is another; the last line is `N rows, M differ`, and the status is 1 where M is not 0.
+metadata are judged, and what is found in them beside the columns of a file and what the elements
+of a Parquet file say of these. The command answers the rows of `check_geo`, `check_missing` and
+`check_unasked` in crates/file_rows/data/geo, or in the files that are named, and prints each whose
+answer is another; the last line is `N rows, M differ`, and the status is 1 where M is not 0.
 """
 import collections
 import json
@@ -14,14 +15,26 @@ import re
 import sys
 
 from . import geo_crs
-from .geo_json import ABSENT, Members, NotJson, Number, at, read, shown, text_of
+from .finding_words import shown, shown_bytes
+from .geo_json import ABSENT, Members, NotJson, Number, at, read, text_of
 
 ROWS = pathlib.Path(__file__).resolve().parent.parent / "crates/file_rows/data/geo"
 NAME, METADATA = "ARROW:extension:name", "ARROW:extension:metadata"
 # The rule, the key of `columns`, a JSON pointer, what stands at that place, and what is wanted.
 Finding = collections.namedtuple("Finding", "code column pointer found wanted")
 
+# What a file has at `geo` where it has no value: nothing is missing, or it is a Parquet file.
+UNASKED, MISSING = (type(name, (), {})() for name in ("Unasked", "Missing"))
+# What the element of a column says beside it: nothing; all that the column has, where it may name a
+# CRS or not; or extension metadata, beside those of a column that has an extension name of its own.
+SILENT = None
+Given = collections.namedtuple("Given", "names_crs")
+Beside = collections.namedtuple("Beside", "metadata")
+# What a source says of a column: an encoding, a CRS, edges; each None where it says none.
+Claims = collections.namedtuple("Claims", "encoding crs edges")
+
 CODES = (
+    "NoGeoMetadata",
     "GeoNotJson", "GeoNotObject", "GeoVersion", "GeoOldVersion", "GeoNewVersion", "GeoColumns",
     "GeoColumnMissing", "GeoColumnRepeated", "GeoMember", "GeoColumnUndeclared", "GeoPrimaryColumn",
     "GeoEncoding", "GeoLayout", "GeoTypes", "GeoTypesVersion", "TypesContradict", "GeoCrs",
@@ -68,10 +81,17 @@ LIMITS = {"x": 180, "y": 90}
 
 
 class Judged:
-    """Metadata while they are judged: their value, the columns of the file, and what is found."""
+    """Metadata while they are judged: their value, the columns of the file, what their elements say
+    beside them, and what is found."""
 
-    def __init__(self, value, columns):
+    def __init__(self, value, columns, elements):
         self.value, self.columns, self.found = value, columns, []
+        self.elements = [*elements, *[SILENT] * (len(columns) - len(elements))]
+
+    def column(self, name):
+        """The first column of a name and what its element says, if there is one."""
+        pairs = zip(self.columns, self.elements)
+        return next((pair for pair in pairs if pair[0]["name"] == name), (None, SILENT))
 
     def add(self, code, column, path, wanted=None, name=None):
         pointer = "".join("/" + str(it).replace("~", "~0").replace("/", "~1") for it in path)
@@ -85,7 +105,7 @@ class Member:
 
     def __init__(self, judged, version, key, value):
         self.judged, self.version, self.key, self.value = judged, version, key, value
-        self.column = first(judged.columns, key)
+        self.column, self.element = judged.column(key)
         self.codes = set()
 
     def add(self, code, *path, wanted=None, name=None):
@@ -99,20 +119,26 @@ class Member:
         return not self.codes.isdisjoint(codes)
 
 
-def first(columns, name):
-    """The first column of a name, if there is one."""
-    return next((column for column in columns if column["name"] == name), None)
-
-
-def findings(text, columns):
-    """The version by which the metadata are judged, and what is found in them."""
+def findings(geo, columns, elements=()):
+    """The version by which the metadata are judged, and what is found of what a file has at `geo`:
+    a text, bytes that are no UTF-8, or nothing; beside its columns and what their elements say."""
+    judged = Judged(ABSENT, columns, elements)
+    if geo is MISSING:
+        add_missing(judged)
+    if geo in (MISSING, UNASKED):
+        add_elements(judged, ())
+        return V1_1, judged.found
     try:
-        value = read(text)
+        judged.value = value = read(geo if isinstance(geo, str) else geo.decode())
+    except UnicodeDecodeError:
+        judged.found.append(Finding("GeoNotJson", None, "", shown_bytes(geo), None))
     except NotJson:
-        return V1_1, [Finding("GeoNotJson", None, "", shown(text), None)]
-    judged = Judged(value, columns)
-    if not isinstance(value, Members):
-        judged.add("GeoNotObject", None, ())
+        judged.found.append(Finding("GeoNotJson", None, "", shown(geo), None))
+    else:
+        if not isinstance(value, Members):
+            judged.add("GeoNotObject", None, ())
+    if judged.found:
+        add_elements(judged, ())
         return V1_1, judged.found
     version = add_version(judged)
     members = value.get("columns")
@@ -122,7 +148,22 @@ def findings(text, columns):
         add_member(Member(judged, version, key, members.get(key)))
     if is_whole:
         add_undeclared(judged, members)
+    add_elements(judged, members.keys() if isinstance(members, Members) else ())
     return version, judged.found
+
+
+def add_missing(judged):
+    """That a Parquet file has no metadata, where a column is one of geometries by its field alone."""
+    pairs = zip(judged.columns, judged.elements)
+    if any(element is SILENT and encoding_claim(column) not in (None, "box") for column, element in pairs):
+        judged.found.append(Finding("NoGeoMetadata", None, "", None, None))
+
+
+def add_elements(judged, keys):
+    """What elements say beside the fields of columns that have no member of these keys."""
+    for column, element in zip(judged.columns, judged.elements):
+        if column["name"] not in keys:
+            add_alone(judged, column, element)
 
 
 def add_version(judged):
@@ -150,13 +191,14 @@ def add_columns(judged, members, is_whole):
 
 
 def add_undeclared(judged, members):
-    """The columns of geometries that have no member, but for boxes and the columns of coverings."""
+    """The columns that hold geometries by their element or their field, and have no member, but for
+    boxes and the columns of coverings."""
     paths = [at(members.get(key), "covering", "bbox", bound, 0)
              for key in members.keys() for bound in HIGH]
-    for column in judged.columns:
-        claim = encoding_claim(column)
+    for column, element in zip(judged.columns, judged.elements):
+        is_geometry = element is not SILENT or encoding_claim(column) not in (None, "box")
         name = column["name"]
-        if claim not in (None, "box") and name not in members.keys() and name not in paths:
+        if is_geometry and name not in members.keys() and name not in paths:
             judged.add("GeoColumnUndeclared", name, ("columns",), name=name)
 
 
@@ -167,6 +209,8 @@ def add_member(it):
         it.add("GeoColumnRepeated" if count else "GeoColumnMissing")
     if not isinstance(it.value, Members):
         it.add("GeoMember")
+        if it.column:
+            add_alone(it.judged, it.column, it.element)
         return
     is_old = it.version is OLD
     if not is_old:
@@ -388,9 +432,8 @@ def encoding_claim(column):
     return words.get(name)
 
 
-def own_metadata(it):
-    """The extension metadata of a column, where they are an object."""
-    text = (it.column or {}).get("metadata", {}).get(METADATA)
+def metadata_in(text):
+    """The extension metadata that a text is, where they are an object."""
     try:
         value = read(text or "")
     except NotJson:
@@ -398,13 +441,94 @@ def own_metadata(it):
     return value if isinstance(value, Members) else None
 
 
-def own_crs(it):
-    """The CRS that the column says by itself: its value, and whether it is one of a database."""
-    own = own_metadata(it)
-    value = own.get("crs") if own else ABSENT
+def crs_in(metadata):
+    """The CRS that extension metadata say, if they do: its value, and whether it is one of a database."""
+    value = metadata.get("crs") if metadata else ABSENT
     if value in (ABSENT, None, ""):
         return None
-    return geo_crs.Claim(value, own.get("crs_type") == "srid")
+    return geo_crs.Claim(value, metadata.get("crs_type") == "srid")
+
+
+def edges_in(metadata):
+    """The edges that extension metadata say, planar without any; None where they are no text."""
+    edges = metadata.get("edges") if metadata else None
+    return "planar" if edges in (ABSENT, None) else edges if isinstance(edges, str) else None
+
+
+DEFAULT_CRS = geo_crs.Claim("OGC:CRS84", False, True)
+NOTHING = Claims(None, None, None)
+
+
+def claims_of(column, element):
+    """What the element of a column says, and what its field says by itself."""
+    metadata = metadata_in(column.get("metadata", {}).get(METADATA))
+    edges = None if metadata is None else edges_in(metadata)
+    field = Claims(encoding_claim(column), crs_in(metadata), edges)
+    if element is SILENT:
+        return NOTHING, field
+    if isinstance(element, Given):
+        return Claims("WKB", (crs_in(metadata) if element.names_crs else None) or DEFAULT_CRS, edges), NOTHING
+    beside = metadata_in(element.metadata)
+    return Claims("WKB", crs_in(beside) or DEFAULT_CRS, edges_in(beside)), field
+
+
+# The facts on which sources may not agree, in the order of the codes of each verdict.
+FACTS = (("encoding", "EncodingContradicts", None), ("crs", "CrsContradicts", "CrsNotCompared"),
+         ("edges", "EdgesContradict", None))
+
+
+def verdict(fact, one, other):
+    if fact == "crs":
+        return geo_crs.verdict(one, other)
+    return "Agree" if one == other else "Contradict"
+
+
+def claim_text(claim):
+    """What a source says, as JSON, and as it is wanted."""
+    if isinstance(claim, geo_crs.Claim):
+        return (shown(text_of(claim.value)),) * 2
+    return text_of(claim), claim
+
+
+def disagreements(element, field, member):
+    """What the sources of a column do not agree on, by the first pair of sources that contradict, or
+    else by the first that are not compared: the code, the fact, what the field says where it is the
+    second of the pair, and what is wanted, which the first says."""
+    for fact, *codes in FACTS:
+        pairs = (("element", element, member), ("element", element, field), ("field", field, member))
+        claims = [(first, getattr(one, fact), getattr(other, fact), other is field)
+                  for first, one, other in pairs]
+        judged = [(*it, verdict(fact, *it[1:3])) for it in claims if None not in it]
+        for code, asked in zip(codes, ("Contradict", "NotCompared")):
+            found = next((it for it in judged if it[4] == asked), None)
+            if found:
+                first, one, other, is_field, _ = found
+                field_says = claim_text(other)[0] if is_field else None
+                yield code, fact, field_says, f"{claim_text(one)[1]} of the {first}"
+                break
+
+
+def add_alone(judged, column, element):
+    """What an element says beside the field of a column, without a member."""
+    for code, _, found, wanted in disagreements(*claims_of(column, element), NOTHING):
+        judged.found.append(Finding(code, column["name"], "", found, wanted))
+
+
+def add_contradictions(it):
+    """What the element, the field and the member of a column say of one fact."""
+    if it.column is None:
+        return
+    element, field = claims_of(it.column, it.element)
+    for code, fact, field_says, wanted in disagreements(element, field, claims_of_member(it)):
+        if field_says is None:
+            it.add(code, fact, wanted=wanted)
+        else:
+            it.judged.found.append(Finding(code, it.key, "", field_says, wanted))
+
+
+def claims_of_member(it):
+    """What a member of `columns` says: what is wrong by itself says nothing."""
+    return Claims(None if it.has("GeoLayout") else encoding_of(it), said_crs(it), said_edges(it))
 
 
 def said_crs(it):
@@ -414,37 +538,7 @@ def said_crs(it):
         return None
     if it.version is OLD and not (crs is None or isinstance(crs, (Members, str))):
         return None
-    return geo_crs.Claim("OGC:CRS84" if crs is ABSENT else crs, False)
-
-
-def effective_crs(it):
-    """The CRS that counts: the member's where it says one, or the column's own, or the default."""
-    said = said_crs(it)
-    return own_crs(it) or said if said is None or it.at("crs") is ABSENT else said
-
-
-def class_of(it):
-    crs = effective_crs(it)
-    return geo_crs.class_of(crs) if crs else None
-
-
-def add_contradictions(it):
-    """What the member says beside what the extension name and metadata of its column say."""
-    if it.column is None:
-        return
-    encoding, own = encoding_of(it), encoding_claim(it.column)
-    if encoding and own and own != encoding and not it.has("GeoLayout"):
-        it.add("EncodingContradicts", "encoding", wanted=own)
-    said, own = said_crs(it), own_crs(it)
-    if said and own:
-        code = {"Contradict": "CrsContradicts", "NotCompared": "CrsNotCompared"}.get(
-            geo_crs.verdict(said, own))
-        if code:
-            it.add(code, "crs", wanted=shown(text_of(own.value)))
-    own = own_metadata(it)
-    edges, own = said_edges(it), own_edges(own) if own else None
-    if edges and own and edges != own:
-        it.add("EdgesContradict", "edges", wanted=own)
+    return DEFAULT_CRS if crs is ABSENT else geo_crs.Claim(crs)
 
 
 def said_edges(it):
@@ -455,17 +549,24 @@ def said_edges(it):
     return edges if isinstance(edges, str) and edges in it.version.edges else None
 
 
-def own_edges(metadata):
-    edges = metadata.get("edges")
-    return "planar" if edges in (ABSENT, None) else edges if isinstance(edges, str) else None
+def effective_crs(it):
+    """The CRS that counts: the first that is said, by the element, the member and the field; or else
+    a default."""
+    element, field = claims_of(it.column, it.element) if it.column else (NOTHING, NOTHING)
+    claims = [crs for crs in (element.crs, said_crs(it), field.crs) if crs]
+    return next((crs for crs in claims if not crs.is_default), claims[0] if claims else None)
+
+
+def class_of(it):
+    crs = effective_crs(it)
+    return geo_crs.class_of(crs) if crs else None
 
 
 def edges_that_count(it):
-    """The edges of a member where it says some of the version, else the column's own, or planar."""
-    said = None if it.at("edges") is ABSENT else said_edges(it)
-    metadata = own_metadata(it)
-    own = None if said is not None or metadata is None else own_edges(metadata)
-    return next((edges for edges in (said, own) if edges is not None), "planar")
+    """The edges that count, by the same order; the field's are said where it has metadata."""
+    element, field = claims_of(it.column, it.element) if it.column else (NOTHING, NOTHING)
+    member = None if it.at("edges") is ABSENT else said_edges(it)
+    return next((edges for edges in (element.edges, member, field.edges) if edges), "planar")
 
 
 def on_projected(it):
@@ -473,40 +574,60 @@ def on_projected(it):
     return edges_that_count(it) != "planar" and class_of(it) == "projected"
 
 
-def answer(question):
+def asked(command, text):
+    """What a row asks: what there is at `geo`, the columns, and what their elements say, each behind
+    the line of its column: `element given`, `element given CRS`, or `element METADATA`."""
+    parts = text.split(" & ")
+    geo = {"check_missing": MISSING, "check_unasked": UNASKED}.get(command) or parts.pop(0)
+    geo = bytes.fromhex(geo) if command == "check_bytes" else geo
+    columns, elements = [], []
+    for part in filter(None, parts):
+        given = re.fullmatch("element given( CRS)?", part)
+        if given:
+            elements[-1] = Given(given[1] is not None)
+        elif part.startswith("element "):
+            elements[-1] = Beside(part.partition(" ")[2])
+        else:
+            columns.append(json.loads(part))
+            elements.append(SILENT)
+    return geo, columns, elements
+
+
+def answer(command, text):
     """The answer of a row: its version, and each finding."""
-    geo, *lines = question.split(" & ")
-    version, found = findings(geo, [json.loads(line) for line in lines])
+    version, found = findings(*asked(command, text))
     said = " & ".join("|".join("-" if part is None else part for part in it) for it in found)
     return version.name + (" " + said if said else "")
 
 
 def spelled(text):
-    """A text in which `<<1000|,|f%>>` stands for f0 to f999 with commas between them."""
+    """A text in which `<<1000|,|f%>>` stands for f0 to f999 with commas between them, and
+    `<<10..20|,|f%>>` for f10 to f19."""
     def numbered(found):
-        return found[2].join(found[3].replace("%", str(it)) for it in range(int(found[1])))
-    return re.sub(r"<<(\d+)\|([^|]*)\|(.*?)>>", numbered, text)
+        numbers = range(int(found[1] or 0), int(found[2]))
+        return found[3].join(found[4].replace("%", str(it)) for it in numbers)
+    return re.sub(r"<<(?:(\d+)\.\.)?(\d+)\|([^|]*)\|(.*?)>>", numbered, text)
 
 
 def rows_of(file):
-    """Each row of `check_geo` of a file: its line, its text and its answer."""
+    """Each row of these commands in a file: its line, the command, its text and its answer."""
     lines = file.read_text(encoding="utf-8").split("\n")
     place = 0
     while place + 1 < len(lines):
-        question = re.fullmatch(r"(?:\* )?check_geo (.*)", lines[place], re.DOTALL)
+        question = re.fullmatch(r"(?:\* )?(check_\w+) (.*)", lines[place], re.DOTALL)
         if question:
-            yield place + 1, spelled(question[1]), spelled(lines[place + 1])
+            yield place + 1, question[1], spelled(question[2]), spelled(lines[place + 1])
         place += 2 if lines[place] and lines[place][0] not in "#=" else 1
 
 
 def main(words):
     count = wrong = 0
     for file in map(pathlib.Path, words or sorted(ROWS.glob("*.rows"))):
-        for line, question, wanted in rows_of(file):
-            said = answer(question)
+        for line, command, question, wanted in rows_of(file):
+            said = answer(command, question)
             count, wrong = count + 1, wrong + (said != wanted)
             if said != wanted:
-                print(f"{file.name}:{line}: {question[:400]}\n  {wanted[:600]}\n  {said[:600]}")
+                print(f"{file.name}:{line}: {command} {question[:400]}\n  {wanted[:600]}\n  {said[:600]}")
     print(f"{count} rows, {wrong} differ")
     return 1 if wrong or not count else 0
 

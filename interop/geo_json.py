@@ -3,7 +3,7 @@ import json
 import math
 
 ABSENT = type("Absent", (), {"__bool__": lambda self: False})()  # what no value stands for
-LEVELS, SHOWN = 127, 120
+LEVELS = 127
 ESCAPES = {
     '"': '\\"', "\\": "\\\\", "\b": "\\b", "\f": "\\f", "\n": "\\n", "\r": "\\r", "\t": "\\t"}
 
@@ -91,8 +91,3 @@ def text_of(value):
 def escaped(character):
     code = ord(character)
     return ESCAPES.get(character) or (f"\\u{code:04x}" if code < 32 else character)
-
-
-def shown(text):
-    """The first 120 characters of a text, and two points where there are more."""
-    return text[:SHOWN] + ".." if len(text) > SHOWN else text

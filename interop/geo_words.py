@@ -3,11 +3,11 @@
 A model of its own, which shares no code with the crates: `line` is the line of JSON of a finding
 that `geo_findings` gives, `words` what a table says of it.
 """
-import json
-import pathlib
 import re
 
-FORMAT = pathlib.Path(__file__).resolve().parent.parent / "docs/FORMAT.md"
+from . import finding_words
+from .finding_words import tables, text_in
+
 VERSIONS = ("Old", "V1_0", "V1_1", "V2")
 ENCODINGS = ("WKB", "point", "linestring", "polygon", "multipoint", "multilinestring", "multipolygon")
 KINDS = ("Point", "LineString", "Polygon", "MultiPoint", "MultiLineString", "MultiPolygon",
@@ -17,27 +17,9 @@ CRS = ("GeographicCRS", "ProjectedCRS", "CompoundCRS", "BoundCRS", "GeodeticCRS"
        "EngineeringCRS", "ParametricCRS", "TemporalCRS")
 
 
-def table(head):
-    """The rows below the line of a table that begins so, each as its cells."""
-    lines = FORMAT.read_text(encoding="utf-8").split("\n")
-    begin = next(at for at, line in enumerate(lines) if line.startswith(f"| {head} |"))
-    rows = []
-    for line in lines[begin + 2:]:
-        if not line.startswith("|"):
-            return rows
-        rows.append([cell.strip() for cell in line.strip("|").split(" | ")])
-    return rows
-
-
-def text_in(cell):
-    """The text between backticks with which a cell begins, if it does."""
-    found = re.match("`([^`]*)`", cell)
-    return found and found[1]
-
-
-ROWS = {text_in(row[0]): row[1:] for row in table("code | severity | found where | pointer")}
+ROWS = {text_in(row[0]): row[1:] for row in tables("code | severity | found where | pointer")}
 BY_VERSION = {}
-for _words, *_cells in table("words by version"):
+for _words, *_cells in tables("words by version"):
     for _code in re.findall("`(\\w+)`", _words):
         _said = [text_in(cell) for cell in _cells]
         BY_VERSION[_code, _words.split(", ")[-1]] = [one or _said[2] for one in _said]
@@ -99,33 +81,21 @@ def help_of(code, version, found):
     return f"Did you mean {near}?" if near else said(code, "help", ROWS[code][4], version)
 
 
-def line(file, version, finding):
-    """The line of a finding (5.1)."""
+def parts(version, finding):
+    """The parts of a finding, by the rules of a version."""
     code = finding.code
-    parts = {
-        "severity": severity(code), "code": code, "file": file, "column": finding.column,
-        "in": "geo", "pointer": finding.pointer, "found": finding.found,
+    return {
+        "severity": severity(code), "code": code, "column": finding.column, "in": "geo",
+        "pointer": finding.pointer, "found": finding.found,
         "expected": expected(code, version, finding.wanted),
         "help": help_of(code, version, finding.found)}
-    there = {key: value for key, value in parts.items() if value is not None}
-    return json.dumps(there, ensure_ascii=False, separators=(",", ":"))
+
+
+def line(file, version, finding):
+    """The line of a finding (5.1)."""
+    return finding_words.line({**parts(version, finding), "file": file})
 
 
 def words(version, finding):
     """What a table says of a finding (5.1)."""
-    code = finding.code
-    column = "" if finding.column is None else f"column {finding.column}, "
-    pointer = f" {finding.pointer}" if finding.pointer else ""
-    found = "" if finding.found is None else f"found {finding.found}; "
-    helps = help_of(code, version, finding.found)
-    return (f"{severity(code)}[{code}] {column}geo{pointer}: {found}"
-            f"expected {expected(code, version, finding.wanted)}{f'. {helps}' if helps else ''}")
-
-
-def no_geo_line(file):
-    """The line of a file that has geometries and no metadata (5.1)."""
-    code, weight, _, words_expected = table("code | severity | found where | expected")[0]
-    parts = {"severity": weight, "code": text_in(code), "file": file,
-             "expected": text_in(words_expected)}
-    there = {key: value for key, value in parts.items() if value is not None}
-    return json.dumps(there, ensure_ascii=False, separators=(",", ":"))
+    return finding_words.words(parts(version, finding))

@@ -1,4 +1,4 @@
-"""Tests of the model of what is found in GeoParquet metadata: rows of `check_geo` want the same.
+"""Tests of the model of what is found in GeoParquet metadata: rows of its checks want the same.
 
 Run by interop/test, or alone by `python3 -m unittest interop.test_geo_findings`, at the top of the
 repository.
@@ -16,16 +16,16 @@ class Rows(unittest.TestCase):
         files = sorted(geo_findings.ROWS.glob("*.rows"))
         count = 0
         for file in files:
-            for line, question, wanted in geo_findings.rows_of(file):
+            for line, command, question, wanted in geo_findings.rows_of(file):
                 count += 1
                 with self.subTest(f"{file.name}:{line}"):
-                    self.assertEqual(geo_findings.answer(question), wanted)
+                    self.assertEqual(geo_findings.answer(command, question), wanted)
         self.assertGreater(count, 1000)
 
     def test_each_code_is_found_in_some_row(self):
         found = set()
         for file in geo_findings.ROWS.glob("*.rows"):
-            for _, _, wanted in geo_findings.rows_of(file):
+            for *_, wanted in geo_findings.rows_of(file):
                 parts = [it for it in wanted.split(" & ") if "|" in it]
                 found.update(it.split("|")[0].split(" ")[-1] for it in parts)
         self.assertEqual(found, set(geo_findings.CODES))

@@ -6,7 +6,7 @@
  * number past a list is sent as it is.
  *   answers  calls with room, with each size of buffer that is too small (of long texts some), and between guards; writes for each
  *            request its status in a byte (255 for a number that the header does not name), `*len` in eight, and the text
- *   faults   over the library of bin/faults: each request for memory refused, one at a time, which is told, or changes nothing of the answer
+ *   faults   over the library of bin/faults: each request for memory refused, one at a time: out of memory, or the same answer
  *   threads  all calls from eight threads at once
  *   stack    all calls from a thread with GEOARROW_STACK bytes of stack
  *   leaks    no calls: it forgets blocks of memory, so that a detector of leaks shows whether it works
@@ -141,9 +141,16 @@ static void answers(request_t *of) {
     if (has_text(of->status)) fwrite(of->text, 1, of->len, stdout);
 }
 
+/* Whether this is the answer of the request, all of it. */
+static int is_answer(const request_t *of, uint8_t status, size_t len, const uint8_t *out) {
+    return status == of->status && len == of->len && (!has_text(status) || !len || !memcmp(out, of->text, len));
+}
+
+/* A refused request leads to out of memory; or to the answer itself, where it asked for room that might be needed, and what is needed fits into less. */
 static void faults(request_t *of) {
     uint8_t status;
-    size_t len, least = has_text(of->status) ? of->len : 0;
+    int was_refused = 0;
+    size_t len, lost = 0, least = has_text(of->status) ? of->len : 0;
     uint8_t *out = room_for(least);
     for (size_t at = 1;; at++) {
         memset(out, 0xa5, least);
@@ -153,12 +160,14 @@ static void faults(request_t *of) {
         void *was = take((size_t)1 << 61);
         if (!was) break;
         give(was);
-        int is_answer = status == of->status && len == of->len && (!least || !memcmp(out, of->text, least));
-        int is_told = status == GEOARROW_MEMORY && len == UNSET;
-        for (size_t i = 0; i < least; i++) is_told = is_told && out[i] == 0xa5;
-        judge(is_told || is_answer, of, "a refused request for memory");
+        int is_right = status == GEOARROW_MEMORY && len == UNSET;
+        for (size_t i = 0; i < least; i++) is_right = is_right && out[i] == 0xa5;
+        lost += is_right;
+        judge(is_right || is_answer(of, status, len, out), of, "a refused request for memory");
+        was_refused = 1;
     }
-    judge(status == of->status && len == of->len && (!least || !memcmp(out, of->text, least)), of, "another answer behind a refused request");
+    judge(!was_refused || lost, of, "no refused request is out of memory");
+    judge(is_answer(of, status, len, out), of, "another answer behind a refused request");
     give(out);
 }
 

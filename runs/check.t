@@ -4,6 +4,7 @@ The first example of the README: a table
   column     holds                                     CRS        edges
   id         int64
   outline    multipolygon interleaved XYZ              EPSG:4326  spherical
+      warning[NullableInner] at item: found nullable; expected not null
   any        geometry separated -                                 planar
   footprint  wkb - -                                              planar
   label      invalid geoarrow.wkb
@@ -16,7 +17,7 @@ The first example of the README: a table
 Several files, each under its name; a CRS by its code, its name or its text; an extension; what is inferred; places of faults; names that control terminals
 
   $ cat > "$TMPDIR/one" << 'END'
-  > {"metadata":{"ARROW:extension:metadata":"{\"crs\":{\"name\":\"WGS 84\",\"scale\":0.5}}","ARROW:extension:name":"geoarrow.wkb"},"name":"named","nullable":true,"type":"binary"}
+  > {"metadata":{"ARROW:extension:metadata":"{\"crs\":{\"type\":\"GeographicCRS\",\"name\":\"WGS 84\",\"scale\":0.5}}","ARROW:extension:name":"geoarrow.wkb"},"name":"named","nullable":true,"type":"binary"}
   > {"metadata":{"ARROW:extension:metadata":"{\"crs\":{\"id\":{\"authority\":\"OGC\",\"code\":\"CRS84\"}}}","ARROW:extension:name":"geoarrow.wkb"},"name":"code","nullable":true,"type":"binary"}
   > {"metadata":{"ARROW:extension:metadata":"{\"crs\":\"0123456789012345678901234567890123456789x\"}","ARROW:extension:name":"geoarrow.wkb"},"name":"long","nullable":true,"type":"binary"}
   > {"metadata":{"ARROW:extension:metadata":"{\"crs\":4326.5}","ARROW:extension:name":"geoarrow.wkb"},"name":"number","nullable":true,"type":"binary"}
@@ -29,11 +30,11 @@ Several files, each under its name; a CRS by its code, its name or its text; an 
   column    holds                        CRS                                       edges
   named     wkb - -                      WGS 84                                    planar
   code      wkb - -                      OGC:CRS84                                 planar
+      error[CrsMalformed] extension metadata /crs/type: expected PROJJSON. projinfo -o PROJJSON prints it, as of EPSG:4326.
   long      wkb - -                      01234567890123456789012345678901234567..  planar
-      CRS without crs_type
+      warning[CrsWithoutType] extension metadata /crs: found "0123456789012345678901234567890123456789x"; expected PROJJSON, WKT, a code as EPSG:4326, or a crs_type
   number    wkb - -                      a CRS                                     planar
-      CRS without crs_type
-      CRS is neither an object nor a text
+      warning[CrsNumber] extension metadata /crs: found 4326.5; expected an object or a text
   flag?[1m  extension arrow.bool8
   bad       invalid geoarrow.linestring
       unexpected number of fields at v
@@ -76,7 +77,7 @@ Columns of Parquet files
   $ geoarrow_check ../crates/geoarrow_check/data/stored.parquet
   column  holds          CRS  edges
   g       large_wkb - -       planar
-  warning[NoGeoMetadata]: expected metadata of GeoParquet at the key geo
+  warning[NoGeoMetadata] geo: expected metadata of GeoParquet at the key geo
 
   $ geoarrow_check --json - < ../crates/geoarrow_check/data/plain.parquet
   {"column":"g","index":0,"state":"plain","type":"binary"}
@@ -164,7 +165,7 @@ Lines of JSON
 
   $ geoarrow_check --json --infer ../examples/schema.jsonl
   {"column":"id","file":"../examples/schema.jsonl","index":0,"state":"plain","type":"int64"}
-  {"column":"outline","crs":"EPSG:4326","crs_type":"authority_code","edges":"spherical","extension":"geoarrow.multipolygon","file":"../examples/schema.jsonl","index":1,"state":"geometry","type":"multipolygon interleaved XYZ"}
+  {"column":"outline","crs":"EPSG:4326","crs_type":"authority_code","edges":"spherical","extension":"geoarrow.multipolygon","file":"../examples/schema.jsonl","index":1,"state":"geometry","type":"multipolygon interleaved XYZ","warnings":[{"severity":"warning","code":"NullableInner","path":["item"],"found":"nullable","expected":"not null"}]}
   {"column":"any","edges":"planar","extension":"geoarrow.geometry","file":"../examples/schema.jsonl","index":2,"state":"geometry","type":"geometry separated -"}
   {"column":"footprint","crs_type":"srid","edges":"planar","extension":"geoarrow.wkb","file":"../examples/schema.jsonl","index":3,"state":"geometry","type":"wkb - -"}
   {"column":"label","extension":"geoarrow.wkb","file":"../examples/schema.jsonl","index":4,"reasons":[{"code":"WrongStorage","message":"well-known binary needs a binary type, and well-known text a text type","path":[]}],"state":"invalid","type":"utf8"}
@@ -220,23 +221,23 @@ A blank line is passed over, wherever it stands, and counts as a line
 What is said with notes alone: a number in a CRS that is not whole
 
   $ cat > "$TMPDIR/projjson" << 'END'
-  > {"metadata":{"ARROW:extension:metadata":"{\"crs\":{\"id\":{\"authority\":\"EPSG\",\"code\":4326},\"scale\":0.5}}","ARROW:extension:name":"geoarrow.wkb"},"name":"g","nullable":true,"type":"binary"}
+  > {"metadata":{"ARROW:extension:metadata":"{\"crs\":{\"type\":\"GeographicCRS\",\"name\":\"WGS 84\",\"id\":{\"authority\":\"EPSG\",\"code\":4326},\"scale\":0.5}}","ARROW:extension:name":"geoarrow.wkb"},"name":"g","nullable":true,"type":"binary"}
   > {"metadata":{"ARROW:extension:metadata":"","ARROW:extension:name":"geoarrow.wkb"},"name":"e","nullable":true,"type":"binary"}
   > END
   > cd "$TMPDIR" && geoarrow_check projjson && geoarrow_check --notes projjson && geoarrow_check --json - < projjson && geoarrow_check --notes --json - < projjson
   column  holds    CRS        edges
   g       wkb - -  EPSG:4326  planar
   e       wkb - -             planar
-      metadata is an empty text
+      warning[MetadataEmpty]: found ""; expected no metadata, or {}. It is read as no metadata.
   column  holds    CRS        edges
   g       wkb - -  EPSG:4326  planar
-      CRS has a number that is not whole
+      note[CrsNotWhole] extension metadata /crs: expected whole numbers. For this alone read and canon of geoarrow_fields refuse the field; other readers do not.
   e       wkb - -             planar
-      metadata is an empty text
-  {"column":"g","crs":{"id":{"authority":"EPSG","code":4326},"scale":0.5},"edges":"planar","extension":"geoarrow.wkb","index":0,"state":"geometry","type":"wkb - -"}
-  {"column":"e","edges":"planar","extension":"geoarrow.wkb","index":1,"state":"geometry","type":"wkb - -","warnings":[{"code":"MetadataEmpty","message":"metadata is an empty text","path":[]}]}
-  {"column":"g","crs":{"id":{"authority":"EPSG","code":4326},"scale":0.5},"edges":"planar","extension":"geoarrow.wkb","index":0,"state":"geometry","type":"wkb - -","warnings":[{"code":"CrsNotWhole","message":"CRS has a number that is not whole","path":[]}]}
-  {"column":"e","edges":"planar","extension":"geoarrow.wkb","index":1,"state":"geometry","type":"wkb - -","warnings":[{"code":"MetadataEmpty","message":"metadata is an empty text","path":[]}]}
+      warning[MetadataEmpty]: found ""; expected no metadata, or {}. It is read as no metadata.
+  {"column":"g","crs":{"type":"GeographicCRS","name":"WGS 84","id":{"authority":"EPSG","code":4326},"scale":0.5},"edges":"planar","extension":"geoarrow.wkb","index":0,"state":"geometry","type":"wkb - -"}
+  {"column":"e","edges":"planar","extension":"geoarrow.wkb","index":1,"state":"geometry","type":"wkb - -","warnings":[{"severity":"warning","code":"MetadataEmpty","found":"\"\"","expected":"no metadata, or {}","help":"It is read as no metadata."}]}
+  {"column":"g","crs":{"type":"GeographicCRS","name":"WGS 84","id":{"authority":"EPSG","code":4326},"scale":0.5},"edges":"planar","extension":"geoarrow.wkb","index":0,"state":"geometry","type":"wkb - -","warnings":[{"severity":"note","code":"CrsNotWhole","in":"extension metadata","pointer":"/crs","expected":"whole numbers","help":"For this alone read and canon of geoarrow_fields refuse the field; other readers do not."}]}
+  {"column":"e","edges":"planar","extension":"geoarrow.wkb","index":1,"state":"geometry","type":"wkb - -","warnings":[{"severity":"warning","code":"MetadataEmpty","found":"\"\"","expected":"no metadata, or {}","help":"It is read as no metadata."}]}
 
 Names of files that would control a terminal, or stand on two lines: above a table, and in all that is said
 
@@ -495,54 +496,183 @@ The status by what is found, notes too, of the files of a row each: how many, th
   >     geoarrow_check --quiet file
   >     echo $?
   > done | LC_ALL=C sort | uniq -c
-       24 0
-        3 CrsContradicts 1
+       40 0
+        1 ArrowSchemaNames 0
+        1 ArrowSchemaNames GeoEncoding 1
+        1 ArrowSchemaNames NameNotText 1
+        2 ArrowSchemaUnreadable 1
+       12 CrsContradicts 1
+        1 CrsContradicts GeoCrs 1
         2 CrsMalformed 1
         2 CrsNotCompared 0
-        2 EdgesContradict 1
-        1 EncodingContradicts 1
+        8 EdgesContradict 1
+        2 EncodingContradicts 1
+        1 EncodingContradicts GeoLayout 1
         1 GeoColumnMissing 1
+        1 GeoColumnMissing NameNotText 1
         1 GeoCoveringColumn 1
         3 GeoCoveringName 1
         2 GeoCoveringShape 0
         2 GeoCoveringType 1
-        1 GeoCrs 1
+        2 GeoCrs 1
         1 GeoEdges 1
-        2 GeoEncoding 1
+        4 GeoEncoding 1
         4 GeoLayout 1
         1 GeoNewVersion 0
-        4 GeoNotJson 1
+        9 GeoNotJson 1
         2 GeoOldVersion 0
         1 GeoTypes 1
         1 GeoTypesVersion 1
         1 GeoVersion 1
+        1 KeyNotText 0
+        3 NoGeoMetadata 0
+        2 RepeatedKey 0
         1 TypesContradict 1
 
-The codes of findings, without a file: as many as docs/FORMAT.md, 5 and 2.6, have
+What is denied counts and is printed as an error; what is allowed is not printed and does not count: codes, and all warnings
 
-  $ geoarrow_check --codes | sed 's/:.*//' | head -3
-  error[GeoNotJson]
-  error[GeoNotObject]
-  error[GeoVersion]
+  $ geoarrow_check --allow GeoTypes --allow=GeoBboxOrder ../crates/geoarrow_check/data/geo.parquet
+  column  holds    CRS        edges
+  geom    wkb - -  OGC:CRS84  planar
+  place   wkb - -  EPSG:4326  planar
+  region  wkb - -  OGC:CRS84  karney
+  warning[GeoColumnUndeclared] column place, geo /columns: found "place"; expected a member for the column. Readers of GeoParquet do not see the column.
+  warning[GeoColumnUndeclared] column region, geo /columns: found "region"; expected a member for the column. Readers of GeoParquet do not see the column.
 
-  $ geoarrow_check --codes | sed -E 's/^([a-z]+)\[(.*)\]: (.*)/| `\2` | \1 | `\3` /' | head -37 > "$TMPDIR/codes"
-  > grep -oE '^\| `[A-Za-z]+` \| (error|warning|note) \| `[^`]*` ' ../docs/FORMAT.md | cmp - "$TMPDIR/codes"
-  $ geoarrow_check --codes x --json | wc -l
-  44
+  $ geoarrow_check --json --deny GeoColumnUndeclared --allow GeoTypes --allow GeoBboxOrder ../crates/geoarrow_check/data/geo.parquet | sed -n 's/^{\("severity":"[a-z]*","code":"[A-Za-z]*"\).*/\1/p'
+  "severity":"error","code":"GeoColumnUndeclared"
+  "severity":"error","code":"GeoColumnUndeclared"
 
-  $ geoarrow_check --explain GeoEpoch && geoarrow_check --explain=CrsNotWhole && geoarrow_check --explain NoGeoMetadata
+  $ for words in '' '--deny warnings' '--deny NoGeoMetadata' '--allow warnings' '--allow NoGeoMetadata'
+  > do
+  >     geoarrow_check $words ../crates/geoarrow_check/data/stored.parquet | tail -n +3
+  >     geoarrow_check --quiet $words ../crates/geoarrow_check/data/stored.parquet
+  >     echo $?
+  > done
+  warning[NoGeoMetadata] geo: expected metadata of GeoParquet at the key geo
+  0
+  error[NoGeoMetadata] geo: expected metadata of GeoParquet at the key geo
+  1
+  error[NoGeoMetadata] geo: expected metadata of GeoParquet at the key geo
+  1
+  0
+  0
+
+A code counts before all warnings, in any order of the words; of the same twice the later word counts
+
+  $ for words in '--deny warnings --allow NoGeoMetadata' '--allow NoGeoMetadata --deny warnings' '--allow warnings --deny NoGeoMetadata' '--deny NoGeoMetadata --allow warnings' \
+  >     '--deny NoGeoMetadata --allow NoGeoMetadata' '--allow NoGeoMetadata --deny NoGeoMetadata' '--deny warnings --allow warnings' '--allow warnings --deny warnings' \
+  >     '--deny NoGeoMetadata --allow NoGeoMetadata --deny NoGeoMetadata' '--deny GeoTypes --allow GeoTypes'
+  > do
+  >     geoarrow_check --quiet $words ../crates/geoarrow_check/data/stored.parquet
+  >     echo $?
+  > done | tr '\n' ' '
+  > echo
+  0 0 1 1 0 1 0 1 1 0 
+
+A note that is denied is shown, whether notes are or not; all warnings are no notes; errors are denied already
+
+  $ cat > "$TMPDIR/notes" << 'END'
+  > {"metadata":{"ARROW:extension:metadata":"{\"crs\":{\"type\":\"GeographicCRS\",\"name\":\"WGS 84\",\"scale\":0.5}}","ARROW:extension:name":"geoarrow.wkb"},"name":"g","nullable":true,"type":"binary"}
+  > {"metadata":{"ARROW:extension:metadata":"","ARROW:extension:name":"geoarrow.wkb"},"name":"e","nullable":true,"type":"binary"}
+  > END
+  > cd "$TMPDIR" && for words in '--deny CrsNotWhole' '--deny warnings' '--notes --deny warnings' '--notes --allow CrsNotWhole' '--allow warnings' '--allow warnings --allow CrsNotWhole --notes'
+  > do
+  >     geoarrow_check $words notes | sed -n 's/^    \([a-z]*\[[A-Za-z]*\]\).*/\1/p' | tr '\n' ' '
+  >     geoarrow_check --quiet $words notes
+  >     echo $?
+  > done
+  error[CrsNotWhole] warning[MetadataEmpty] 1
+  error[MetadataEmpty] 1
+  note[CrsNotWhole] error[MetadataEmpty] 1
+  warning[MetadataEmpty] 0
+  0
+  0
+
+  $ cd "$TMPDIR" && echo '{"metadata":{"ARROW:extension:metadata":"","ARROW:extension:name":"geoarrow.wkb"},"name":"e","nullable":true,"type":"binary"}' | geoarrow_check --json --deny MetadataEmpty -
+  {"column":"e","edges":"planar","extension":"geoarrow.wkb","index":0,"state":"geometry","type":"wkb - -","warnings":[{"severity":"error","code":"MetadataEmpty","found":"\"\"","expected":"no metadata, or {}","help":"It is read as no metadata."}]}
+  [1]
+
+The reasons of an invalid column and those why a file is refused are no codes of findings; nothing is read
+
+  $ for word in GeoTyps MixedWidths EmptyFile Warnings all ''
+  > do
+  >     for option in --deny --allow
+  >     do
+  >         geoarrow_check $option "$word" nowhere 2>&1 | sed '/Usage/,$d' | grep .
+  >     done
+  > done
+  > geoarrow_check --allow GeoTypes nowhere --deny GeoTypse 2> /dev/null
+  error: 'GeoTyps' is no code
+    tip: a similar code exists: 'GeoTypes'
+  error: 'GeoTyps' is no code
+    tip: a similar code exists: 'GeoTypes'
+  error: 'MixedWidths' is no code
+  error: 'MixedWidths' is no code
+  error: 'EmptyFile' is no code
+  error: 'EmptyFile' is no code
+  error: 'Warnings' is no code
+  error: 'Warnings' is no code
+  error: 'all' is no code
+  error: 'all' is no code
+  error: '' is no code
+  error: '' is no code
+  [2]
+
+The codes of findings, without a file: those of the tables of docs/FORMAT.md, in their order, with their severities; and of GeoParquet metadata the rules
+
+  $ geoarrow_check --codes | sed -E 's/^([a-z]+)\[(.*)\]: .*/| `\2` | \1 |/' > "$TMPDIR/codes"
+  > grep -oE '^\| `[A-Za-z0-9]+` \| (error|warning|note) \|' ../docs/FORMAT.md | cmp - "$TMPDIR/codes"
+
+  $ geoarrow_check --codes | sed -E 's/^([a-z]+)\[(.*)\]: (.*)/| `\2` | \1 | `\3` /' > "$TMPDIR/codes"
+  > grep -oE '^\| `[A-Za-z0-9]+` \| (error|warning|note) \| `[^`]*` ' ../docs/FORMAT.md | grep -vxFf "$TMPDIR/codes"
+  [1]
+
+  $ geoarrow_check --codes > "$TMPDIR/codes" && geoarrow_check --codes x --json | cmp - "$TMPDIR/codes"
+
+  $ for code in GeoEpoch CrsNotWhole KeyNotText RepeatedKey
+  > do
+  >     geoarrow_check --explain $code
+  > done
   error[GeoEpoch]: epoch is neither absent nor a number
   expected: a number
   help: A number has no quotes.
   docs/FORMAT.md, 5
   note[CrsNotWhole]: CRS has a number that is not whole
+  expected: whole numbers
+  help: For this alone read and canon of geoarrow_fields refuse the field; other readers do not.
   docs/FORMAT.md, 2.6
-  warning[NoGeoMetadata]: the file has columns of geometries, and no text at the key geo
-  expected: metadata of GeoParquet at the key geo
-  docs/FORMAT.md, 5.1
+  note[KeyNotText]: a key, or the value of a key that is not used here, is not UTF-8
+  expected: UTF-8
+  help: It is passed over.
+  docs/FORMAT.md, 4.3
+  warning[RepeatedKey]: geo or ARROW:schema stands several times with a value
+  expected: one value of the key
+  help: The last counts here; other readers take the first.
+  docs/FORMAT.md, 4.5
 
-  $ geoarrow_check --explain GeoEpocs 2>&1 | head -1
+A code of columns and of GeoParquet metadata alike: what is known of both
+
+  $ geoarrow_check --explain=CrsMalformed
+  error[CrsMalformed]: CRS is an object that is no PROJJSON
+  expected: PROJJSON
+  help: projinfo -o PROJJSON prints it, as of EPSG:4326.
+  docs/FORMAT.md, 2.6
+  error[CrsMalformed]: an object at crs is no PROJJSON
+  expected: PROJJSON
+  docs/FORMAT.md, 5
+
+A word that is no code: the code that it is most like, if at most three edits lead to it, letters alike
+
+  $ for word in GeoEpocs geoepoch Nothing
+  > do
+  >     geoarrow_check --explain $word 2>&1 | sed '/Usage/,$d' | grep .
+  > done
   error: 'GeoEpocs' is no code
+    tip: a similar code exists: 'GeoEpoch'
+  error: 'geoepoch' is no code
+    tip: a similar code exists: 'GeoEpoch'
+  error: 'Nothing' is no code
 
 Words that are answered at once
 

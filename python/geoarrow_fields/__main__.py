@@ -1,9 +1,9 @@
 """The command: python -m geoarrow_fields check [--infer] [--notes] [--json] FILE..
 
 Prints what each column of each file holds, as `geoarrow_check` does with these options; the others are that program's alone. Why a file cannot be read is
-said on standard error; with --json the line of one that is refused stands on standard output too. The status is 1 where a column is invalid or a finding in
-GeoParquet metadata is an error, and 2 where a file is refused, a file or the words cannot be read, or the output fails. Where nobody reads the output any
-more, the command ends without a word, with the status 141.
+said on standard error; with --json the line of one that is refused stands on standard output too. The status is 1 where a column is invalid or a finding,
+of a column or of a file, is an error, and 2 where a file is refused, a file or the words cannot be read, or the output fails. Where nobody reads the output
+any more, the command ends without a word, with the status 141.
 """
 import argparse
 import io
@@ -17,7 +17,7 @@ from .tables import shown
 
 INVALID, FAILED = 1, 2
 NO_READER = 128 + 13  # what a shell says of a command that the signal SIGPIPE ends
-OF_THE_PROGRAM = ("--codes", "--expect", "--explain", "--ipc", "--lines", "--quiet", "--require-geometry")
+OF_THE_PROGRAM = ("--allow", "--codes", "--deny", "--expect", "--explain", "--ipc", "--lines", "--quiet", "--require-geometry")
 
 
 class _OfTheProgram(argparse.Action):
@@ -78,7 +78,7 @@ def _checked(file: str, asked: argparse.Namespace) -> int:
             print(one.json)
     else:
         print(*([f"{name}:"] if len(asked.files) > 1 else []), repr(columns), sep="\n")
-    return INVALID if any(one.is_error for one in columns.findings) or any(one.is_invalid for one in columns) else 0
+    return INVALID if any(one.is_error for one in (*columns, *columns.findings)) else 0
 
 
 def _input() -> bytes:

@@ -3,53 +3,67 @@ import collections
 import dataclasses
 import itertools
 import json
-from typing import Any, Dict, List, Optional, Tuple
+from typing import Any, Dict, Iterator, List, Optional, Tuple
 
 from . import tables
 
 
 @dataclasses.dataclass(frozen=True)
 class Reason:
-    """Why a column is invalid or doubtful: a code, what it says, the names of the child fields from the column down to the data type at
-    fault, and how many more there are of its code that are not told one by one (docs/FORMAT.md, 2.5)."""
+    """Why a column is invalid: a code, what it says, and the names of the child fields from the column down to the data type at fault
+    (docs/FORMAT.md, 2.5)."""
 
     code: str
     message: str
     path: Tuple[str, ...] = ()
-    more: int = 0
 
     def __str__(self) -> str:
-        place = f" at {'.'.join(self.path)}" if self.path else ""
-        return f"{self.message}{place}" + (f", and {self.more} more" if self.more else "")
+        return self.message + (f" at {'.'.join(self.path)}" if self.path else "")
 
 
 @dataclasses.dataclass(frozen=True)
 class Finding:
-    """What is found in a file: its severity, `error`, `warning` or `note`, and its code; the place, that is the name of the column, the source, `geo` of
-    GeoParquet metadata, and the JSON pointer into it; what stands there, what is expected, and what helps. What does not apply is None
-    (docs/FORMAT.md, 5.1). `json` is the line of the report."""
+    """What is found in a file or in one of its columns: its severity, `error`, `warning` or `note`, and its code; the place, that is the name of the
+    column, the names of the child fields down from it, the source, as `geo` or `footer`, the JSON pointer into it, and the byte; what stands there, what is
+    expected, and what helps; and how many more there are of its code that are not told one by one. What does not apply is None, or empty, or 0. The
+    `warnings` of a column do not name it. `json` is the object of the report (docs/FORMAT.md, 5.1)."""
 
     severity: str
     code: str
     column: Optional[str] = None
+    path: Tuple[str, ...] = ()
     source: Optional[str] = None
     pointer: Optional[str] = None
+    byte: Optional[int] = None
     found: Optional[str] = None
     expected: Optional[str] = None
     help: Optional[str] = None
+    more: int = 0
     json: str = dataclasses.field(default="", repr=False, compare=False)
 
     @property
     def is_error(self) -> bool:
+        """Whether it counts for the status."""
         return self.severity == "error"
 
     def __str__(self) -> str:
-        column = [] if self.column is None else [f"column {self.column}"]
-        source = [] if self.source is None else [f"{self.source} {self.pointer}" if self.pointer else self.source]
-        place = ", ".join(column + source)
+        place = ", ".join(self._places())
         found = "" if self.found is None else f"found {self.found}; "
         help = "" if self.help is None else f". {self.help}"
         return f"{self.severity}[{self.code}]{' ' if place else ''}{place}: {found}expected {self.expected}{help}"
+
+    def _places(self) -> Iterator[str]:
+        """The parts of the place, in words, and how many more there are."""
+        if self.column is not None:
+            yield f"column {self.column}"
+        if self.path:
+            yield f"at {'.'.join(self.path)}"
+        if self.source is not None:
+            yield f"{self.source} {self.pointer}" if self.pointer else self.source
+        if self.byte is not None:
+            yield f"byte {self.byte}"
+        if self.more:
+            yield f"and {self.more} more"
 
 
 def _none() -> None:
@@ -79,7 +93,7 @@ class Column(_OfALine):
     crs_type: Optional[str] = dataclasses.field(default_factory=_none)
     crs: Any = dataclasses.field(default_factory=_none)
     reasons: Tuple[Reason, ...] = dataclasses.field(default_factory=tuple)
-    warnings: Tuple[Reason, ...] = dataclasses.field(default_factory=tuple)
+    warnings: Tuple[Finding, ...] = dataclasses.field(default_factory=tuple)
     json: str = dataclasses.field(default_factory=str, repr=False, compare=False)
 
     @property
@@ -89,6 +103,11 @@ class Column(_OfALine):
     @property
     def is_invalid(self) -> bool:
         return self.state == "invalid"
+
+    @property
+    def is_error(self) -> bool:
+        """Whether it counts for the status: it is invalid, or one of its warnings is an error."""
+        return self.is_invalid or any(one.is_error for one in self.warnings)
 
     def __getattr__(self, name: str) -> Any:
         """An attribute that is not there yet: those of the line are made."""
@@ -110,8 +129,8 @@ _ATTRIBUTES = frozenset(field.name for field in dataclasses.fields(Column) if fi
 
 
 class Columns(List[Column]):
-    """Columns, which are shown as a table: of text, and in a notebook of HTML. `findings` are what is found in the GeoParquet metadata of a Parquet file,
-    or that there are none; they stand behind the table."""
+    """Columns, which are shown as a table: of text, and in a notebook of HTML. `findings` are what is found in the file beside its columns, as in the footer
+    and in the GeoParquet metadata of a Parquet file; they stand behind the table."""
 
     findings: Tuple[Finding, ...] = ()
 
@@ -146,19 +165,36 @@ def _attributes(line: str) -> Dict[str, Any]:
     return {
         "name": said["column"], "index": said["index"], "state": said["state"], "type": said["type"], "extension": known("extension"),
         "edges": known("edges"), "crs_type": known("crs_type"), "crs": known("crs"), "reasons": _reasons(said["reasons"]) if "reasons" in said else (),
-        "warnings": _reasons(said["warnings"]) if "warnings" in said else ()}
+        "warnings": tuple(_warnings(line)) if "warnings" in said else ()}
 
 
 def _finding(line: str) -> Finding:
     """The finding of a line."""
-    said = _json(line)[0]
+    return _finding_of(_json(line)[0], line)
+
+
+_WARNINGS = ',"warnings":['
+
+
+def _warnings(line: str) -> Iterator[Finding]:
+    """The findings of the line of a column that has some: of its members their array is the last."""
+    at = line.rindex(_WARNINGS) + len(_WARNINGS)
+    while line[at - 1] != "]":
+        said, end = _json(line, at)
+        yield _finding_of(said, line[at:end])
+        at = end + 1  # behind a comma, or the bracket
+
+
+def _finding_of(said: Dict[str, Any], text: str) -> Finding:
+    """The finding of an object, of which this is the text."""
     known = said.get
     return Finding(
-        said["severity"], said["code"], known("column"), known("in"), known("pointer"), known("found"), known("expected"), known("help"), line)
+        said["severity"], said["code"], known("column"), tuple(known("path", ())), known("in"), known("pointer"), known("byte"), known("found"),
+        known("expected"), known("help"), known("more", 0), text)
 
 
 def _reasons(said: List[Dict[str, Any]]) -> Tuple[Reason, ...]:
-    return tuple(Reason(one["code"], one["message"], tuple(one["path"]), one.get("more", 0)) for one in said)
+    return tuple(Reason(one["code"], one["message"], tuple(one["path"])) for one in said)
 
 
 def _row(column: Column) -> tables.Row:

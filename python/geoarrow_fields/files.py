@@ -3,9 +3,10 @@
     reports(paths)         a report for each file; what is wrong with one is said in its report, and never raised
     paths_of(words)        the files that paths and folders name
 
-A report is a dict that JSON can hold: the `file`, its number of `columns`, its `geometries`, its `invalid` columns and what is found in its GeoParquet
-metadata in words, the `errors` apart from the `warnings`, and an `error` where it cannot be read, else None.
+A report is a dict that JSON can hold: the `file`, its number of `columns`, its `geometries`, its `invalid` columns and what is found in words, of its columns and
+behind these of the file, the `errors` apart from the `warnings`; and an `error` where it cannot be read, else None.
 """
+import dataclasses
 import os
 from typing import Any, Dict, Iterable, Iterator, List
 
@@ -27,8 +28,10 @@ def report(path: str, infer: bool = False) -> Report:
         return failed(path, error)
     geometries = [f"{one.name}: {one.type}" for one in columns if one.state in ("geometry", "inferred")]
     invalid = [f"{one.name}: {', '.join(map(str, one.reasons))}" for one in columns if one.is_invalid]
-    errors = [str(one) for one in columns.findings if one.is_error]
-    warnings = [str(one) for one in columns.findings if not one.is_error]
+    of_columns = [dataclasses.replace(found, column=one.name) for one in columns for found in one.warnings]
+    found = [*of_columns, *columns.findings]
+    errors = [str(one) for one in found if one.is_error]
+    warnings = [str(one) for one in found if not one.is_error]
     return {
         "file": path, "columns": len(columns), "geometries": geometries, "invalid": invalid, "errors": errors, "warnings": warnings, "error": None}
 

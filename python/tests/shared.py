@@ -1,6 +1,7 @@
 """What the tests share: where things are, lines of columns, what is said of a file, and the command."""
 import contextlib
 import io
+import json
 import pathlib
 
 from geoarrow_fields import Finding
@@ -14,9 +15,11 @@ CANON = '{"metadata":{"ARROW:extension:name":"geoarrow.point"},"name":"p","nulla
 TEXT = '{"name":"t","nullable":true,"type":"utf8"}'
 OTHER = '{"name":"at","nullable":true,"type":{"other":"timestamp[ms, tz=UTC]"}}'
 BROKEN = '{"metadata":{"ARROW:extension:metadata":"{\\"edges\\":1}","ARROW:extension:name":"geoarrow.linestring"},"name":"b","nullable":true,"type":{"list":{"name":"v","nullable":true,"type":{"struct":[]}}}}'
-CRS = '{"metadata":{"ARROW:extension:metadata":"{\\"crs\\":{\\"id\\":{\\"authority\\":\\"OGC\\",\\"code\\":\\"CRS84\\"},\\"scope\\":1.50},\\"crs_type\\":\\"projjson\\",\\"edges\\":\\"spherical\\"}","ARROW:extension:name":"geoarrow.wkb"},"name":"g","nullable":true,"type":"binary"}'
+CRS = '{"metadata":{"ARROW:extension:metadata":"{\\"crs\\":{\\"type\\":\\"GeographicCRS\\",\\"name\\":\\"WGS 84\\",\\"id\\":{\\"authority\\":\\"OGC\\",\\"code\\":\\"CRS84\\"},\\"scope\\":1.50},\\"crs_type\\":\\"projjson\\",\\"edges\\":\\"spherical\\"}","ARROW:extension:name":"geoarrow.wkb"},"name":"g","nullable":true,"type":"binary"}'
 
-NO_GEO_METADATA = Finding("warning", "NoGeoMetadata", expected="metadata of GeoParquet at the key geo")
+# What is noted of CRS, in words (docs/FORMAT.md, 2.6).
+NOT_WHOLE = "note[CrsNotWhole] extension metadata /crs: expected whole numbers. For this alone read and canon of geoarrow_fields refuse the field; other readers do not."
+NO_GEO_METADATA = Finding("warning", "NoGeoMetadata", source="geo", pointer="", expected="metadata of GeoParquet at the key geo")
 # What is found in geo.parquet, in words (docs/FORMAT.md, 5.1).
 TYPES = "Point, LineString, Polygon, MultiPoint, MultiLineString, MultiPolygon or GeometryCollection"
 FOUND = [
@@ -27,6 +30,15 @@ FOUND = [
     "Readers of GeoParquet do not see the column.",
     'warning[GeoColumnUndeclared] column region, geo /columns: found "region"; expected a member for the column. '
     "Readers of GeoParquet do not see the column."]
+
+
+def said_of(finding):
+    """The object of a finding, made of what it says: its keys in their order, those that are absent left out (docs/FORMAT.md, 5.1)."""
+    members = {
+        "severity": finding.severity, "code": finding.code, "column": finding.column, "path": list(finding.path) or None, "in": finding.source,
+        "pointer": finding.pointer, "byte": finding.byte, "found": finding.found, "expected": finding.expected, "help": finding.help,
+        "more": finding.more or None}
+    return json.dumps({key: value for key, value in members.items() if value is not None}, ensure_ascii=False, separators=(",", ":"))
 
 
 def with_crs(crs):

@@ -16,7 +16,7 @@ import geoarrow_fields
 from geoarrow_fields import (
     Column, Finding, InvalidColumns, Reason, Schema, SchemaError, canon, check, library, lines, read, write_schema)
 
-from .shared import BROKEN, CANON, CRS, DATA, FOUND, NO_GEO_METADATA, OTHER, POINT, TEXT, TOP, with_crs
+from .shared import BROKEN, CANON, CRS, DATA, FOUND, NO_GEO_METADATA, OTHER, POINT, TEXT, TOP, said_of, with_crs
 
 
 class Answers(unittest.TestCase):
@@ -43,7 +43,9 @@ class Answers(unittest.TestCase):
 
 class Checks(unittest.TestCase):
     def test_sources(self):
-        wanted = [Column("t", 0, "plain", "utf8"), Column("p", 1, "geometry", "point interleaved XY", "geoarrow.point", "planar")]
+        nullable = Finding("warning", "NullableInner", path=("xy",), found="nullable", expected="not null")
+        wanted = [
+            Column("t", 0, "plain", "utf8"), Column("p", 1, "geometry", "point interleaved XY", "geoarrow.point", "planar", warnings=(nullable,))]
         text = f"{TEXT}\n{POINT}\n"
         stream = write_schema([TEXT, POINT])
         given = text.encode()
@@ -105,7 +107,7 @@ class Checks(unittest.TestCase):
 
     def test_a_crs_and_its_text(self):
         (column,) = check([CRS])
-        self.assertEqual(column.crs, {"id": {"authority": "OGC", "code": "CRS84"}, "scope": 1.5})
+        self.assertEqual(column.crs, {"type": "GeographicCRS", "name": "WGS 84", "id": {"authority": "OGC", "code": "CRS84"}, "scope": 1.5})
         self.assertEqual((column.crs_type, column.edges), ("projjson", "spherical"))
         self.assertEqual((column.state, column.is_geometry, column.is_invalid), ("geometry", True, False))
         self.assertIn('"scope":1.50', column.json)
@@ -126,10 +128,19 @@ class Checks(unittest.TestCase):
 
     def test_a_warning_that_stands_for_more(self):
         (column,) = check([TEXT.replace('"utf8"', '{"struct":[%s]}' % ",".join([CANON] * 20))])
-        message, path = "child field has a GeoArrow extension name", (json.loads(CANON)["name"],)
-        nested = Reason("NestedGeometry", message, path)
-        self.assertEqual(column.warnings, (nested,) * 15 + (Reason("NestedGeometry", message, path, 4),))
-        self.assertEqual([str(one) for one in column.warnings[14:]], [f"{message} at {path[0]}", f"{message} at {path[0]}, and 4 more"])
+        nested = Finding(
+            "warning", "NestedGeometry", path=(json.loads(CANON)["name"],), found="geoarrow.point", expected="the name of a column alone",
+            help="GeoParquet takes columns at the root alone.")
+        self.assertEqual(column.warnings, (nested,) * 15 + (dataclasses.replace(nested, more=4),))
+        self.assertEqual((column.is_invalid, column.is_error), (False, False))
+        self.assertEqual(column.json[-10:], ',"more":4}]}'[-10:])
+
+    def test_a_column_with_an_error(self):
+        given = [CANON.replace('"type":"float64"', '"type":"int64"')]
+        (column,) = check(given)
+        self.assertEqual((column.state, column.is_invalid, column.is_error), ("geometry", False, True))
+        self.assertEqual([(one.severity, one.code) for one in column.warnings], [("error", "CoordinatesNotFloat")])
+        self.assertEqual(check(given, strict=True), [column])
 
     def test_strict(self):
         self.assertEqual(check([TEXT], strict=True), check([TEXT]))
@@ -161,40 +172,21 @@ class Checks(unittest.TestCase):
         for file in (check(DATA / "plain.parquet"), check(DATA / "file.arrow")):
             self.assertEqual(file.findings, ())
 
-    def test_the_findings_that_all_languages_share(self):
-        """Each case of native/findings.rows: the bytes of a file, and each finding, its line and its words."""
-        parts, content, count = Finding.__annotations__.keys() - {"json", "source"}, b"", 0
-        for line in (TOP / "native/findings.rows").read_text(encoding="utf-8").split("\n"):
-            if line.startswith("{"):
-                said, one = json.loads(line), next(findings)
-                self.assertEqual({key: getattr(one, key) for key in parts}, {key: said.get(key) for key in parts})
-                self.assertEqual((one.source, one.json), (said.get("in"), line))
-                self.assertEqual(one.is_error, said["severity"] == "error")
-                count += 1
-            elif line.startswith(("error[", "warning[", "note[")):
-                self.assertEqual(str(one), line)
-            elif line and not line.startswith("#"):
-                self.assertEqual(list(findings) if content else [], [])
-                content = bytes.fromhex(line)
-                findings = iter(check(content, notes=True).findings)
-        self.assertEqual(list(findings), [])
-        self.assertGreater(count, 7)
-
     def test_the_files_of_rows(self):
-        """The columns and findings of each file have the lines of its row, and name their parts; notes are found where they are asked for."""
+        """The columns and findings of each file have the lines of its row, and name their parts; notes are found where they are asked for alone."""
         rows = iter((TOP / "crates/file_rows/data/reports/geo_files.rows").read_text(encoding="utf-8").splitlines())
-        noted = []
+        noted = set()
         for asked in rows:
-            if asked.startswith("report_file "):
-                file, wanted = bytes.fromhex(asked.partition(" ")[2]), next(rows)
-                columns = check(file)
+            command, _, digits = asked.partition(" ")
+            if command in ("report_file", "report_file_noted"):
+                file, wanted = bytes.fromhex(digits), next(rows)
+                columns = check(file, notes=command == "report_file_noted")
                 self.assertEqual(" & ".join(one.json for one in (*columns, *columns.findings)), wanted)
-                noted += [one for one in check(file, notes=True).findings if one not in columns.findings]
-                for one in columns.findings:
-                    said = {"in": one.source, **{key: getattr(one, key) for key in ("severity", "code", "column", "pointer", "found", "expected", "help")}}
-                    self.assertEqual({key: value for key, value in said.items() if value is not None}, json.loads(one.json))
-        self.assertEqual([(one.code, one.severity) for one in noted], [
-            ("CrsNotCompared", "note"), ("CrsNotCompared", "note"), ("GeoNewVersion", "note")])
+                noted |= {one.code for one in columns.findings if one.severity == "note"}
+                self.assertFalse([one for one in check(file).findings if one.severity == "note"])
+                for one in (*columns.findings, *(found for column in columns for found in column.warnings)):
+                    self.assertEqual(said_of(one), one.json)
+        self.assertIn("CrsNotCompared", noted)
 
     def test_a_file_of_parquet_without_metadata_of_geoparquet(self):
         columns = check(DATA / "stored.parquet")
@@ -252,7 +244,7 @@ class Columns(unittest.TestCase):
 
     def test_each_attribute_may_be_the_first(self):
         wanted = Column("t", 0, "plain", "utf8")
-        for name in ("name", "index", "state", "type", "extension", "edges", "crs_type", "crs", "reasons", "warnings", "is_geometry", "is_invalid"):
+        for name in ("name", "index", "state", "type", "extension", "edges", "crs_type", "crs", "reasons", "warnings", "is_geometry", "is_invalid", "is_error"):
             (column,) = check([TEXT])
             self.assertEqual(getattr(column, name), getattr(wanted, name))
         for look in (repr, hash, dataclasses.asdict, lambda one: dataclasses.replace(one, name="u"), lambda one: pickle.loads(pickle.dumps(one)), copy.copy):

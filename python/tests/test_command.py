@@ -14,7 +14,7 @@ from geoarrow_fields import check
 from geoarrow_fields.__main__ import OF_THE_PROGRAM, main
 from geoarrow_fields.columns import columns_of
 
-from .shared import BROKEN, CRS, DATA, TEXT, TOP, printed
+from .shared import BROKEN, CRS, DATA, NOT_WHOLE, TEXT, TOP, printed
 
 PROGRAM = TOP / "crates/geoarrow_check/out/geoarrow_check"
 NO_NAME = 'line 1: is JSON, but no field: "name" is no text'  # of a line `{}`
@@ -59,7 +59,7 @@ class Command(unittest.TestCase):
         with tempfile.TemporaryDirectory() as folder:
             path = pathlib.Path(folder, "crs")
             path.write_text(CRS + "\n")
-            note = "    CRS has a number that is not whole\n"
+            note = f"    {NOT_WHOLE}\n"
             self.assertEqual([note in printed(["check", *options, str(path)])[0] for options in ([], ["--notes"])], [False, True])
 
     def test_names_of_files_are_escaped(self):
@@ -165,7 +165,10 @@ class Printed(unittest.TestCase):
         column = '{"column":"g","index":0,"state":"plain","type":"binary"}'
         error = '{"severity":"error","code":"GeoBbox","column":"g","in":"geo","pointer":"/columns/g/bbox","expected":"m"}'
         warning = '{"severity":"warning","code":"NoGeoMetadata","expected":"w"}'
-        for report, status in ((f"{column}\n{column}\n{warning}\n", 0), (f"{column}\n{error}\n{error}\n{warning}\n", 1)):
+        doubtful, wrong = (column.replace("}", ',"warnings":[%s]}' % one) for one in (warning, error))
+        for report, status in (
+                (f"{column}\n{column}\n{warning}\n", 0), (f"{column}\n{error}\n{error}\n{warning}\n", 1), (f"{doubtful}\n{warning}\n", 0),
+                (f"{doubtful}\n{wrong}\n{column}\n{warning}\n", 1)):
             with mock.patch("geoarrow_fields.__main__.check", lambda *given, **more: columns_of(report)):
                 self.assertEqual(printed(["check", "--json", "a"]), (report, "", status))
                 self.assertEqual(printed(["check", "--json", "a", "b"]), (report * 2, "", status))

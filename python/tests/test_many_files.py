@@ -68,7 +68,7 @@ class ManyFiles(unittest.TestCase):
         found, last, status = self.ran("--with", way, self.folder)
         self.assertEqual(found, self.wanted)
         self.assertRegex(last, (
-            r"^8 files: 8 columns, 5 of them geometries; 1 files with invalid columns, 1 with errors in metadata, 3 not read; \d+\.\d s$"))
+            r"^8 files: 8 columns, 5 of them geometries; 1 files with invalid columns, 1 with errors found, 3 not read; \d+\.\d s$"))
         self.assertEqual(status, 2)
 
     def test_a_loop(self):

@@ -6,13 +6,13 @@ import unittest
 from geoarrow_fields import Finding, check
 from geoarrow_fields.columns import columns_of
 
-from .shared import BROKEN, CRS, NO_GEO_METADATA, TEXT, TOP, with_crs
+from .shared import BROKEN, CRS, NO_GEO_METADATA, NOT_WHOLE, TEXT, TOP, with_crs
 
 COLUMN = '{"column":"t","index":0,"state":"plain","type":"utf8"}'
 ERROR = '{"severity":"error","code":"GeoBbox","column":"t","in":"geo","pointer":"/columns/t/bbox","found":"[1]","expected":"m","help":"h?"}'
 NOTE = '{"severity":"note","code":"GeoNewVersion","in":"geo","pointer":"/version","found":"\\"2.0.0\\"","expected":"1.0.0 or 1.1.0"}'
 WHOLE = '{"severity":"error","code":"GeoNotObject","in":"geo","pointer":"","found":"[]","expected":"an object"}'
-WARNING = '{"severity":"warning","code":"NoGeoMetadata","expected":"%s"}' % NO_GEO_METADATA.expected
+WARNING = '{"severity":"warning","code":"NoGeoMetadata","in":"geo","pointer":"","expected":"%s"}' % NO_GEO_METADATA.expected
 
 
 class Cells(html.parser.HTMLParser):
@@ -41,11 +41,11 @@ class Tables(unittest.TestCase):
         self.assertEqual(repr(check([CRS, BROKEN, TEXT], infer=True, notes=True)), """\
 column  holds                        CRS        edges
 g       wkb - -                      OGC:CRS84  spherical
-    CRS has a number that is not whole
+    %s
 b       invalid geoarrow.linestring
     unexpected number of fields at v
     unknown edges
-t       taken for wkt - -                       planar""")
+t       taken for wkt - -                       planar""" % NOT_WHOLE)
 
     def test_the_table_of_the_readme(self):
         readme = (TOP / "README.md").read_text()
@@ -88,7 +88,7 @@ class Behind(unittest.TestCase):
     def test_each_line_is_what_it_begins_as(self):
         columns = columns_of(f"{COLUMN}\n{ERROR}\n{ERROR}\n{WARNING}\n")
         self.assertEqual([one.name for one in columns], ["t"])
-        error = Finding("error", "GeoBbox", "t", "geo", "/columns/t/bbox", "[1]", "m", "h?")
+        error = Finding("error", "GeoBbox", "t", source="geo", pointer="/columns/t/bbox", found="[1]", expected="m", help="h?")
         self.assertEqual(columns.findings, (error, error, NO_GEO_METADATA))
         self.assertEqual([one.json for one in (*columns, *columns.findings)], [COLUMN, ERROR, ERROR, WARNING])
         for report in ("", f"{COLUMN}\n"):
@@ -102,7 +102,7 @@ class Behind(unittest.TestCase):
             "error[GeoBbox] column t, geo /columns/t/bbox: found [1]; expected m. h?",
             'note[GeoNewVersion] geo /version: found "2.0.0"; expected 1.0.0 or 1.1.0',
             "error[GeoNotObject] geo: found []; expected an object",
-            "warning[NoGeoMetadata]: expected metadata of GeoParquet at the key geo"]
+            "warning[NoGeoMetadata] geo: expected metadata of GeoParquet at the key geo"]
         self.assertEqual(repr(columns).split("\n")[2:], behind)
         self.assertEqual([one.is_error for one in columns.findings], [True, False, True, False])
         found = Cells(columns._repr_html_())
@@ -115,7 +115,7 @@ class Html(unittest.TestCase):
         self.assertEqual(found.tags, {"table", "thead", "tbody", "tr", "th", "td"})
         self.assertEqual(found.cells, [
             "column", "holds", "CRS", "edges",
-            "g", "wkb - -", "OGC:CRS84", "spherical", "", "CRS has a number that is not whole",
+            "g", "wkb - -", "OGC:CRS84", "spherical", "", NOT_WHOLE,
             "b", "invalid geoarrow.linestring", "", "", "", "unexpected number of fields at v", "", "unknown edges",
             "t", "taken for wkt - -", "", "planar"])
         self.assertEqual(found.spans, [4] * 7)

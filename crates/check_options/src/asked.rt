@@ -1,7 +1,8 @@
 //! What the words ask.
-use crate::codes::{codes_text, explained};
+use crate::codes::{codes_text, explained, no_code};
 use crate::command::command;
 use crate::flags::flags_of;
+use crate::weights::weights_of;
 use clap::error::ErrorKind;
 use clap::{ArgMatches, Error};
 use file_check::{Asked, Want};
@@ -95,18 +96,16 @@ fn codes_asked(alloc: Global, matches: &ArgMatches<'_>) -> Result<Option<String>
 /// What is asked; or why it cannot be done.
 fn asked_of(alloc: Global, matches: &ArgMatches<'_>) -> Result<Result<Asked, String>, AllocError> {
     if let Some(word) = matches.get_str("explain") {
-        return Ok(Err(format!(in alloc; "'{word}' is no code")?));
+        return Ok(Err(no_code(alloc, word)?));
     }
-    let mut wants = Vec::new(alloc);
-    for word in matches.get_strs("expect").unwrap_or(&[]) {
-        match word.split_once('=') {
-            Some((column, want)) => wants.push(Want {
-                column: String::from_str(alloc, column)?,
-                want: String::from_str(alloc, want)?,
-            })?,
-            None => return Ok(Err(format!(in alloc; "'{word}' is no COLUMN=WANT")?)),
-        }
-    }
+    let wants = match wants_of(alloc, matches)? {
+        Ok(wants) => wants,
+        Err(reason) => return Ok(Err(reason)),
+    };
+    let weights = match weights_of(alloc, matches)? {
+        Ok(weights) => weights,
+        Err(reason) => return Ok(Err(reason)),
+    };
     let mut files = Vec::new(alloc);
     for word in matches.get_strs("FILE").unwrap_or(&[]) {
         files.push(String::from_str(alloc, word)?)?;
@@ -117,7 +116,26 @@ fn asked_of(alloc: Global, matches: &ArgMatches<'_>) -> Result<Result<Asked, Str
     }
     Ok(Ok(Asked {
         flags,
+        weights,
         wants,
         files,
     }))
+}
+
+/// What columns are expected to hold; or why a word cannot be read.
+fn wants_of(
+    alloc: Global,
+    matches: &ArgMatches<'_>,
+) -> Result<Result<Vec<Want>, String>, AllocError> {
+    let mut wants = Vec::new(alloc);
+    for word in matches.get_strs("expect").unwrap_or(&[]) {
+        match word.split_once('=') {
+            Some((column, want)) => wants.push(Want {
+                column: String::from_str(alloc, column)?,
+                want: String::from_str(alloc, want)?,
+            })?,
+            None => return Ok(Err(format!(in alloc; "'{word}' is no COLUMN=WANT")?)),
+        }
+    }
+    Ok(Ok(wants))
 }

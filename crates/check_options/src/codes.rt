@@ -1,79 +1,120 @@
 //! The codes of findings, as they are printed without a file (docs/FORMAT.md, 2.7).
 use column_check::WarningCode;
-use column_reports::{no_geo_code, no_geo_expected, no_geo_rule};
+use column_reports::Code;
 use geoparquet::{GeoCode, Version};
+use parquet_columns::FileCode;
+use parquet_footer::FooterCode;
 use std::alloc::{AllocError, Global};
+use strsim::levenshtein;
 
-/// The codes of what is doubtful of a column.
-const WARNINGS: [WarningCode; 7] = [
-    WarningCode::MetadataEmpty,
-    WarningCode::CrsNotWhole,
-    WarningCode::CrsWithoutType,
-    WarningCode::CrsNumber,
-    WarningCode::CoordinatesNotDouble,
-    WarningCode::AxisNames,
-    WarningCode::NestedGeometry,
-];
+/// The codes of texts in a footer that are not UTF-8.
+const FOOTER_CODES: [FooterCode; 2] = [FooterCode::NameNotText, FooterCode::KeyNotText];
 
-/// The severity of what is doubtful of a column.
-fn severity(code: WarningCode) -> &'static str {
+/// How many edits lead from a word to a code that it is like, at most.
+const EDITS: usize = 3;
+
+/// Returns each code, in the order of docs/FORMAT.md: those of columns, of footers, of the other parts
+/// of a Parquet file, and of GeoParquet metadata. Errs only when out of memory.
+fn all_codes(alloc: Global) -> Result<Vec<Code>, AllocError> {
+    let mut codes = Vec::new(alloc);
+    for code in &WarningCode::ALL {
+        codes.push(Code::Column(*code))?;
+    }
+    for code in &FOOTER_CODES {
+        codes.push(Code::Text(*code))?;
+    }
+    for code in &FileCode::ALL {
+        codes.push(Code::File(*code))?;
+    }
+    for code in &GeoCode::ALL {
+        codes.push(Code::Geo(*code))?;
+    }
+    Ok(codes)
+}
+
+/// The section of docs/FORMAT.md that has the rule of a code.
+fn section(code: Code) -> &'static str {
     match code {
-        WarningCode::CrsNotWhole => "note",
-        _ => "warning",
+        Code::Column(_) => "2.6",
+        Code::Text(_) => "4.3",
+        Code::File(_) => "4.5",
+        Code::Geo(_) => "5",
     }
 }
 
-/// Returns the line of a code: its severity, the code, and when it is said.
-fn line(alloc: Global, severity: &str, code: &str, rule: &str) -> Result<String, AllocError> {
-    format!(in alloc; "{severity}[{code}]: {rule}\n")
+/// The line of a code: its severity, the code, and when it is found.
+fn line(alloc: Global, code: Code) -> Result<String, AllocError> {
+    let severity = code.severity().word();
+    let (word, rule) = (code.word(), code.rule());
+    format!(in alloc; "{severity}[{word}]: {rule}\n")
 }
 
-/// Returns a line for each code: those of GeoParquet metadata, in the order of docs/FORMAT.md, 5,
-/// and those of columns, in the order of docs/FORMAT.md, 2.6. Errs only when out of memory.
+/// Returns a line for each code, in the order of `all_codes`. Errs only when out of memory.
 pub(crate) fn codes_text(alloc: Global) -> Result<String, AllocError> {
     let mut text = String::new(alloc);
-    for code in &GeoCode::ALL {
-        let said = line(alloc, code.severity().word(), code.code(), code.rule())?;
-        text.push_str(said.as_str())?;
-    }
-    text.push_str(line(alloc, "warning", no_geo_code(), no_geo_rule())?.as_str())?;
-    for code in &WARNINGS {
-        text.push_str(line(alloc, severity(*code), code.code(), code.message())?.as_str())?;
+    for code in &all_codes(alloc)? {
+        text.push_str(line(alloc, *code)?.as_str())?;
     }
     Ok(text)
 }
 
-/// Returns what is known of a code: its line, what is expected and what helps, by the rules of
-/// GeoParquet 1.1.0, and where the rule stands; none where no code is so called. Errs only when out
-/// of memory.
+/// Returns what is known of a code, by the rules of GeoParquet 1.1.0; of one that columns and metadata
+/// share what is known of both; none where no code is so called. Errs only when out of memory.
 pub(crate) fn explained(alloc: Global, word: &str) -> Result<Option<String>, AllocError> {
-    for code in &GeoCode::ALL {
-        if code.code() == word {
-            return Ok(Some(explained_geo(alloc, *code)?));
+    let mut text = String::new(alloc);
+    for code in &all_codes(alloc)? {
+        if code.word() == word {
+            text.push_str(known(alloc, *code)?.as_str())?;
         }
     }
-    if word == no_geo_code() {
-        let said = line(alloc, "warning", word, no_geo_rule())?;
-        let expected = no_geo_expected();
-        return Ok(Some(format!(in alloc; "{said}expected: {expected}\ndocs/FORMAT.md, 5.1\n")?));
+    if text.is_empty() {
+        return Ok(None);
     }
-    for code in &WARNINGS {
-        if code.code() == word {
-            let said = line(alloc, severity(*code), word, code.message())?;
-            return Ok(Some(format!(in alloc; "{said}docs/FORMAT.md, 2.6\n")?));
-        }
-    }
-    Ok(None)
+    Ok(Some(text))
 }
 
-/// Returns what is known of a code of GeoParquet metadata.
-fn explained_geo(alloc: Global, code: GeoCode) -> Result<String, AllocError> {
-    let mut text = line(alloc, code.severity().word(), code.code(), code.rule())?;
+/// What is known of a code: its line, what is expected and what helps, and where the rule stands.
+fn known(alloc: Global, code: Code) -> Result<String, AllocError> {
+    let mut text = line(alloc, code)?;
     let expected = code.expected(Version::V1_1);
     text.push_str(format!(in alloc; "expected: {expected}\n")?.as_str())?;
-    if let Some(advice) = code.advice(Version::V1_1) {
-        text.push_str(format!(in alloc; "help: {advice}\n")?.as_str())?;
+    if let Some(help) = code.help(Version::V1_1) {
+        text.push_str(format!(in alloc; "help: {help}\n")?.as_str())?;
     }
-    text.push_str("docs/FORMAT.md, 5\n")?;
+    let section = section(code);
+    text.push_str(format!(in alloc; "docs/FORMAT.md, {section}\n")?.as_str())?;
     Ok(text)
+}
+
+/// Returns whether a code is so called. Errs only when out of memory.
+pub(crate) fn is_code(alloc: Global, word: &str) -> Result<bool, AllocError> {
+    let codes = all_codes(alloc)?;
+    Ok(codes.iter().any(|code| code.word() == word))
+}
+
+/// Returns why a word that is no code is refused: with the code that it is most like, if it is like
+/// one. Errs only when out of memory.
+pub(crate) fn no_code(alloc: Global, word: &str) -> Result<String, AllocError> {
+    match nearest(alloc, word)? {
+        Some(code) => {
+            format!(in alloc; "'{word}' is no code\n\n  tip: a similar code exists: '{code}'")
+        }
+        None => format!(in alloc; "'{word}' is no code"),
+    }
+}
+
+/// The code that a word is most like, letters of ASCII alike.
+fn nearest(alloc: Global, word: &str) -> Result<Option<&'static str>, AllocError> {
+    let word = word.to_ascii_lowercase(alloc)?;
+    let mut near = None;
+    let mut least = EDITS + 1;
+    for code in &all_codes(alloc)? {
+        let name = code.word().to_ascii_lowercase(alloc)?;
+        let edits = levenshtein(alloc, word.as_str(), name.as_str())?;
+        if edits < least {
+            near = Some(code.word());
+            least = edits;
+        }
+    }
+    Ok(near)
 }

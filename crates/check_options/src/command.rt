@@ -9,7 +9,12 @@ const AFTER: &str = "--json, --lines and --ipc exclude one another.
 commas between: a kind, a coordinate type, a dimension, an encoding (native, WKB, WKT), a CRS;
 as outline=point,XY,EPSG:4326.
 
-Status: 0 if no column is invalid, no finding is an error and all that is expected is met, 1
+--deny and --allow may stand several times. CODE is one that --codes prints (docs/FORMAT.md 2.6,
+4.3, 4.5 and 5), or warnings for all that are warnings; what is said of a code counts before what
+is said of warnings, and of two words on the same the later. The reasons of an invalid column and
+those why a file is refused have no such code, and always count.
+
+Status: 0 if no column is invalid, no finding counts as an error and all that is expected is met, 1
 otherwise, 2 if a file or the words cannot be read or the output fails,
 141 if nobody reads the output any more.";
 
@@ -43,6 +48,24 @@ fn with_more<'a>(alloc: Global, command: Command<'a>) -> Result<Command<'a>, All
     command
         .arg(flag(alloc, "infer", infer))?
         .arg(flag(alloc, "notes", notes))
+}
+
+/// The options that say which findings count, and how much.
+fn with_weights<'a>(alloc: Global, command: Command<'a>) -> Result<Command<'a>, AllocError> {
+    let deny = "Count and print the findings of a code, or all warnings, as errors";
+    let allow = "Neither count nor print the findings of a code, or all warnings";
+    command
+        .arg(coded(alloc, "deny", deny))?
+        .arg(coded(alloc, "allow", allow))
+}
+
+/// An option that takes a code, and may stand several times.
+fn coded<'a>(alloc: Global, name: &'a str, help: &'a str) -> Arg<'a> {
+    Arg::new(alloc, name)
+        .long(name)
+        .value_name("CODE")
+        .help(help)
+        .action(ArgAction::Append)
 }
 
 /// The options for which the status counts.
@@ -89,6 +112,7 @@ and what is wrong with GeoParquet metadata",
         .args_override_self(true);
     let command = with_outputs(alloc, command)?;
     let command = with_more(alloc, command)?;
+    let command = with_weights(alloc, command)?;
     let command = with_demands(alloc, command)?;
     let command = with_codes(alloc, command)?;
     command.arg(

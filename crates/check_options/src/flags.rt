@@ -9,7 +9,6 @@ pub(crate) fn flags_of(matches: &ArgMatches<'_>) -> Flags {
         lines: matches.get_flag("lines"),
         ipc: matches.get_flag("ipc"),
         infer: matches.get_flag("infer"),
-        notes: matches.get_flag("notes"),
         quiet: matches.get_flag("quiet"),
         require_geometry: matches.get_flag("require-geometry"),
     }

@@ -5,5 +5,6 @@ mod asked;
 mod codes;
 mod command;
 mod flags;
+mod weights;
 
 pub use asked::{Said, asked_by};

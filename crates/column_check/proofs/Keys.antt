@@ -3,13 +3,16 @@ use Rattle.std.proofs.Common.{◌≡◌, Bool, true, false, Option, None, Some, 
 use Rattle.std.proofs.lemmas.Option.{option_and_then_some}
 use Rattle.json.specs.Json as json
 use Rattle.json.specs.Find as find
-use Rattle.serde_json.specs.Data.{Data, number, string, array, object, Members, no_members, put}
+use Rattle.serde_json.specs.Data.{Data, null, boolean, number, string, array, object, Members, no_members, put}
 use Rattle.serde_json.specs.Find.{as_object}
 use Rattle.serde_json.specs.Read.{of_json, of_items, of_members, number_of}
 use Rattle.arrow_values.specs.Tree.{Text}
 use Rattle.value_tokens.specs.Values.{is_object}
+use Rattle.geoarrow_meta.specs.declared.edges.Edges.{Edges}
+use Rattle.geoarrow_meta.specs.declared.edges.Edges.TheVariants.{Andoyer, Karney, Spherical, Thomas, Vincenty}
+use Rattle.geoarrow_meta.specs.Read.{edges_text, edges_data}
 use Rattle.geoarrow_meta.specs.KeyValues.{IsNamed}
-use Rattle.column_check.specs.Metadata.{unless_null}
+use Rattle.column_check.specs.Metadata.{unless_null, is_planar, unless_planar}
 
 -- a value that is there, and not null
 there : (o : Option json.Json) (j : json.Json) → unless_null o ≡ Some j → o ≡ Some j
@@ -85,3 +88,32 @@ no_word q i d j read is no_text = other j no_text (at_read q i d j read (there (
 pub no_name : {A : Type 0} (text : A → Text) (found : Option Data) → IsNamed string None found → IsNamed (λ a. string (text a)) None found
 no_name text found other None e = other None e
 no_name text found other (Some a) e = other (Some (text a)) e
+
+-- ---- edges
+
+-- edges of the format are not planar by name
+pub edges_stand : (e : Edges) → unless_planar (Some (edges_data e)) ≡ Some (edges_data e)
+edges_stand Andoyer = refl
+edges_stand Karney = refl
+edges_stand Spherical = refl
+edges_stand Thomas = refl
+edges_stand Vincenty = refl
+
+-- where no text stands, no edges do
+pub no_edges : (found : Option Data) → IsNamed string None found → IsNamed edges_data None (unless_planar found)
+no_edges None other = absurd (other None refl)
+no_edges (Some (string s)) other = absurd (other (Some s) refl)
+no_edges (Some null) other = no_name edges_text (Some null) other
+no_edges (Some (boolean b)) other = no_name edges_text (Some (boolean b)) other
+no_edges (Some (number n)) other = no_name edges_text (Some (number n)) other
+no_edges (Some (array ds)) other = no_name edges_text (Some (array ds)) other
+no_edges (Some (object ms)) other = no_name edges_text (Some (object ms)) other
+
+pub not_planar : (found : Option Data) → IsNamed string None found → false ≡ is_planar found
+not_planar None other = refl
+not_planar (Some (string s)) other = absurd (other (Some s) refl)
+not_planar (Some null) other = refl
+not_planar (Some (boolean b)) other = refl
+not_planar (Some (number n)) other = refl
+not_planar (Some (array ds)) other = refl
+not_planar (Some (object ms)) other = refl

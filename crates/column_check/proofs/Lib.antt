@@ -4,5 +4,7 @@ pub mod Faults
 pub mod Unicity
 pub mod Findings
 pub mod Paths
+pub mod Reading
+pub mod Fields
 pub mod Ways
 pub mod Telling

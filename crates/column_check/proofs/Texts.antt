@@ -13,7 +13,7 @@ use Rattle.geoarrow_meta.specs.declared.metadata.Metadata.{Metadata}
 use Rattle.geoarrow_meta.specs.Read.{crs_type_data, edges_data, at_key, Denotes}
 use Rattle.geoarrow_meta.specs.Laws.{denotes_one}
 use Rattle.value_tokens.specs.Codes.{json_from, json_from-json_tokens}
-use Rattle.column_check.specs.Metadata.{Values, DataDenotes, TextDenotes, TextHasCrs, unless_null, NamesCrsType, NamesEdges, HasTextFault, HasMetadataFault}
+use Rattle.column_check.specs.Metadata.{Values, edges_in, DataDenotes, TextDenotes, TextHasCrs, unless_null, NamesCrsType, NamesEdges, HasTextFault, HasMetadataFault}
 use Rattle.column_check.specs.declared.metadata.MetadataFault.{MetadataFault}
 use Rattle.column_check.specs.declared.metadata.MetadataFault.TheVariants.{NotJson, NotObject, UnknownCrsType, UnknownEdges, UnknownCrsTypeAndEdges}
 
@@ -84,7 +84,7 @@ text_apart (Some []) fault v h here = absurd h
 text_apart (Some (b ∷ s)) NotJson v h (d, reads, is) = none_read _ d h reads
 text_apart (Some (b ∷ s)) NotObject v (e, others, not_object) (d, reads, is) = not_object (subst (λ x. IsSome (as_object x)) (one_read _ d e reads others) is.is_object)
 text_apart (Some (b ∷ s)) UnknownCrsType v h (d, reads, is) = h.3.0 (v.crs_type, is.crs_type ∙ ap (at_key (codes "crs_type")) (one_read _ d h.0 reads h.1))
-text_apart (Some (b ∷ s)) UnknownEdges v h (d, reads, is) = h.3.1 (v.edges, is.edges ∙ ap (at_key (codes "edges")) (one_read _ d h.0 reads h.1))
+text_apart (Some (b ∷ s)) UnknownEdges v h (d, reads, is) = h.3.1 (v.edges, is.edges ∙ ap edges_in (one_read _ d h.0 reads h.1))
 text_apart (Some (b ∷ s)) UnknownCrsTypeAndEdges v h (d, reads, is) = h.3.0 (v.crs_type, is.crs_type ∙ ap (at_key (codes "crs_type")) (one_read _ d h.0 reads h.1))
 
 -- a text has one fault

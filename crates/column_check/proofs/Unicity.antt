@@ -1,5 +1,5 @@
 -- Of a column one thing is said.
-use Rattle.std.proofs.Common.{◌≡◌, Bool, Option, None, Some, subst}
+use Rattle.std.proofs.Common.{◌≡◌, Bool, Option, None, Some, option_map, ap, subst}
 use Rattle.arrow_values.specs.Tree.{Text, Tree}
 use Rattle.arrow_columns.specs.Column.{TypeTree, known, other, ColumnTree, name_on, metadata_on}
 use Rattle.geoarrow_layout.specs.declared.names.ExtensionName.{ExtensionName}
@@ -9,6 +9,7 @@ use Rattle.geoarrow_layout.specs.Kinds.{name_text}
 use Rattle.geoarrow_layout.specs.Shapes.{Accepts}
 use Rattle.geoarrow_layout.specs.Candidates.{IsAccepted}
 use Rattle.geoarrow_layout.specs.FaultAt.{Path, FaultAt}
+use Rattle.column_check.specs.OldNames.{current_name, name_read}
 use Rattle.column_check.specs.Metadata.{Values, values_of}
 use Rattle.column_check.specs.Types.{TypeAccepted, HasTypeFault, TypeInferred}
 use Rattle.column_check.specs.Finding.{HasName, HasOtherName, IsReserved, IsOfKind, IsInvalidFor, IsFinding}
@@ -30,14 +31,18 @@ one_text o s t h k = cc
 
 module _ (c : ColumnTree) where
   other_apart : (s : Text) (n : ExtensionName) → HasOtherName c s → HasName c n → ⊥
-  other_apart s n h named = h.1 n (one_text _ s (name_text n) h.0 named)
+  other_apart s n h named = h.1 n (one_text _ (current_name s) (name_text n) (ap (option_map current_name) h.0) named)
+
+  -- a column with one of GeoArrow's extension names has an extension name
+  unnamed_apart : (n : ExtensionName) → HasName c n → name_on c ≡ None → ⊥
+  unnamed_apart n named none = not_both (name_read c) (name_text n) named (ap (option_map current_name) none)
 
   -- an invalid column has an extension name
   pub name_there : (r : Reasons) → IsInvalidFor c r → name_on c ≡ None → ⊥
   name_there UnknownExtension h none = not_both _ h.0 h.1.0 none
-  name_there (DataType t) h none = not_both _ (name_text h.0) h.1 none
-  name_there (Metadata m) h none = not_both _ (name_text h.0) h.1 none
-  name_there (DataTypeAndMetadata t m) h none = not_both _ (name_text h.0) h.1 none
+  name_there (DataType t) h none = unnamed_apart h.0 h.1 none
+  name_there (Metadata m) h none = unnamed_apart h.0 h.1 none
+  name_there (DataTypeAndMetadata t m) h none = unnamed_apart h.0 h.1 none
 
   -- under another extension name it is invalid only if that is reserved
   reserved_there : (r : Reasons) (s : Text) → IsInvalidFor c r → HasOtherName c s → ¬ IsReserved s → ⊥
@@ -109,8 +114,8 @@ module _ (c : ColumnTree) where
       one_finding (Geometry g) (Geometry h) is k = one_geometry g h is k
       one_finding (Geometry g) (Invalid r) is k = absurd (kind_apart r g.kind (values_of g.metadata) is.0 k)
       one_finding (Geometry g) Extension is k = absurd (other_apart k.0 is.0.0 k.1 is.0.1)
-      one_finding (Geometry g) (Inferred h) is k = absurd (not_both _ (name_text is.0.0) is.0.1 k.1.0)
-      one_finding (Geometry g) Plain is k = absurd (not_both _ (name_text is.0.0) is.0.1 k.0)
+      one_finding (Geometry g) (Inferred h) is k = absurd (unnamed_apart is.0.0 is.0.1 k.1.0)
+      one_finding (Geometry g) Plain is k = absurd (unnamed_apart is.0.0 is.0.1 k.0)
       one_finding (Invalid r) (Geometry g) is k = absurd (kind_apart r g.kind (values_of g.metadata) k.0 is)
       one_finding (Invalid r) (Invalid s) is k = one_reasons r s is k
       one_finding (Invalid r) Extension is k = absurd (reserved_there r k.0 is k.1 k.2)
@@ -121,12 +126,12 @@ module _ (c : ColumnTree) where
       one_finding Extension Extension is k = tt
       one_finding Extension (Inferred h) is k = absurd (not_both _ is.0 is.1.0 k.1.0)
       one_finding Extension Plain is k = absurd (not_both _ is.0 is.1.0 k.0)
-      one_finding (Inferred g) (Geometry h) is k = absurd (not_both _ (name_text k.0.0) k.0.1 is.1.0)
+      one_finding (Inferred g) (Geometry h) is k = absurd (unnamed_apart k.0.0 k.0.1 is.1.0)
       one_finding (Inferred g) (Invalid r) is k = absurd (name_there r k is.1.0)
       one_finding (Inferred g) Extension is k = absurd (not_both _ k.0 k.1.0 is.1.0)
       one_finding (Inferred g) (Inferred h) is k = one_taken g h is k
       one_finding (Inferred g) Plain is k = absurd (k.1 is.0 g.kind (values_of g.metadata) is.1)
-      one_finding Plain (Geometry g) is k = absurd (not_both _ (name_text k.0.0) k.0.1 is.0)
+      one_finding Plain (Geometry g) is k = absurd (unnamed_apart k.0.0 k.0.1 is.0)
       one_finding Plain (Invalid r) is k = absurd (name_there r k is.0)
       one_finding Plain Extension is k = absurd (not_both _ k.0 k.1.0 is.0)
       one_finding Plain (Inferred g) is k = absurd (is.1 k.0 g.kind (values_of g.metadata) k.1)

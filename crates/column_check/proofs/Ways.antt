@@ -1,79 +1,94 @@
--- The ways that a walk finds.
-use Rattle.std.proofs.Common.{◌≡◌, ℕ, zero, suc, ◌<◌, ◌≤◌, Bool, true, false, cond, List, [], ◌∷◌, ◌++◌, length, get_or, map, max, refl, sym, ap, ap₂, ◌∙◌, arith, append_assoc, append-nil}
+-- The places that a walk finds.
+use Rattle.std.proofs.Common.{◌≡◌, ℕ, zero, suc, ◌<◌, ◌≤◌, Bool, true, false, cond, codes, List, [], ◌∷◌, ◌++◌, length, get_or, map, max, refl, sym, ap, ap₂, ◌∙◌, arith, append_assoc, append-nil}
 use Rattle.std.proofs.lemmas.List.{map-append}
 use Rattle.std.proofs.lemmas.List.Elements.{filter-append}
 use Rattle.std.specs.List.{filter}
 use Rattle.arrow_values.specs.Tree.{Text, Metadata, Tree, plain, list, large_list, fixed_size_list, struct, union, FieldTrees, no_fields, field, MemberTrees, no_members, member}
+use Rattle.arrow_values.specs.declared.tree.UnionMode.{UnionMode}
 use Rattle.geoarrow_layout.specs.declared.native_kinds.Kind.{Kind}
-use Rattle.column_check.specs.Parts.{Names, below, coordinates_in, coordinates_of, and_below, fields_in, fields_of, members_of, ways_to}
-use Rattle.column_check.specs.Warnings.{is_doubtful, has_extension_name}
-use Rattle.column_check.specs.Walk.{is_own, way_if, found, found_of, found_among, sought_ways}
+use Rattle.column_check.specs.Parts.{Names, Spot, spot_at, spots_of, below, coordinates_in, coordinates_of, and_below, fields_in, fields_of, members_of, or_below, nullable_in, nullable_of, nullable_among, unions_in, unions_of, unions_among}
+use Rattle.column_check.specs.Shown.{type_shown}
+use Rattle.column_check.specs.Warnings.{is_doubtful, is_sparse, has_extension_name, extension_text}
+use Rattle.column_check.specs.Walk.{spot_if, found_in, found, found_of, found_among, sought_spots}
 use Rattle.column_check.specs.declared.walk.Sought.{Sought}
-use Rattle.column_check.specs.declared.walk.Sought.TheVariants.{Coordinates, Extensions}
-use Rattle.column_check.specs.declared.warning.WarningCode.{WarningCode}
+use Rattle.column_check.specs.declared.walk.Sought.TheVariants.{Coordinates, Inner}
+use Rattle.column_check.specs.declared.walk.Inner.TheVariants.{Extensions, Nullables, Unions}
+use Rattle.column_check.specs.declared.code.WarningCode.{WarningCode}
 
--- ways that go on from there
-abbrev beyond : Names → List Names → List Names
-beyond there ways = map (λ way. there ++ way) ways
+-- places that go on from there
+abbrev beyond : Names → List Spot → List Spot
+beyond there spots = map (λ spot. (there ++ spot.0, spot.1, spot.2)) spots
 
-beyond_none : (ways : List Names) → beyond [] ways ≡ ways
+beyond_none : (spots : List Spot) → beyond [] spots ≡ spots
 beyond_none [] = refl
-beyond_none (way ∷ ways) = ap (λ rest. way ∷ rest) (beyond_none ways)
+beyond_none (spot ∷ spots) = ap (λ rest. spot ∷ rest) (beyond_none spots)
 
-module _ (there : Names) where
+module _ (there : Names) {X : Type 0} (test : X → Bool) (text : X → Text) where
   -- the parts below a field are those on the way on
-  pub at_below : {X : Type 0} (test : X → Bool) (name : Text) (parts : List (Names × X)) → beyond there (ways_to test (below name parts)) ≡ beyond (there ++ name ∷ []) (ways_to test parts)
-  at_below test name [] = refl
-  at_below {X} test name (part ∷ parts) = here (test part.1) (at_below test name parts)
+  pub at_below : (name : Text) (parts : List (Names × X)) → beyond there (spots_of test text (below name parts)) ≡ beyond (there ++ name ∷ []) (spots_of test text parts)
+  at_below name [] = refl
+  at_below name (part ∷ parts) = here (test part.1) (at_below name parts)
     where
       rest : List (Names × X)
       rest = filter (λ x. test x.1) (below name parts)
 
-      here : (b : Bool) → beyond there (map (λ x. x.0) rest) ≡ beyond (there ++ name ∷ []) (ways_to test parts)
-          → beyond there (map (λ x. x.0) (cond b ((name ∷ part.0, part.1) ∷ rest) rest)) ≡ beyond (there ++ name ∷ []) (map (λ x. x.0) (cond b (part ∷ filter (λ x. test x.1) parts) (filter (λ x. test x.1) parts)))
+      here : (b : Bool) → beyond there (map (λ x. spot_at x.0 (text x.1)) rest) ≡ beyond (there ++ name ∷ []) (spots_of test text parts)
+          → beyond there (map (λ x. spot_at x.0 (text x.1)) (cond b ((name ∷ part.0, part.1) ∷ rest) rest))
+          ≡ beyond (there ++ name ∷ []) (map (λ x. spot_at x.0 (text x.1)) (cond b (part ∷ filter (λ x. test x.1) parts) (filter (λ x. test x.1) parts)))
       here false h = h
       here true h =
-          ap (λ way. way ∷ beyond there (map (λ x. x.0) rest)) (sym (append_assoc there (name ∷ []) part.0))
-          ∙ ap (λ ways. ((there ++ name ∷ []) ++ part.0) ∷ ways) h
+          ap (λ way. spot_at way (text part.1) ∷ beyond there (map (λ x. spot_at x.0 (text x.1)) rest)) (sym (append_assoc there (name ∷ []) part.0))
+          ∙ ap (λ spots. spot_at ((there ++ name ∷ []) ++ part.0) (text part.1) ∷ spots) h
 
-  -- the ways to some parts, then those to others
-  pub at_more : {X : Type 0} (test : X → Bool) (parts others : List (Names × X)) → beyond there (ways_to test (parts ++ others)) ≡ beyond there (ways_to test parts) ++ beyond there (ways_to test others)
-  at_more {X} test parts others =
-      ap (λ xs. beyond there (map (λ x. x.0) xs)) (filter-append (λ x. test x.1) parts others)
-      ∙ ap (beyond there) (map-append (λ x. x.0) (filter (λ x. test x.1) parts) (filter (λ x. test x.1) others))
-      ∙ map-append (λ way. there ++ way) (ways_to test parts) (ways_to test others)
+  -- the places of some parts, then those of others
+  pub at_more : (parts others : List (Names × X)) → beyond there (spots_of test text (parts ++ others)) ≡ beyond there (spots_of test text parts) ++ beyond there (spots_of test text others)
+  at_more parts others =
+      ap (λ xs. beyond there (map (λ x. spot_at x.0 (text x.1)) xs)) (filter-append (λ x. test x.1) parts others)
+      ∙ ap (beyond there) (map-append (λ x. spot_at x.0 (text x.1)) (filter (λ x. test x.1) parts) (filter (λ x. test x.1) others))
+      ∙ map-append (λ spot. (there ++ spot.0, spot.1, spot.2)) (spots_of test text parts) (spots_of test text others)
 
-  -- a part behind which stand those below it
-  pub at_own : {X : Type 0} (test : X → Bool) (name : Text) (m : X) (parts : List (Names × X))
-      → beyond there (ways_to test ((name ∷ [], m) ∷ below name parts)) ≡ cond (test m) ((there ++ name ∷ []) ∷ []) [] ++ beyond (there ++ name ∷ []) (ways_to test parts)
-  at_own {X} test name m parts = here (test m) (at_below test name parts)
+  -- a field, behind which stand others
+  pub at_field : (name : Text) (x : X) (parts : List (Names × X))
+      → beyond there (spots_of test text ((name ∷ [], x) ∷ parts)) ≡ spot_if (test x) (there ++ name ∷ []) (text x) ++ beyond there (spots_of test text parts)
+  at_field name x parts = here (test x)
     where
       rest : List (Names × X)
-      rest = filter (λ x. test x.1) (below name parts)
+      rest = filter (λ y. test y.1) parts
 
-      here : (b : Bool) → beyond there (map (λ x. x.0) rest) ≡ beyond (there ++ name ∷ []) (ways_to test parts)
-          → beyond there (map (λ x. x.0) (cond b ((name ∷ [], m) ∷ rest) rest)) ≡ cond b ((there ++ name ∷ []) ∷ []) [] ++ beyond (there ++ name ∷ []) (ways_to test parts)
-      here false h = h
-      here true h = ap (λ ways. (there ++ name ∷ []) ∷ ways) h
+      here : (b : Bool) → beyond there (map (λ y. spot_at y.0 (text y.1)) (cond b ((name ∷ [], x) ∷ rest) rest)) ≡ spot_if b (there ++ name ∷ []) (text x) ++ beyond there (spots_of test text parts)
+      here false = refl
+      here true = refl
 
--- ---- what a walk finds is at the ends of the ways to the parts that are looked for
+  -- a part behind which stand those below it
+  pub at_own : (name : Text) (x : X) (parts : List (Names × X))
+      → beyond there (spots_of test text (and_below name x parts)) ≡ spot_if (test x) (there ++ name ∷ []) (text x) ++ beyond (there ++ name ∷ []) (spots_of test text parts)
+  at_own name x parts = at_field name x (below name parts) ∙ ap (λ spots. spot_if (test x) (there ++ name ∷ []) (text x) ++ spots) (at_below name parts)
+
+  -- a part on the way itself, behind which stand others
+  pub at_here : (x : X) (parts : List (Names × X)) → beyond there (spots_of test text (([], x) ∷ parts)) ≡ spot_if (test x) there (text x) ++ beyond there (spots_of test text parts)
+  at_here x parts = here (test x)
+    where
+      rest : List (Names × X)
+      rest = filter (λ y. test y.1) parts
+
+      here : (b : Bool) → beyond there (map (λ y. spot_at y.0 (text y.1)) (cond b (([], x) ∷ rest) rest)) ≡ spot_if b there (text x) ++ beyond there (spots_of test text parts)
+      here false = refl
+      here true = ap (λ way. spot_at way (text x) ∷ beyond there (spots_of test text parts)) (append-nil there)
+
+-- ---- what a walk finds is at the places of the parts that are looked for
 
 module _ (code : WarningCode) (kind : Kind) where
-  abbrev at_doubtful : Names → List (Names × Tree) → List Names
-  at_doubtful way parts = beyond way (ways_to (is_doubtful code kind) parts)
+  abbrev at_doubtful : Names → List (Names × Tree) → List Spot
+  at_doubtful way parts = beyond way (spots_of (is_doubtful code kind) type_shown parts)
 
-  here : (way : Names) (t : Tree) → cond (is_doubtful code kind t) (way ∷ []) [] ≡ at_doubtful way (([], t) ∷ [])
-  here way t = by_test (is_doubtful code kind t)
-    where
-      by_test : (b : Bool) → cond b (way ∷ []) [] ≡ beyond way (map {A = Names × Tree} (λ x. x.0) (cond b (([], t) ∷ []) []))
-      by_test false = refl
-      by_test true = ap (λ names. names ∷ []) (sym (append-nil way))
+  here : (way : Names) (t : Tree) → spot_if (is_doubtful code kind t) way (type_shown t) ≡ at_doubtful way (([], t) ∷ [])
+  here way t = sym (at_here way (is_doubtful code kind) type_shown t [] ∙ append-nil _)
 
   mutual
     pub doubtful_found : (way : Names) (t : Tree) → found (Coordinates code kind) way t ≡ at_doubtful way (coordinates_in t)
     doubtful_found way (plain p) = refl
-    doubtful_found way (list n t b m) = doubtful_found (way ++ n ∷ []) t ∙ sym (at_below way (is_doubtful code kind) n (coordinates_in t))
-    doubtful_found way (large_list n t b m) = doubtful_found (way ++ n ∷ []) t ∙ sym (at_below way (is_doubtful code kind) n (coordinates_in t))
+    doubtful_found way (list n t b m) = doubtful_found (way ++ n ∷ []) t ∙ sym (at_below way (is_doubtful code kind) type_shown n (coordinates_in t))
+    doubtful_found way (large_list n t b m) = doubtful_found (way ++ n ∷ []) t ∙ sym (at_below way (is_doubtful code kind) type_shown n (coordinates_in t))
     doubtful_found way (fixed_size_list n t b m size) = here way (fixed_size_list n t b m size)
     doubtful_found way (struct fs) = here way (struct fs)
     doubtful_found way (union ms mode) = doubtful_among way ms
@@ -81,41 +96,106 @@ module _ (code : WarningCode) (kind : Kind) where
     doubtful_among : (way : Names) (ms : MemberTrees) → found_among (Coordinates code kind) way ms ≡ at_doubtful way (coordinates_of ms)
     doubtful_among way no_members = refl
     doubtful_among way (member i n t b m ms) =
-        ap₂ (λ x y. x ++ y) (doubtful_found (way ++ n ∷ []) t ∙ sym (at_below way (is_doubtful code kind) n (coordinates_in t))) (doubtful_among way ms)
-        ∙ sym (at_more way (is_doubtful code kind) (below n (coordinates_in t)) (coordinates_of ms))
+        ap₂ (λ x y. x ++ y) (doubtful_found (way ++ n ∷ []) t ∙ sym (at_below way (is_doubtful code kind) type_shown n (coordinates_in t))) (doubtful_among way ms)
+        ∙ sym (at_more way (is_doubtful code kind) type_shown (below n (coordinates_in t)) (coordinates_of ms))
 
-abbrev at_named : Names → List (Names × Metadata) → List Names
-at_named way parts = beyond way (ways_to has_extension_name parts)
+abbrev at_named : Names → List (Names × Metadata) → List Spot
+at_named way parts = beyond way (spots_of has_extension_name extension_text parts)
 
-one_named : (way : Names) (n : Text) (m : Metadata) (parts : List (Names × Metadata)) (below : List Names) → below ≡ at_named (way ++ n ∷ []) parts
-    → way_if (is_own Extensions m) (way ++ n ∷ []) ++ below ≡ at_named way (and_below n m parts)
-one_named way n m parts below is = ap (λ ways. way_if (is_own Extensions m) (way ++ n ∷ []) ++ ways) is ∙ sym (at_own way has_extension_name n m parts)
+one_named : (way : Names) (n : Text) (b : Bool) (m : Metadata) (parts : List (Names × Metadata)) (below : List Spot) → below ≡ at_named (way ++ n ∷ []) parts
+    → found_in (Inner Extensions) (way ++ n ∷ []) b m below ≡ at_named way (and_below n m parts)
+one_named way n b m parts below is =
+    ap (λ spots. spot_if (has_extension_name m) (way ++ n ∷ []) (extension_text m) ++ spots) is ∙ sym (at_own way has_extension_name extension_text n m parts)
 
 mutual
-  named_found : (way : Names) (t : Tree) → found Extensions way t ≡ at_named way (fields_in t)
+  named_found : (way : Names) (t : Tree) → found (Inner Extensions) way t ≡ at_named way (fields_in t)
   named_found way (plain p) = refl
-  named_found way (list n t b m) = one_named way n m (fields_in t) _ (named_found (way ++ n ∷ []) t)
-  named_found way (large_list n t b m) = one_named way n m (fields_in t) _ (named_found (way ++ n ∷ []) t)
-  named_found way (fixed_size_list n t b m size) = one_named way n m (fields_in t) _ (named_found (way ++ n ∷ []) t)
+  named_found way (list n t b m) = one_named way n b m (fields_in t) _ (named_found (way ++ n ∷ []) t)
+  named_found way (large_list n t b m) = one_named way n b m (fields_in t) _ (named_found (way ++ n ∷ []) t)
+  named_found way (fixed_size_list n t b m size) = one_named way n b m (fields_in t) _ (named_found (way ++ n ∷ []) t)
   named_found way (struct fs) = named_of way fs
   named_found way (union ms mode) = named_among way ms
 
-  named_of : (way : Names) (fs : FieldTrees) → found_of Extensions way fs ≡ at_named way (fields_of fs)
+  named_of : (way : Names) (fs : FieldTrees) → found_of (Inner Extensions) way fs ≡ at_named way (fields_of fs)
   named_of way no_fields = refl
   named_of way (field n t b m fs) =
-      ap₂ (λ x y. x ++ y) (one_named way n m (fields_in t) _ (named_found (way ++ n ∷ []) t)) (named_of way fs)
-      ∙ sym (at_more way has_extension_name (and_below n m (fields_in t)) (fields_of fs))
+      ap₂ (λ x y. x ++ y) (one_named way n b m (fields_in t) _ (named_found (way ++ n ∷ []) t)) (named_of way fs)
+      ∙ sym (at_more way has_extension_name extension_text (and_below n m (fields_in t)) (fields_of fs))
 
-  named_among : (way : Names) (ms : MemberTrees) → found_among Extensions way ms ≡ at_named way (members_of ms)
+  named_among : (way : Names) (ms : MemberTrees) → found_among (Inner Extensions) way ms ≡ at_named way (members_of ms)
   named_among way no_members = refl
   named_among way (member i n t b m ms) =
-      ap₂ (λ x y. x ++ y) (one_named way n m (fields_in t) _ (named_found (way ++ n ∷ []) t)) (named_among way ms)
-      ∙ sym (at_more way has_extension_name (and_below n m (fields_in t)) (members_of ms))
+      ap₂ (λ x y. x ++ y) (one_named way n false m (fields_in t) _ (named_found (way ++ n ∷ []) t)) (named_among way ms)
+      ∙ sym (at_more way has_extension_name extension_text (and_below n m (fields_in t)) (members_of ms))
+
+abbrev nullable_word : Bool → Text
+nullable_word nullable = codes "nullable"
+
+abbrev itself : Bool → Bool
+itself b = b
+
+abbrev at_nullable : Names → List (Names × Bool) → List Spot
+at_nullable way parts = beyond way (spots_of itself nullable_word parts)
+
+one_nullable : (way : Names) (n : Text) (b : Bool) (m : Metadata) (parts : List (Names × Bool)) (below : List Spot) → below ≡ at_nullable (way ++ n ∷ []) parts
+    → found_in (Inner Nullables) (way ++ n ∷ []) b m below ≡ at_nullable way (or_below n b parts)
+one_nullable way n true m parts below is = refl
+one_nullable way n false m parts below is = is ∙ sym (at_below way itself nullable_word n parts)
+
+mutual
+  nullable_found : (way : Names) (t : Tree) → found (Inner Nullables) way t ≡ at_nullable way (nullable_in t)
+  nullable_found way (plain p) = refl
+  nullable_found way (list n t b m) = one_nullable way n b m (nullable_in t) _ (nullable_found (way ++ n ∷ []) t)
+  nullable_found way (large_list n t b m) = one_nullable way n b m (nullable_in t) _ (nullable_found (way ++ n ∷ []) t)
+  nullable_found way (fixed_size_list n t b m size) = one_nullable way n b m (nullable_in t) _ (nullable_found (way ++ n ∷ []) t)
+  nullable_found way (struct fs) = nullable_each way fs
+  nullable_found way (union ms mode) = nullable_members way ms
+
+  nullable_each : (way : Names) (fs : FieldTrees) → found_of (Inner Nullables) way fs ≡ at_nullable way (nullable_of fs)
+  nullable_each way no_fields = refl
+  nullable_each way (field n t b m fs) =
+      ap₂ (λ x y. x ++ y) (one_nullable way n b m (nullable_in t) _ (nullable_found (way ++ n ∷ []) t)) (nullable_each way fs)
+      ∙ sym (at_more way itself nullable_word (or_below n b (nullable_in t)) (nullable_of fs))
+
+  nullable_members : (way : Names) (ms : MemberTrees) → found_among (Inner Nullables) way ms ≡ at_nullable way (nullable_among ms)
+  nullable_members way no_members = refl
+  nullable_members way (member i n t b m ms) =
+      ap₂ (λ x y. x ++ y) (nullable_found (way ++ n ∷ []) t ∙ sym (at_below way itself nullable_word n (nullable_in t))) (nullable_members way ms)
+      ∙ sym (at_more way itself nullable_word (below n (nullable_in t)) (nullable_among ms))
+
+abbrev sparse_word : UnionMode → Text
+sparse_word mode = codes "sparse"
+
+abbrev at_sparse : Names → List (Names × UnionMode) → List Spot
+at_sparse way parts = beyond way (spots_of is_sparse sparse_word parts)
+
+mutual
+  sparse_found : (way : Names) (t : Tree) → found (Inner Unions) way t ≡ at_sparse way (unions_in t)
+  sparse_found way (plain p) = refl
+  sparse_found way (list n t b m) = sparse_found (way ++ n ∷ []) t ∙ sym (at_below way is_sparse sparse_word n (unions_in t))
+  sparse_found way (large_list n t b m) = sparse_found (way ++ n ∷ []) t ∙ sym (at_below way is_sparse sparse_word n (unions_in t))
+  sparse_found way (fixed_size_list n t b m size) = sparse_found (way ++ n ∷ []) t ∙ sym (at_below way is_sparse sparse_word n (unions_in t))
+  sparse_found way (struct fs) = sparse_each way fs
+  sparse_found way (union ms mode) = ap (λ spots. spot_if (is_sparse mode) way (codes "sparse") ++ spots) (sparse_members way ms) ∙ sym (at_here way is_sparse sparse_word mode (unions_among ms))
+
+  sparse_each : (way : Names) (fs : FieldTrees) → found_of (Inner Unions) way fs ≡ at_sparse way (unions_of fs)
+  sparse_each way no_fields = refl
+  sparse_each way (field n t b m fs) =
+      ap₂ (λ x y. x ++ y) (sparse_found (way ++ n ∷ []) t ∙ sym (at_below way is_sparse sparse_word n (unions_in t))) (sparse_each way fs)
+      ∙ sym (at_more way is_sparse sparse_word (below n (unions_in t)) (unions_of fs))
+
+  sparse_members : (way : Names) (ms : MemberTrees) → found_among (Inner Unions) way ms ≡ at_sparse way (unions_among ms)
+  sparse_members way no_members = refl
+  sparse_members way (member i n t b m ms) =
+      ap₂ (λ x y. x ++ y) (sparse_found (way ++ n ∷ []) t ∙ sym (at_below way is_sparse sparse_word n (unions_in t))) (sparse_members way ms)
+      ∙ sym (at_more way is_sparse sparse_word (below n (unions_in t)) (unions_among ms))
 
 -- from a column on
-pub all_found : (s : Sought) (t : Tree) → found s [] t ≡ sought_ways s t
+pub all_found : (s : Sought) (t : Tree) → found s [] t ≡ sought_spots s t
 all_found (Coordinates code kind) t = doubtful_found code kind [] t ∙ beyond_none _
-all_found Extensions t = named_found [] t ∙ beyond_none _
+all_found (Inner Extensions) t = named_found [] t ∙ beyond_none _
+all_found (Inner Nullables) t = nullable_found [] t ∙ beyond_none _
+all_found (Inner Unions) t = sparse_found [] t ∙ beyond_none _
 
 -- an item of a loop lies less deep than what it is in
 module _ {A : Type 0} (one : A → ℕ) (all : List A → ℕ) (more : (x : A) (xs : List A) → all (x ∷ xs) ≡ max (suc (one x)) (all xs)) where

@@ -6,6 +6,7 @@ use Rattle.arrow_columns.specs.Column.{ColumnTree, name_on, metadata_on}
 use Rattle.geoarrow_layout.specs.declared.names.ExtensionName.{ExtensionName}
 use Rattle.geoarrow_layout.specs.declared.native_kinds.Kind.{Kind}
 use Rattle.geoarrow_layout.specs.Kinds.{name_text}
+use Rattle.column_check.specs.OldNames.{current_name, name_read}
 use Rattle.column_check.specs.Metadata.{Values, values_of, TextDenotes, TextHasCrs, HasMetadataFault}
 use Rattle.column_check.specs.Types.{TypeAccepted, HasTypeFault, TypeInferred}
 use Rattle.column_check.specs.declared.finding.Reasons.{Reasons}
@@ -13,13 +14,13 @@ use Rattle.column_check.specs.declared.finding.Reasons.TheVariants.{UnknownExten
 use Rattle.column_check.specs.declared.finding.Finding.{Finding as ColumnFinding}
 use Rattle.column_check.specs.declared.finding.Finding.TheVariants.{Geometry, Invalid, Extension, Inferred, Plain}
 
--- the column has that extension name
+-- the column has that extension name, or the old one of it
 abbrev pub HasName : ColumnTree → ExtensionName → Type 0
-HasName c n = name_on c ≡ Some (name_text n)
+HasName c n = name_read c ≡ Some (name_text n)
 
--- the column has an extension name that is none of GeoArrow's
+-- the column has an extension name that is none of GeoArrow's, old or new
 abbrev pub HasOtherName : ColumnTree → Text → Type 0
-HasOtherName c s = (name_on c ≡ Some s) × ((n : ExtensionName) → s ≢ name_text n)
+HasOtherName c s = (name_on c ≡ Some s) × ((n : ExtensionName) → current_name s ≢ name_text n)
 
 -- the text begins with the word
 abbrev pub BeginsWith : Text → Text → Type 0

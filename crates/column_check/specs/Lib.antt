@@ -1,9 +1,15 @@
 pub mod Metadata
 pub mod Types
+pub mod OldNames
 pub mod Finding
+pub mod Severities
 pub mod Unique
 pub mod States
+pub mod Shown
 pub mod Parts
+pub mod Said
+pub mod CrsWarnings
+pub mod KeyWarnings
 pub mod Warnings
 pub mod Walk
 pub mod WarningWords

@@ -1,16 +1,17 @@
 -- Which values a metadata text denotes, whatever numbers its CRS holds, and why a text denotes none (GeoArrow, "Extension metadata").
-use Rattle.std.specs.Prelude.{◌≡◌, [], codes, Option, None, Some, IsSome, option_map, option_and_then, Result, Ok, Err}
+use Rattle.std.specs.Prelude.{◌≡◌, [], bytes_eq, codes, Bool, false, Option, None, Some, IsSome, option_map, option_and_then, Result, Ok, Err, if◌then◌else◌}
 use Rattle.json.specs.Json.{Json, null}
 use Rattle.json.specs.Find.{get}
 use Rattle.json.specs.Lex.{tokens}
 use Rattle.json.specs.Tree.{json_tokens}
-use Rattle.serde_json.specs.Data.{Data}
+use Rattle.serde_json.specs.Data.{Data, string}
 use Rattle.serde_json.specs.Find.{as_object}
 use Rattle.serde_json.specs.Read.{of_json, read}
 use Rattle.arrow_values.specs.Tree.{Text}
 use Rattle.geoarrow_meta.specs.declared.edges.Edges.{Edges}
 use Rattle.geoarrow_meta.specs.declared.crs.crs_type.CrsType.{CrsType}
 use Rattle.geoarrow_meta.specs.Read.{crs_type_data, edges_data, at_key}
+use Rattle.geoarrow_meta.specs.KeyValues.{IsNamed}
 use Rattle.column_check.specs.declared.metadata.ColumnMetadata.{ColumnMetadata}
 use Rattle.column_check.specs.declared.metadata.MetadataFault.{MetadataFault}
 use Rattle.column_check.specs.declared.metadata.MetadataFault.TheVariants.{NotJson, NotObject, UnknownCrsType, UnknownEdges, UnknownCrsTypeAndEdges}
@@ -27,12 +28,35 @@ values_of m = record { crs = option_and_then of_json m.crs; crs_type = m.crs_typ
 abbrev pub no_values : Values
 no_values = record { crs = None; crs_type = None; edges = None }
 
+-- the value is the text `planar`
+abbrev pub is_planar : Option Data → Bool
+is_planar (Some (string s)) = bytes_eq s (codes "planar")
+is_planar o = false
+
+-- the value, if it is not `planar`
+abbrev pub unless_planar : Option Data → Option Data
+unless_planar o = if is_planar o then None else o
+
+-- the value at the key `edges`, if it is there, and neither null nor `planar`, which say what its absence does
+abbrev pub edges_in : Data → Option Data
+edges_in d = unless_planar (at_key (codes "edges") d)
+
+-- the edges of a JSON value are planar by name
+abbrev pub are_planar : Option Data → Bool
+are_planar None = false
+are_planar (Some d) = is_planar (at_key (codes "edges") d)
+
+-- the text is read as that JSON value, if it is one
+abbrev pub IsReadFrom : Text → Option Json → Type 0
+IsReadFrom s None = read s ≡ None
+IsReadFrom s (Some j) = (d : Data) × (of_json j ≡ Some d) × (read s ≡ Some d)
+
 -- the JSON value denotes these values: it is an object, and they are those at its three keys
 pub record DataDenotes (d : Data) (v : Values) : Type 0 where
   pub is_object : IsSome (as_object d)
   pub crs : v.crs ≡ at_key (codes "crs") d
   pub crs_type : option_map crs_type_data v.crs_type ≡ at_key (codes "crs_type") d
-  pub edges : option_map edges_data v.edges ≡ at_key (codes "edges") d
+  pub edges : option_map edges_data v.edges ≡ edges_in d
 
 -- the text is JSON that denotes these values
 abbrev pub JsonDenotes : Text → Values → Type 0
@@ -65,7 +89,7 @@ abbrev pub NamesCrsType : Data → Type 0
 NamesCrsType d = (t : Option CrsType) × (option_map crs_type_data t ≡ at_key (codes "crs_type") d)
 
 abbrev pub NamesEdges : Data → Type 0
-NamesEdges d = (e : Option Edges) × (option_map edges_data e ≡ at_key (codes "edges") d)
+NamesEdges d = (e : Option Edges) × (option_map edges_data e ≡ edges_in d)
 
 -- the text is JSON, an object, and P holds of it
 abbrev pub IsObjectWith : Text → (Data → Type 0) → Type 0
@@ -84,6 +108,12 @@ abbrev pub HasMetadataFault : Option Text → MetadataFault → Type 0
 HasMetadataFault None f = ⊥
 HasMetadataFault (Some []) f = ⊥
 HasMetadataFault (Some s) f = HasTextFault s f
+
+-- these were found at the three keys of the value: `Some` says what stands there, or nothing; `None` says that it is something else
+pub record AreFound (d : Data) (crs : Option Data) (crs_type : Option (Option CrsType)) (edges : Option (Option Edges)) : Type 0 where
+  pub at_crs : crs ≡ at_key (codes "crs") d
+  pub at_crs_type : IsNamed crs_type_data crs_type (at_key (codes "crs_type") d)
+  pub at_edges : IsNamed edges_data edges (edges_in d)
 
 -- what a text is read as that is not empty: the values that it denotes as JSON, with its CRS as it is written, or why it denotes none
 abbrev pub IsJsonRead : Text → Result ColumnMetadata MetadataFault → Type 0

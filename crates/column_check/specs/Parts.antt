@@ -1,7 +1,8 @@
--- The parts of a data type: its coordinates, and the fields below it, each with the names of the child fields on the way to it.
-use Rattle.std.specs.Prelude.{Bool, List, [], ◌∷◌, ◌++◌, map}
+-- The parts of a data type: its coordinates, its unions, and the fields below it, each with the names of the child fields on the way to it.
+use Rattle.std.specs.Prelude.{Bool, List, [], ◌∷◌, ◌++◌, map, Option, None, Some, if◌then◌else◌}
 use Rattle.std.specs.List.{filter}
 use Rattle.arrow_values.specs.Tree.{Text, Metadata, Tree, plain, list, large_list, fixed_size_list, struct, union, FieldTrees, no_fields, field, MemberTrees, no_members, member}
+use Rattle.arrow_values.specs.declared.tree.UnionMode.{UnionMode}
 
 -- the names of child fields, outermost first
 abbrev pub Names : Type 0
@@ -26,8 +27,8 @@ abbrev mutual
   coordinates_of (member i n t b m ms) = below n (coordinates_in t) ++ coordinates_of ms
 
 -- a field, and the parts below it
-abbrev pub and_below : Text → Metadata → List (Names × Metadata) → List (Names × Metadata)
-and_below name metadata parts = (name ∷ [], metadata) ∷ below name parts
+abbrev pub and_below : {X : Type 0} → Text → X → List (Names × X) → List (Names × X)
+and_below name x parts = (name ∷ [], x) ∷ below name parts
 
 -- the metadata of the fields below a data type, from left to right, a field before those below it
 abbrev mutual
@@ -47,6 +48,61 @@ abbrev mutual
   members_of no_members = []
   members_of (member i n t b m ms) = and_below n m (fields_in t) ++ members_of ms
 
--- the ways to the parts that pass the test
-abbrev pub ways_to : {X : Type 0} → (X → Bool) → List (Names × X) → List Names
-ways_to test parts = map (λ x. x.0) (filter (λ x. test x.1) parts)
+-- whether a field is nullable, and the parts below it, unless it is
+abbrev pub or_below : Text → Bool → List (Names × Bool) → List (Names × Bool)
+or_below name nullable parts = (name ∷ [], nullable) ∷ (if nullable then [] else below name parts)
+
+-- whether the fields below a data type are nullable, from left to right, but for the members of unions, and for the fields below a nullable one
+abbrev mutual
+  pub nullable_in : Tree → List (Names × Bool)
+  nullable_in (plain p) = []
+  nullable_in (list n t b m) = or_below n b (nullable_in t)
+  nullable_in (large_list n t b m) = or_below n b (nullable_in t)
+  nullable_in (fixed_size_list n t b m size) = or_below n b (nullable_in t)
+  nullable_in (struct fs) = nullable_of fs
+  nullable_in (union ms mode) = nullable_among ms
+
+  pub nullable_of : FieldTrees → List (Names × Bool)
+  nullable_of no_fields = []
+  nullable_of (field n t b m fs) = or_below n b (nullable_in t) ++ nullable_of fs
+
+  pub nullable_among : MemberTrees → List (Names × Bool)
+  nullable_among no_members = []
+  nullable_among (member i n t b m ms) = below n (nullable_in t) ++ nullable_among ms
+
+-- the modes of the unions in a data type, from left to right, a union before those in it
+abbrev mutual
+  pub unions_in : Tree → List (Names × UnionMode)
+  unions_in (plain p) = []
+  unions_in (list n t b m) = below n (unions_in t)
+  unions_in (large_list n t b m) = below n (unions_in t)
+  unions_in (fixed_size_list n t b m size) = below n (unions_in t)
+  unions_in (struct fs) = unions_of fs
+  unions_in (union ms mode) = ([], mode) ∷ unions_among ms
+
+  pub unions_of : FieldTrees → List (Names × UnionMode)
+  unions_of no_fields = []
+  unions_of (field n t b m fs) = below n (unions_in t) ++ unions_of fs
+
+  pub unions_among : MemberTrees → List (Names × UnionMode)
+  unions_among no_members = []
+  unions_among (member i n t b m ms) = below n (unions_in t) ++ unions_among ms
+
+-- ---- places
+
+-- a place: the names of the child fields from the column down to it; or where it is in the extension metadata, as a JSON pointer; and what
+-- stands there, as it is shown
+abbrev pub Spot : Type 0
+Spot = Names × Option Text × Option Text
+
+-- below a column, with what is shown
+abbrev pub spot_at : Names → Text → Spot
+spot_at way text = (way, None, Some text)
+
+-- in the extension metadata, with what is shown
+abbrev pub spot_in : Text → Option Text → Spot
+spot_in pointer text = ([], Some pointer, text)
+
+-- the places of the parts that pass the test, with what is shown of each
+abbrev pub spots_of : {X : Type 0} → (X → Bool) → (X → Text) → List (Names × X) → List Spot
+spots_of test shown parts = map (λ x. spot_at x.0 (shown x.1)) (filter (λ x. test x.1) parts)

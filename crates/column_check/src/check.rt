@@ -3,6 +3,7 @@ ghost use Rattle.std.specs.Prelude.{◌≡◌, ◌≢◌, ◌↔◌, Bool, Some,
 ghost use Rattle.arrow_columns.specs.Column.{ColumnTree, column_tree, name_on, metadata_on};
 ghost use Rattle.geoarrow_layout.specs.declared.names.ExtensionName.{ExtensionName};
 ghost use Rattle.geoarrow_layout.specs.Kinds.{name_text};
+ghost use Rattle.column_check.specs.OldNames.{current_name};
 ghost use Rattle.column_check.specs.Types.{IsTypeRead};
 ghost use Rattle.column_check.specs.Metadata.{IsMetadataRead};
 ghost use Rattle.column_check.specs.Finding.{HasName, HasOtherName, IsReserved, IsFinding, AreFindings};
@@ -10,6 +11,7 @@ ghost use Rattle.column_check.specs.Finding.{HasName, HasOtherName, IsReserved, 
 use crate::data_type::{TypeFault, kind_under};
 use crate::finding::{Finding, Geometry, Reasons};
 use crate::metadata::{ColumnMetadata, MetadataFault, read_metadata};
+use crate::old_names::current_name;
 use arrow_columns::{AnyType, SchemaColumn};
 use geoarrow_layout::{ExtensionName, Kind, infer_kind};
 use json::Scratch;
@@ -32,8 +34,8 @@ pub fn inspect_columns(
     Ok(findings)
 }
 
-/// What a column holds: geometries, where it has one of GeoArrow's extension names and its type and its metadata go with it, whatever
-/// its coordinate reference system is; or why not. With `infer`, a column without an extension name is taken for what
+/// What a column holds: geometries, where it has one of GeoArrow's extension names, or an old one of them, and its type and its metadata
+/// go with it, whatever its coordinate reference system is; or why not. With `infer`, a column without an extension name is taken for what
 /// `from_arrow_field` of `geoarrow_schema` infers from its data type. The scratch buffer is kept by the
 /// caller from column to column. Errs only when out of memory.
 ///
@@ -57,7 +59,7 @@ pub fn inspect_column(
     ensures { IfOk result (IsFinding infer (column_tree column.now)) }
 {
     match column.extension_type_name() {
-        Some(text) => match ExtensionName::from_text(text) {
+        Some(text) => match ExtensionName::from_text(current_name(text)) {
             Some(name) => check_named(alloc, scratch, column, name),
             None => other_name(alloc, text),
         },
@@ -108,7 +110,7 @@ fn named_finding(
 
 /// What is said of a column with an extension name that is none of GeoArrow's.
 fn other_name(alloc: Global, name: &str) -> Result<Finding, AllocError>
-    requires { (n : ExtensionName) → name.now ≢ name_text n }
+    requires { (n : ExtensionName) → current_name name.now ≢ name_text n }
     ensures { (infer : Bool) (c : ColumnTree) → name_on c ≡ Some name.now → IfOk result (IsFinding infer c) }
 {
     if is_reserved(alloc, name)? {

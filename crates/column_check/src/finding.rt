@@ -9,10 +9,11 @@ use geoarrow_layout::Kind;
 /// What is said of a column.
 #[derive(Debug, Drop)]
 pub enum Finding {
-    /// Geometries: the column has one of GeoArrow's eleven extension names, a type of a kind under it, and metadata of the format.
+    /// Geometries: the column has one of GeoArrow's eleven extension names, or an old one of them (`ogc.wkb`, `ogc.wkt`), a type of a kind
+    /// under it, and metadata of the format.
     Geometry(Geometry),
-    /// The column has one of the eleven names, and its type or its metadata do not go with it; or a name that only
-    /// GeoArrow or OGC would give, and that is none of the eleven.
+    /// The column has one of these names, and its type or its metadata do not go with it; or a name that only
+    /// GeoArrow or OGC would give, and that is none of these.
     Invalid(Reasons),
     /// Another extension type, of which nothing more is said.
     Extension,
@@ -60,7 +61,7 @@ pub struct Geometry {
 /// Why a column is invalid: all that holds of its extension name, its type and its metadata.
 #[derive(Debug, Drop)]
 pub enum Reasons {
-    /// The extension name begins with `geoarrow.`, in any letters, or with `ogc.`, and is none of the eleven.
+    /// The extension name begins with `geoarrow.`, in any letters, or with `ogc.`, and is none of the eleven, nor an old one of them.
     UnknownExtension,
     /// The type is of no kind under the extension name.
     DataType(TypeFault),

@@ -6,17 +6,26 @@
 #![tactic(auto)]
 
 mod check;
+mod code;
 mod coordinates;
+mod crs;
 mod data_type;
 mod finding;
+mod key_case;
 pub mod laws;
+mod malformed;
 mod metadata;
+mod old_names;
+mod said;
+mod severity;
+mod shown;
 mod walk;
 mod warning;
 mod way;
 
 pub use check::{inspect_column, inspect_columns};
+pub use code::{Severity, WarningCode};
 pub use data_type::{TypeFault, kind_under, names_along};
 pub use finding::{Finding, Geometry, Reasons};
 pub use metadata::{ColumnMetadata, MetadataFault, read_metadata};
-pub use warning::{Warning, WarningCode, warnings};
+pub use warning::{Warning, warnings};

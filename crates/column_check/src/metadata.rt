@@ -2,15 +2,15 @@
 ghost use Rattle.std.specs.Prelude.{◌≡◌, ◌≢◌, Some, None, IfOk, IfSome, IsSome, option_map, option_and_then, codes};
 ghost use Rattle.json.specs.Find.{get};
 ghost use Rattle.json.specs.Value.{value_view};
-ghost use Rattle.serde_json.specs.Data.{Data};
+ghost use Rattle.serde_json.specs.Data.{Data, string};
 ghost use Rattle.serde_json.specs.Find.{as_object};
 ghost use Rattle.serde_json.specs.Read.{of_json, read};
 ghost use Rattle.arrow_values.specs.Tree.{Text};
 ghost use Rattle.arrow_values.specs.Texts.{text_of};
 ghost use Rattle.value_tokens.specs.Values.{IsReadable, is_object};
 ghost use Rattle.geoarrow_meta.specs.Read.{at_key, crs_type_data, edges_data};
-ghost use Rattle.geoarrow_meta.specs.KeyValues.{IsNamed, IsWord, AreValuesOf};
-ghost use Rattle.column_check.specs.Metadata.{no_values, values_of, unless_null, HasCrs, IsJsonRead, IsMetadataRead};
+ghost use Rattle.geoarrow_meta.specs.KeyValues.{IsNamed, IsWord};
+ghost use Rattle.column_check.specs.Metadata.{no_values, values_of, unless_null, is_planar, unless_planar, edges_in, AreFound, HasCrs, IsJsonRead, IsMetadataRead};
 
 use geoarrow_meta::{CrsType, Edges};
 use json::{Scratch, Value};
@@ -24,7 +24,7 @@ pub struct ColumnMetadata {
     pub crs: Option<JsonText>,
     /// How the coordinate reference system is written.
     pub crs_type: Option<CrsType>,
-    /// How edges run; planar where there is none.
+    /// How edges run; planar where there is none, also where the metadata says `planar`.
     pub edges: Option<Edges>,
 }
 
@@ -37,7 +37,7 @@ pub enum MetadataFault {
     NotObject,
     /// The value of `crs_type` is none of the format's.
     UnknownCrsType,
-    /// The value of `edges` is none of the format's.
+    /// The value of `edges` is none of the format's, and not `planar`.
     UnknownEdges,
     /// Both values are none of the format's.
     UnknownCrsTypeAndEdges,
@@ -152,11 +152,34 @@ fn crs_type_at(value: &Value<'_>) -> Option<Option<CrsType>>
 /// The edges, or their absence; none where they are none of the format's.
 fn edges_at(value: &Value<'_>) -> Option<Option<Edges>>
     requires { IsReadable (value_view value.now) }
-    ensures { (d : Data) → of_json (value_view value.now) ≡ Some d → IsNamed edges_data result (at_key (codes "edges") d) }
+    ensures { (d : Data) → of_json (value_view value.now) ≡ Some d → IsNamed edges_data result (edges_in d) }
 {
     match word_at(value, "edges")? {
         None => Some(None),
-        Some(text) => Some(Some(Edges::from_text(text)?)),
+        Some(text) => edges_named(text),
+    }
+}
+
+/// The edges of that name, of which planar ones are none; none where they are none of the format's.
+fn edges_named(text: &str) -> Option<Option<Edges>>
+    ensures { IsNamed edges_data result (unless_planar (Some (string text.now))) }
+{
+    if text == "planar" {
+        return Some(None);
+    }
+    Some(Some(Edges::from_text(text)?))
+}
+
+/// Whether the edges are planar by name.
+#[tactic(auto, using(crate::proofs::Keys::not_planar))]
+pub(crate) fn are_planar(value: &Value<'_>) -> bool
+    requires { IsReadable (value_view value.now) }
+    ensures { (d : Data) → of_json (value_view value.now) ≡ Some d → result ≡ is_planar (at_key (codes "edges") d) }
+{
+    match word_at(value, "edges") {
+        Some(Some(text)) => text == "planar",
+        Some(None) => false,
+        None => false,
     }
 }
 
@@ -166,7 +189,7 @@ fn of_values(
     crs_type: Option<Option<CrsType>>,
     edges: Option<Option<Edges>>,
 ) -> Result<ColumnMetadata, MetadataFault>
-    ensures { (s : Text) (d : Data) → read s ≡ Some d → IsSome (as_object d) → AreValuesOf d (option_and_then of_json crs) crs_type edges → HasCrs s crs → IsJsonRead s result }
+    ensures { (s : Text) (d : Data) → read s ≡ Some d → IsSome (as_object d) → AreFound d (option_and_then of_json crs) crs_type edges → HasCrs s crs → IsJsonRead s result }
 {
     match (crs_type, edges) {
         (Some(crs_type), Some(edges)) => Ok(ColumnMetadata {

@@ -1,13 +1,16 @@
 //! The walk down a data type, which adds a warning of each part that is looked for.
 ghost use Rattle.std.specs.Prelude.{◌≡◌, ◌++◌, map, OnOk};
-ghost use Rattle.arrow_values.specs.View.{tree};
-ghost use Rattle.column_check.specs.Warnings.{said, has_extension_name};
-ghost use Rattle.column_check.specs.Walk.{names_on, is_own, found, found_at, code_of, sought_warnings, telling, tell_all};
+ghost use Rattle.arrow_values.specs.View.{tree, member_trees};
+ghost use Rattle.column_check.specs.Said.{said};
+ghost use Rattle.column_check.specs.Warnings.{has_extension_name};
+ghost use Rattle.column_check.specs.Walk.{names_on, is_own, own_word, own_spots, goes_below, is_own_union, union_spots, found, found_among, found_at, code_of, sought_warnings, telling, tell_all};
 
+use crate::code::WarningCode;
 use crate::coordinates::is_doubtful;
-use crate::warning::{Warning, WarningCode};
-use crate::way::{Rest, Way, tell_if};
-use arrow_values::{DataType, Field};
+use crate::old_names::current_name;
+use crate::warning::Warning;
+use crate::way::{Rest, Shown, Way, finish, tell_if};
+use arrow_values::{DataType, Field, UnionMode};
 use geoarrow_layout::{ExtensionName, Kind};
 use std::alloc::{AllocError, Global};
 
@@ -16,8 +19,19 @@ use std::alloc::{AllocError, Global};
 pub(crate) enum Sought {
     /// Coordinates and boxes of which that warning holds, in a geometry of that kind.
     Coordinates(WarningCode, Kind),
-    /// Fields with one of the eleven extension names.
+    /// Fields and unions.
+    Inner(Inner),
+}
+
+/// Which fields and unions are looked for.
+#[derive(Clone, Copy)]
+pub(crate) enum Inner {
+    /// Fields with one of the eleven extension names, or an old one of them.
     Extensions,
+    /// Nullable fields, below no such field, but for the members of unions.
+    Nullables,
+    /// Sparse unions.
+    Unions,
 }
 
 /// Adds a warning of each part of a column's data type that is looked for, on the way to it: at
@@ -30,14 +44,9 @@ pub(crate) fn push_sought(
 ) -> Result<(), AllocError>
     ensures { OnOk result (map said warnings.new.items ≡ map said warnings.old.items ++ sought_warnings sought (tree data_type.now)) }
 {
-    let mut rest = Rest {
-        room: 15,
-        last: None,
-    };
+    let mut rest = Rest::sixteen();
     push_found(alloc, warnings, &mut rest, sought, &Way::Column, data_type)?;
-    if let Some(last) = rest.last {
-        warnings.push(last)?;
-    }
+    finish(warnings, rest)?;
     Ok(())
 }
 
@@ -55,33 +64,59 @@ fn push_found(
 {
     match data_type {
         DataType::List(item) | DataType::LargeList(item) => {
-            push_at(alloc, warnings, rest, sought, way, item)
+            push_at(alloc, warnings, rest, sought, way, item, item.is_nullable())
         }
-        DataType::FixedSizeList(item, _) => match sought {
-            Sought::Coordinates(code, kind) => {
+        DataType::FixedSizeList(item, _) => {
+            if let Sought::Coordinates(code, kind) = sought {
                 let holds = is_doubtful(code, kind, data_type);
-                tell_if(alloc, warnings, rest, code, way, holds)
+                let shown = Shown::Notation(data_type);
+                return tell_if(alloc, warnings, rest, code, way, shown, holds);
             }
-            Sought::Extensions => push_at(alloc, warnings, rest, sought, way, item),
-        },
+            push_at(alloc, warnings, rest, sought, way, item, item.is_nullable())
+        }
         DataType::Struct(fields) => {
             if let Sought::Coordinates(code, kind) = sought {
                 let holds = is_doubtful(code, kind, data_type);
-                return tell_if(alloc, warnings, rest, code, way, holds);
+                let shown = Shown::Notation(data_type);
+                return tell_if(alloc, warnings, rest, code, way, shown, holds);
             }
             for field in fields.as_slice() {
-                push_at(alloc, warnings, rest, sought, way, field)?;
+                push_at(
+                    alloc,
+                    warnings,
+                    rest,
+                    sought,
+                    way,
+                    field,
+                    field.is_nullable(),
+                )?;
             }
             Ok(())
         }
-        DataType::Union(members, _) => {
-            for member in members.as_slice() {
-                push_at(alloc, warnings, rest, sought, way, &member.1)?;
-            }
-            Ok(())
+        DataType::Union(members, mode) => {
+            tell_union(alloc, warnings, rest, sought, way, *mode)?;
+            push_members(alloc, warnings, rest, sought, way, members.as_slice())
         }
         _ => Ok(()),
     }
+}
+
+/// Adds one of each part of the members of a union at the end of a way.
+#[cycle(walk)]
+fn push_members(
+    alloc: Global,
+    warnings: &mut Vec<Warning>,
+    rest: &mut Rest,
+    sought: Sought,
+    way: &Way,
+    members: &[(i8, Field)],
+) -> Result<(), AllocError>
+    ensures { OnOk result (telling warnings.new.items rest.new ≡ tell_all (code_of sought) (telling warnings.old.items rest.old) (found_among sought (names_on way.now) (member_trees members.now))) }
+{
+    for member in members {
+        push_at(alloc, warnings, rest, sought, way, &member.1, false)?;
+    }
+    Ok(())
 }
 
 /// Adds one of a child field, if it is looked for, and those of the parts below it.
@@ -93,13 +128,60 @@ fn push_at(
     sought: Sought,
     way: &Way,
     field: &Field,
+    nullable: bool,
 ) -> Result<(), AllocError>
-    ensures { OnOk result (telling warnings.new.items rest.new ≡ tell_all (code_of sought) (telling warnings.old.items rest.old) (found_at sought (names_on way.now) field.now)) }
+    ensures { OnOk result (telling warnings.new.items rest.new ≡ tell_all (code_of sought) (telling warnings.old.items rest.old) (found_at sought (names_on way.now) nullable field.now)) }
 {
     let here = Way::Below(&*way, field.name());
-    let holds = is_own(sought, field);
-    tell_if(alloc, warnings, rest, code_of(sought), &here, holds)?;
-    push_found(alloc, warnings, rest, sought, &here, field.data_type())
+    tell_own(alloc, warnings, rest, sought, &here, field, nullable)?;
+    if !goes_below(sought, nullable) {
+        return Ok(());
+    }
+    push_found(alloc, warnings, rest, sought, &here, field.data_type())?;
+    Ok(())
+}
+
+/// Tells of a field at the end of a way, if it is looked for.
+fn tell_own(
+    alloc: Global,
+    warnings: &mut Vec<Warning>,
+    rest: &mut Rest,
+    sought: Sought,
+    way: &Way,
+    field: &Field,
+    nullable: bool,
+) -> Result<(), AllocError>
+    ensures { OnOk result (telling warnings.new.items rest.new ≡ tell_all (code_of sought) (telling warnings.old.items rest.old) (own_spots sought (names_on way.now) nullable field.now.metadata)) }
+{
+    match sought {
+        Sought::Coordinates(..) => Ok(()),
+        Sought::Inner(part) => {
+            let holds = is_own(part, field, nullable);
+            let shown = Shown::Word(own_word(part, field));
+            tell_if(alloc, warnings, rest, code_of(sought), way, shown, holds)
+        }
+    }
+}
+
+/// Tells of a union at the end of a way, if it is looked for.
+fn tell_union(
+    alloc: Global,
+    warnings: &mut Vec<Warning>,
+    rest: &mut Rest,
+    sought: Sought,
+    way: &Way,
+    mode: UnionMode,
+) -> Result<(), AllocError>
+    ensures { OnOk result (telling warnings.new.items rest.new ≡ tell_all (code_of sought) (telling warnings.old.items rest.old) (union_spots sought (names_on way.now) mode)) }
+{
+    match sought {
+        Sought::Coordinates(..) => Ok(()),
+        Sought::Inner(part) => {
+            let holds = is_own_union(part, mode);
+            let shown = Shown::Word("sparse");
+            tell_if(alloc, warnings, rest, code_of(sought), way, shown, holds)
+        }
+    }
 }
 
 /// The code of the warnings of what is looked for.
@@ -108,26 +190,60 @@ fn code_of(sought: Sought) -> WarningCode
 {
     match sought {
         Sought::Coordinates(code, _) => code,
-        Sought::Extensions => WarningCode::NestedGeometry,
+        Sought::Inner(Inner::Extensions) => WarningCode::NestedGeometry,
+        Sought::Inner(Inner::Nullables) => WarningCode::NullableInner,
+        Sought::Inner(Inner::Unions) => WarningCode::UnionMode,
     }
 }
 
 /// Whether a field itself is looked for.
-fn is_own(sought: Sought, field: &Field) -> bool
-    ensures { result ≡ is_own sought field.now.metadata }
+fn is_own(part: Inner, field: &Field, nullable: bool) -> bool
+    ensures { result ≡ is_own part nullable field.now.metadata }
 {
-    match sought {
-        Sought::Coordinates(..) => false,
-        Sought::Extensions => has_extension_name(field),
+    match part {
+        Inner::Extensions => has_extension_name(field),
+        Inner::Nullables => nullable,
+        Inner::Unions => false,
     }
 }
 
-/// Whether a field has one of the eleven extension names.
+/// What is shown of a field that is looked for.
+fn own_word(part: Inner, field: &Field) -> &str
+    ensures { result.now ≡ own_word part field.now.metadata }
+{
+    match part {
+        Inner::Extensions => field.extension_type_name().unwrap_or(""),
+        Inner::Nullables => "nullable",
+        Inner::Unions => "",
+    }
+}
+
+/// Whether the parts below a field are looked for.
+fn goes_below(sought: Sought, nullable: bool) -> bool
+    ensures { result ≡ goes_below sought nullable }
+{
+    match sought {
+        Sought::Inner(Inner::Nullables) => !nullable,
+        _ => true,
+    }
+}
+
+/// Whether a union itself is looked for.
+fn is_own_union(part: Inner, mode: UnionMode) -> bool
+    ensures { result ≡ is_own_union part mode }
+{
+    match part {
+        Inner::Unions => matches!(mode, UnionMode::Sparse),
+        Inner::Extensions | Inner::Nullables => false,
+    }
+}
+
+/// Whether a field has one of the eleven extension names, or an old one of them.
 fn has_extension_name(field: &Field) -> bool
     ensures { result ≡ has_extension_name field.now.metadata }
 {
     match field.extension_type_name() {
-        Some(text) => ExtensionName::from_text(text).is_some(),
+        Some(text) => ExtensionName::from_text(current_name(text)).is_some(),
         None => false,
     }
 }

@@ -1,73 +1,21 @@
 //! What is doubtful of a column that is not invalid for it.
-ghost use Rattle.std.specs.Prelude.{◌≡◌, ◌++◌, map, option_map, IfOk, OnOk};
-ghost use Rattle.serde_json.specs.Read.{of_json};
+ghost use Rattle.std.specs.Prelude.{◌≡◌, ◌++◌, map, Some, IfOk, OnOk};
 ghost use Rattle.arrow_values.specs.Texts.{text_of};
-ghost use Rattle.geoarrow_meta.specs.Read.{some_has_float};
+ghost use Rattle.arrow_values.specs.View.{tree};
 ghost use Rattle.arrow_columns.specs.Column.{column_tree, type_tree};
-ghost use Rattle.column_check.specs.WarningWords.{warning_code, warning_message};
-ghost use Rattle.column_check.specs.Warnings.{said, of_column, is_empty_text, crs_warnings, geometry_warnings, nested_warnings, AreWarnings};
+ghost use Rattle.column_check.specs.Said.{said};
+ghost use Rattle.column_check.specs.Warnings.{name_warnings, is_empty_text, text_warnings, coordinate_warnings, nullable_warnings, type_warnings, geometry_warnings, nested_warnings, AreWarnings};
 
+use crate::code::WarningCode;
+use crate::crs::push_crs;
 use crate::finding::{Finding, Geometry};
-use crate::metadata::ColumnMetadata;
-use crate::walk::{Sought, push_sought};
+use crate::key_case::push_keys;
+use crate::old_names::is_old_name;
+use crate::walk::{Inner, Sought, push_sought};
 use arrow_columns::{AnyType, SchemaColumn};
-use geoarrow_meta::holds_whole_numbers;
+use arrow_values::DataType;
+use geoarrow_layout::Kind;
 use std::alloc::{AllocError, Global};
-use value_tokens::JsonText;
-
-/// What a warning says.
-#[derive(Debug, Clone, Copy, PartialEq, Eq)]
-pub enum WarningCode {
-    /// The extension metadata are an empty text, which is read as none here;
-    /// `from_extension_field` and `from_arrow_field` of `geoarrow_schema` refuse the column.
-    MetadataEmpty,
-    /// A number in the CRS is not whole, as GeoArrow allows: for that alone `from_extension_field`
-    /// and `from_arrow_field` of `geoarrow_schema` refuse the column. It is a note, which is said
-    /// only where notes are asked for.
-    CrsNotWhole,
-    /// There is a CRS, and no CRS type. An object needs none, as it can only be PROJJSON.
-    CrsWithoutType,
-    /// The CRS is neither an object nor a text.
-    CrsNumber,
-    /// A number of a coordinate or a box is not `Float64` (GeoArrow, "Coordinate").
-    CoordinatesNotDouble,
-    /// The fields of a separated coordinate are not x, y, z and m, or those of a box not their bounds, in this order.
-    AxisNames,
-    /// A field below the column has one of GeoArrow's eleven extension names.
-    NestedGeometry,
-}
-
-impl WarningCode {
-    /// Returns the code, as reports have it (`docs/FORMAT.md`, 2.6).
-    pub fn code(self) -> &'static str
-        ensures { result.now ≡ warning_code self }
-    {
-        match self {
-            WarningCode::MetadataEmpty => "MetadataEmpty",
-            WarningCode::CrsNotWhole => "CrsNotWhole",
-            WarningCode::CrsWithoutType => "CrsWithoutType",
-            WarningCode::CrsNumber => "CrsNumber",
-            WarningCode::CoordinatesNotDouble => "CoordinatesNotDouble",
-            WarningCode::AxisNames => "AxisNames",
-            WarningCode::NestedGeometry => "NestedGeometry",
-        }
-    }
-
-    /// Returns what is doubtful.
-    pub fn message(self) -> &'static str
-        ensures { result.now ≡ warning_message self }
-    {
-        match self {
-            WarningCode::MetadataEmpty => "metadata is an empty text",
-            WarningCode::CrsNotWhole => "CRS has a number that is not whole",
-            WarningCode::CrsWithoutType => "CRS without crs_type",
-            WarningCode::CrsNumber => "CRS is neither an object nor a text",
-            WarningCode::CoordinatesNotDouble => "coordinates are not float64",
-            WarningCode::AxisNames => { "fields are not named after the axes, in their order" }
-            WarningCode::NestedGeometry => "child field has a GeoArrow extension name",
-        }
-    }
-}
 
 /// A warning: what is doubtful of a column, and where.
 #[derive(Debug, Drop)]
@@ -76,6 +24,11 @@ pub struct Warning {
     pub code: WarningCode,
     /// The names of the child fields from the column down to where it is; none where it is of the column itself.
     pub path: Vec<String>,
+    /// Where it is in the extension metadata, as a JSON pointer (RFC 6901); `None` where it is not of these.
+    pub pointer: Option<String>,
+    /// What stands there: a type's notation, a word, or JSON without blanks; at most 120 characters of it, and
+    /// `..` behind them where there are more. `None` where the code alone says it.
+    pub found: Option<String>,
     /// How many more of its code there are that are not told one by one; 0 except in the sixteenth.
     pub more: usize,
 }
@@ -83,8 +36,8 @@ pub struct Warning {
 /// Returns what is doubtful of a column of which that is said, and leaves the finding as it is
 /// (`docs/FORMAT.md`, 2.6): in the order of `WarningCode`, and under one code from left to right, a
 /// field before those below it; of one code at most sixteen, of which the last says how many more
-/// there are. Of the metadata text, of a CRS and of coordinates it speaks where
-/// the finding is of geometries; of fields below the column always. `notes` asks for the notes too.
+/// there are. Of the metadata text, of a CRS, of coordinates and of what they are in it speaks where
+/// the finding is of geometries; of the extension name and of fields below the column always. `notes` asks for the notes too.
 /// Errs only when out of memory.
 ///
 /// ```rust
@@ -102,13 +55,44 @@ pub fn warnings(
     ensures { IfOk result (λ them. AreWarnings notes (column_tree column.now) finding.now them.items) }
 {
     let mut warnings = Vec::new(alloc);
+    push_name(alloc, &mut warnings, column.extension_type_name())?;
     if let Some(geometry) = finding.geometry() {
         push_geometry(alloc, &mut warnings, column, geometry, notes)?;
     }
     if let AnyType::Data(data_type) = &column.data_type {
-        push_sought(alloc, &mut warnings, Sought::Extensions, data_type)?;
+        push_sought(
+            alloc,
+            &mut warnings,
+            Sought::Inner(Inner::Extensions),
+            data_type,
+        )?;
     }
     Ok(warnings)
+}
+
+/// Adds what is doubtful of an extension name.
+fn push_name(
+    alloc: Global,
+    warnings: &mut Vec<Warning>,
+    name: Option<&str>,
+) -> Result<(), AllocError>
+    ensures { OnOk result (map said warnings.new.items ≡ map said warnings.old.items ++ name_warnings (text_of name.entry)) }
+{
+    let Some(name) = name else {
+        return Ok(());
+    };
+    if !is_old_name(name) {
+        return Ok(());
+    }
+    let found = String::from_str(alloc, name)?;
+    warnings.push(Warning {
+        code: WarningCode::OldExtensionName,
+        path: Vec::new(alloc),
+        pointer: None,
+        found: Some(found),
+        more: 0,
+    })?;
+    Ok(())
 }
 
 /// Adds what is doubtful of geometries.
@@ -121,35 +105,91 @@ fn push_geometry(
 ) -> Result<(), AllocError>
     ensures { OnOk result (map said warnings.new.items ≡ map said warnings.old.items ++ geometry_warnings notes (column_tree column.now) (Some geometry.now)) }
 {
-    let is_empty = is_empty_text(column.extension_type_metadata());
-    push_if(alloc, warnings, WarningCode::MetadataEmpty, is_empty)?;
+    push_text(alloc, warnings, column.extension_type_metadata())?;
+    push_keys(alloc, warnings, column.extension_type_metadata())?;
     push_crs(alloc, warnings, &geometry.metadata, notes)?;
-    let AnyType::Data(data_type) = &column.data_type else {
-        return Ok(());
-    };
-    let doubles = Sought::Coordinates(WarningCode::CoordinatesNotDouble, geometry.kind);
-    let axes = Sought::Coordinates(WarningCode::AxisNames, geometry.kind);
-    push_sought(alloc, warnings, doubles, data_type)?;
-    push_sought(alloc, warnings, axes, data_type)
+    push_type(alloc, warnings, geometry.kind, &column.data_type)
 }
 
-/// Adds that warning of the column itself, if the test holds.
-fn push_if(
+/// Adds what is doubtful of a type that is of a kind.
+fn push_type(
+    alloc: Global,
+    warnings: &mut Vec<Warning>,
+    kind: Kind,
+    column_type: &AnyType,
+) -> Result<(), AllocError>
+    ensures { OnOk result (map said warnings.new.items ≡ map said warnings.old.items ++ type_warnings kind (type_tree column_type.now)) }
+{
+    let AnyType::Data(data_type) = column_type else {
+        return Ok(());
+    };
+    push_coordinates(
+        alloc,
+        warnings,
+        WarningCode::CoordinatesNotFloat,
+        kind,
+        data_type,
+    )?;
+    push_coordinates(
+        alloc,
+        warnings,
+        WarningCode::CoordinatesNotDouble,
+        kind,
+        data_type,
+    )?;
+    push_coordinates(alloc, warnings, WarningCode::AxisOrder, kind, data_type)?;
+    push_coordinates(alloc, warnings, WarningCode::AxisNames, kind, data_type)?;
+    push_nullables(alloc, warnings, kind, data_type)?;
+    push_sought(alloc, warnings, Sought::Inner(Inner::Unions), data_type)
+}
+
+/// Adds what is doubtful of coordinates, by a code.
+fn push_coordinates(
     alloc: Global,
     warnings: &mut Vec<Warning>,
     code: WarningCode,
-    holds: bool,
+    kind: Kind,
+    data_type: &DataType,
 ) -> Result<(), AllocError>
-    ensures { OnOk result (map said warnings.new.items ≡ map said warnings.old.items ++ of_column code holds) }
+    ensures { OnOk result (map said warnings.new.items ≡ map said warnings.old.items ++ coordinate_warnings code kind (tree data_type.now)) }
 {
-    if holds {
-        let path = Vec::new(alloc);
-        warnings.push(Warning {
-            code,
-            path,
-            more: 0,
-        })?;
+    push_sought(alloc, warnings, Sought::Coordinates(code, kind), data_type)
+}
+
+/// Adds the nullable fields below a geometry; of a box none.
+fn push_nullables(
+    alloc: Global,
+    warnings: &mut Vec<Warning>,
+    kind: Kind,
+    data_type: &DataType,
+) -> Result<(), AllocError>
+    ensures { OnOk result (map said warnings.new.items ≡ map said warnings.old.items ++ nullable_warnings kind (tree data_type.now)) }
+{
+    match kind {
+        Kind::Rect(_) => Ok(()),
+        _ => push_sought(alloc, warnings, Sought::Inner(Inner::Nullables), data_type),
     }
+}
+
+/// Adds what is doubtful of a metadata text.
+fn push_text(
+    alloc: Global,
+    warnings: &mut Vec<Warning>,
+    text: Option<&str>,
+) -> Result<(), AllocError>
+    ensures { OnOk result (map said warnings.new.items ≡ map said warnings.old.items ++ text_warnings (text_of text.entry)) }
+{
+    if !is_empty_text(text) {
+        return Ok(());
+    }
+    let found = String::from_str(alloc, "\"\"")?;
+    warnings.push(Warning {
+        code: WarningCode::MetadataEmpty,
+        path: Vec::new(alloc),
+        pointer: None,
+        found: Some(found),
+        more: 0,
+    })?;
     Ok(())
 }
 
@@ -160,35 +200,5 @@ fn is_empty_text(text: Option<&str>) -> bool
     match text {
         Some(text) => text.is_empty(),
         None => false,
-    }
-}
-
-/// Adds what is doubtful of a CRS.
-fn push_crs(
-    alloc: Global,
-    warnings: &mut Vec<Warning>,
-    metadata: &ColumnMetadata,
-    notes: bool,
-) -> Result<(), AllocError>
-    ensures { OnOk result (map said warnings.new.items ≡ map said warnings.old.items ++ crs_warnings notes metadata.now) }
-{
-    let Some(crs) = &metadata.crs else {
-        return Ok(());
-    };
-    let is_noted = notes && has_fraction(alloc, crs)?;
-    let lacks_type = !crs.is_object() && metadata.crs_type.is_none();
-    let is_odd = !crs.is_object() && !crs.is_string();
-    push_if(alloc, warnings, WarningCode::CrsNotWhole, is_noted)?;
-    push_if(alloc, warnings, WarningCode::CrsWithoutType, lacks_type)?;
-    push_if(alloc, warnings, WarningCode::CrsNumber, is_odd)
-}
-
-/// Whether a CRS has a number that is not whole.
-fn has_fraction(alloc: Global, crs: &JsonText) -> Result<bool, AllocError>
-    ensures { IfOk result (λ answer. answer ≡ some_has_float (of_json crs.now)) }
-{
-    match crs.to_value(alloc)? {
-        Some(value) => Ok(!holds_whole_numbers(&value)),
-        None => Ok(false),
     }
 }

@@ -2,12 +2,9 @@
 use Rattle.std.proofs.Common.{◌≡◌, ◌⊎◌, inl, inr, ℕ, ◌+◌, ◌-◌, ◌^◌, ◌<◌, ◌≤◌, min, Bool, true, false, ◌&&◌, nat_lt, nat_le, List, [], ◌∷◌, ◌++◌, length, take, drop, get_or, if◌then◌else◌, Result, Ok, Err, refl, sym, ap, ◌∙◌, subst, codes, arith}
 use Rattle.std.specs.Int.{w32, from_le_bytes}
 use Rattle.std.specs.Str.{bytes_eq}
-use Rattle.std.specs.declared.vec.Vec.{Vec}
-use Rattle.std.specs.declared.alloc.Global.{Global}
 use Rattle.std.proofs.Math.Seq.{drop-append-add, take-append-add}
 use Rattle.std.proofs.lemmas.Bool.{cases_lt, le-leb, lt-leb, le-ltb, lt-ltb}
 use Rattle.std.proofs.lemmas.List.{length-append, length-drop, length-take-le, nil_from_length}
-use Rattle.arrow_columns.specs.declared.column.SchemaColumn.{SchemaColumn}
 use Rattle.arrow_ipc.specs.Fault.{breaks}
 use Rattle.arrow_ipc.specs.Schema.{SchemaTree, Meets, footer_in, size_before_magic, cut, schema_of_footer}
 use Rattle.arrow_ipc.specs.declared.fault.IpcFault.{IpcFault}
@@ -18,6 +15,7 @@ use Rattle.arrow_ipc.specs.declared.schema.Schema.{Schema}
 use Rattle.column_files.specs.Files.{size_in, HasFooter, IsFooterRead, further, footer_begin}
 use Rattle.column_files.specs.declared.columns.FileFault.{FileFault}
 use Rattle.column_files.specs.declared.columns.FileFault.TheVariants.{NoField, Empty, Foreign, ReportTooLarge, Ipc, Parquet, OutOfMemory as OutOfMemoryFault}
+use Rattle.column_files.specs.declared.opening.File.{File}
 
 -- ---- what is found
 
@@ -183,7 +181,7 @@ of_refusal front end (Err fault) is error inner meets refused =
       refused ∙ ap (further (length front + 0)) same ∙ ap (λ at. Broken (record { rule = fault.rule; at = at })) place,
     )
 
-of_whole : (front end : List ℕ) → 10 + size_in (drop (length end - 10) end) ≤ length end → (r : Result (Vec SchemaColumn Global) FileFault)
+of_whole : (front end : List ℕ) → 10 + size_in (drop (length end - 10) end) ≤ length end → (r : Result File FileFault)
     → IsFooterRead (length front) end r → IsFooterRead 0 (front ++ end) r
 of_whole front end fits r is = by_result r is
   where
@@ -193,8 +191,8 @@ of_whole front end fits r is = by_result r is
     found : footer_in (front ++ end) ≡ moved (length front) (footer_in end)
     found = same_found front end n (omega (arith, fits)) (omega (arith, fits))
 
-    by_result : (r : Result (Vec SchemaColumn Global) FileFault) → IsFooterRead (length front) end r → IsFooterRead 0 (front ++ end) r
-    by_result (Ok columns) (s, meets, is) =
+    by_result : (r : Result File FileFault) → IsFooterRead (length front) end r → IsFooterRead 0 (front ++ end) r
+    by_result (Ok file) (s, meets, is) =
         (s, subst (λ f. Meets f (schema_of_footer 61) (Ok s)) (sym found) (of_columns (length front) (footer_in end) (schema_of_footer 61) s meets), is)
     by_result (Err (Ipc error)) (inner, meets, is) =
         subst (λ f. Refuses (front ++ end) f error) (sym found) (of_refusal front end (footer_in end) refl error inner meets is)
@@ -205,7 +203,7 @@ of_whole front end fits r is = by_result r is
     by_result (Err (Parquet error)) is = absurd is
     by_result (Err OutOfMemoryFault) is = absurd is
 
-pub of_end : (start : ℕ) (end : List ℕ) (r : Result (Vec SchemaColumn Global) FileFault) → IsFooterRead start end r
+pub of_end : (start : ℕ) (end : List ℕ) (r : Result File FileFault) → IsFooterRead start end r
     → (front : List ℕ) → length front ≡ start → HasFooter 10 start end → IsFooterRead 0 (front ++ end) r
 of_end start end r is front len (inl fits) = of_whole front end fits r (subst (λ n. IsFooterRead n end r) (sym len) is)
 of_end start end r is front len (inr none) =

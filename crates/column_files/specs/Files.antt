@@ -1,8 +1,8 @@
--- Which columns the bytes of a file denote, or why they denote none.
-use Rattle.std.specs.Prelude.{◌≡◌, ◌≢◌, ◌⊎◌, ℕ, ◌+◌, ◌-◌, ◌^◌, ◌≤◌, min, List, [], ◌∷◌, ◌++◌, length, drop, map, Option, None, Result, Ok, Err, ⊤, codes}
+-- Which columns the bytes of a file denote, with all that is read of it beside them; or why they denote none.
+use Rattle.std.specs.Prelude.{◌≡◌, ◌≢◌, ◌⊎◌, ℕ, ◌+◌, ◌-◌, ◌^◌, ◌≤◌, min, List, [], ◌∷◌, ◌++◌, length, drop, map, Option, Result, Ok, Err, ⊤}
 use Rattle.std.specs.Int.{w32, from_le_bytes}
-use Rattle.arrow_values.specs.Tree.{Text}
-use Rattle.arrow_values.specs.Texts.{text_of}
+use Rattle.arrow_values.specs.Texts.{text_at}
+use Rattle.arrow_values.specs.View.{texts_of}
 use Rattle.arrow_columns.specs.Column.{ColumnTree, column_tree}
 use Rattle.arrow_columns.specs.declared.column.SchemaColumn.{SchemaColumn}
 use Rattle.arrow_ipc.specs.Schema.{SchemaTree, Meets, message_in, footer_in, schema_of_message, schema_of_footer}
@@ -15,6 +15,7 @@ use Rattle.std.specs.declared.alloc.Global.{Global}
 use Rattle.column_files.specs.Forms.{IsForm, unmarked}
 use Rattle.column_files.specs.Lines.{LinesTo, Denote}
 use Rattle.column_files.specs.LineFaults.{DenotesNone}
+use Rattle.column_files.specs.Geo.{Geo, absent, geo_key, geo_of, of_footer, of_schema}
 use Rattle.column_files.specs.declared.form.Form.{Form}
 use Rattle.column_files.specs.declared.form.Form.TheVariants.{ArrowFile, ArrowStream, Parquet, Lines, Foreign}
 use Rattle.column_files.specs.declared.columns.FileFault.{FileFault}
@@ -22,6 +23,13 @@ use Rattle.column_files.specs.declared.columns.FileFault.TheVariants.{NoField, E
 use Rattle.column_files.specs.declared.opening.File.{File}
 use Rattle.parquet_columns.specs.Reads as parquet
 use Rattle.parquet_columns.specs.declared.error.SchemaError.{SchemaError}
+use Rattle.parquet_columns.specs.declared.footer.FooterColumns.{FooterColumns}
+use Rattle.parquet_footer.specs.Findings.{finding as text_finding}
+use Rattle.parquet_footer.specs.Spelled.{Spelled}
+
+-- no elements say anything and nothing is found, as in each file but a Parquet file
+abbrev pub HasNoFooter : File → Type 0
+HasNoFooter file = (file.elements.items ≡ []) × (file.findings.items ≡ []) × (file.texts.items ≡ [])
 
 -- ---- lines
 
@@ -43,11 +51,21 @@ AreLinesInFile text (Ok columns) = AreLinesRead text (Ok columns) × (columns.it
 AreLinesInFile text (Err Empty) = (lines : List (List ℕ)) × LinesTo (unmarked text) lines [] × Denote lines []
 AreLinesInFile text (Err fault) = AreLinesRead text (Err fault)
 
+-- the columns of lines, where nothing else is read of a file
+abbrev pub IsOfLines : List ℕ → Result File FileFault → Type 0
+IsOfLines text (Ok file) = AreLinesInFile text (Ok file.columns) × HasNoFooter file × (geo_of file.geo ≡ absent)
+IsOfLines text (Err fault) = AreLinesInFile text (Err fault)
+
 -- ---- schemas
 
--- what is read where a flatbuffer holds a schema: its columns, or how it is refused
-abbrev pub IsSchemaRead : Result (List ℕ) IpcFault → (List ℕ → Result (SchemaTree × ℕ) IpcFault) → Result (Vec SchemaColumn Global) FileFault → Type 0
-IsSchemaRead found read (Ok columns) = (s : Schema) × Meets found read (Ok s) × (columns ≡ s.columns)
+-- what is read of a schema: its columns, and the text at the key `geo` of its metadata
+abbrev pub IsOfSchema : Schema → File → Type 0
+IsOfSchema s file =
+    (file.columns ≡ s.columns) × (geo_of file.geo ≡ of_schema (text_at geo_key (texts_of s.metadata.entries))) × HasNoFooter file
+
+-- what is read where a flatbuffer holds a schema: that of the schema, or how it is refused
+abbrev pub IsSchemaRead : Result (List ℕ) IpcFault → (List ℕ → Result (SchemaTree × ℕ) IpcFault) → Result File FileFault → Type 0
+IsSchemaRead found read (Ok file) = (s : Schema) × Meets found read (Ok s) × IsOfSchema s file
 IsSchemaRead found read (Err (Ipc error)) = Meets found read (Err error)
 IsSchemaRead found read (Err fault) = ⊥
 
@@ -63,25 +81,36 @@ footer_begin bytes (Ok footer) = length bytes - 10 - length footer
 footer_begin bytes (Err fault) = 0
 
 -- what is read of the footer in these bytes of an Arrow file, before which so many stand; the place of a refusal is the byte of the file
-abbrev pub IsFooterRead : ℕ → List ℕ → Result (Vec SchemaColumn Global) FileFault → Type 0
+abbrev pub IsFooterRead : ℕ → List ℕ → Result File FileFault → Type 0
 IsFooterRead start bytes (Err (Ipc error)) =
     (inner : IpcError) × Meets (footer_in bytes) (schema_of_footer 61) (Err inner) × (error ≡ further (start + footer_begin bytes (footer_in bytes)) inner)
 IsFooterRead start bytes r = IsSchemaRead (footer_in bytes) (schema_of_footer 61) r
 
--- what is read of a Parquet file with that footer: its columns, or how it is refused
-abbrev pub IsParquetRead : Result (List ℕ) SchemaError → Result (Vec SchemaColumn Global) FileFault → Type 0
-IsParquetRead footer (Ok columns) = parquet.IsFileRead footer (Ok columns)
+-- ---- Parquet files
+
+-- what stands at the key `geo` by the value of the key in that footer
+abbrev pub HasGeo : Result (List ℕ) SchemaError → Geo → Type 0
+HasGeo footer geo = (value : Option Spelled) × parquet.IsValueRead geo_key footer value × (geo ≡ of_footer value)
+
+-- the columns of a file, what their elements say, and what is found of them, as a footer gives them
+abbrev pub footer_columns : File → FooterColumns
+footer_columns file = record { columns = file.columns; elements = file.elements; findings = file.findings }
+
+-- what is read of a Parquet file with that footer: its columns and elements, all that is found, and the value of the key `geo`; or how it is refused
+abbrev pub IsParquetRead : Result (List ℕ) SchemaError → Result File FileFault → Type 0
+IsParquetRead footer (Ok file) =
+    parquet.IsFileRead footer (Ok (footer_columns file)) × parquet.AreTextsRead footer (map text_finding file.texts.items) × HasGeo footer (geo_of file.geo)
 IsParquetRead footer (Err (ParquetFault error)) = parquet.IsFileRead footer (Err error)
 IsParquetRead footer (Err fault) = ⊥
 
 -- ---- files
 
 -- what is read of the bytes of a file in that format
-abbrev pub IsFileRead : Form → List ℕ → Result (Vec SchemaColumn Global) FileFault → Type 0
+abbrev pub IsFileRead : Form → List ℕ → Result File FileFault → Type 0
 IsFileRead ArrowFile bytes r = IsFooterRead 0 bytes r
 IsFileRead ArrowStream bytes r = IsSchemaRead (message_in bytes) (schema_of_message 61) r
 IsFileRead Parquet bytes r = IsParquetRead (parquet.footer_in bytes) r
-IsFileRead Lines bytes r = AreLinesInFile bytes r
+IsFileRead Lines bytes r = IsOfLines bytes r
 IsFileRead (Foreign foreign) bytes r = r ≡ Err (ForeignFault foreign)
 
 -- the number in the first four bytes, the lowest first; 0 where there are fewer
@@ -94,26 +123,18 @@ abbrev pub HasFooter : ℕ → ℕ → List ℕ → Type 0
 HasFooter tail start end = (tail + size_in (drop (length end - tail) end) ≤ length end) ⊎ (start ≡ 0)
 
 -- what is read of the end of a file in that format, before which so many bytes stand: of an Arrow file what is read of the whole, whichever bytes those are
-abbrev pub IsEndRead : Form → ℕ → List ℕ → Result (Vec SchemaColumn Global) FileFault → Type 0
+abbrev pub IsEndRead : Form → ℕ → List ℕ → Result File FileFault → Type 0
 IsEndRead ArrowFile start end r = (front : List ℕ) → length front ≡ start → HasFooter 10 start end → IsFileRead ArrowFile (front ++ end) r
 IsEndRead form start end r = IsFileRead form end r
 
 -- ---- opened files
 
--- what a file has at the key `geo` of its metadata, by its end: a Parquet file the value of that key in its footer, another nothing
-abbrev pub geo_key : Text
-geo_key = codes "geo"
-
-abbrev pub HasGeo : Form → List ℕ → Option Text → Type 0
-HasGeo Parquet end geo = parquet.IsValueRead geo_key (parquet.footer_in end) geo
-HasGeo form end geo = geo ≡ None
-
--- what is opened of the bytes of a file: its format, which the first of them tell, its columns, and that text; or why it has no columns
+-- what is opened of the bytes of a file: its format, which the first of them tell, and all that is read of it in that format; or why nothing is
 abbrev pub IsOpened : List ℕ → Result File FileFault → Type 0
-IsOpened bytes (Ok file) = IsForm bytes file.form × IsFileRead file.form bytes (Ok file.columns) × HasGeo file.form bytes (text_of file.geo)
+IsOpened bytes (Ok file) = IsForm bytes file.form × IsFileRead file.form bytes (Ok file)
 IsOpened bytes (Err fault) = (form : Form) × IsForm bytes form × IsFileRead form bytes (Err fault)
 
 -- what is opened of the end of a file in that format, before which so many bytes stand
 abbrev pub IsEndOpened : Form → ℕ → List ℕ → Result File FileFault → Type 0
-IsEndOpened form start end (Ok file) = (file.form ≡ form) × IsEndRead form start end (Ok file.columns) × HasGeo form end (text_of file.geo)
+IsEndOpened form start end (Ok file) = (file.form ≡ form) × IsEndRead form start end (Ok file)
 IsEndOpened form start end (Err fault) = IsEndRead form start end (Err fault)

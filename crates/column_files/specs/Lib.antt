@@ -3,6 +3,7 @@ pub mod Forms
 pub mod Lines
 pub mod LineFaults
 pub mod ColumnLines
+pub mod Geo
 pub mod Files
 pub mod Faults
 pub mod Reading

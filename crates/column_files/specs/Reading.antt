@@ -6,8 +6,6 @@ use Rattle.std.specs.IoError.{error_kind}
 use Rattle.std.specs.declared.io.ErrorKind.TheVariants.{Interrupted}
 use Rattle.line_reader.specs.Lines.{max_line_bytes, max_count, held, passed as passed_lines, HasNoFeed, IsLong}
 use Rattle.line_reader.specs.Sources.{GivesUpTo}
-use Rattle.std.specs.declared.vec.Vec.{Vec}
-use Rattle.std.specs.declared.alloc.Global.{Global}
 use Rattle.arrow_columns.specs.Column.{ColumnTree, column_tree}
 use Rattle.arrow_columns.specs.declared.column.SchemaColumn.{SchemaColumn}
 use Rattle.column_files.specs.Forms.{head_bytes}
@@ -21,6 +19,7 @@ use Rattle.column_files.specs.declared.columns.FileFault.TheVariants.{NoField, E
 use Rattle.column_files.specs.declared.fault.ReadFault.{ReadFault}
 use Rattle.column_files.specs.declared.fault.ReadFault.TheVariants.{Input, LongLine, File}
 use Rattle.column_files.specs.declared.reading.LineColumns.{LineColumns}
+use Rattle.column_files.specs.declared.opening.File.{File as OpenedFile}
 
 -- ---- lines
 
@@ -104,4 +103,4 @@ IsHead head rest = (length head ≡ head_bytes) ⊎ (rest ≡ [])
 
 -- what is read of these bytes in that format is what is read of all
 abbrev pub ReadAs : Form → List ℕ → List ℕ → Type 0
-ReadAs form bytes all = (r : Result (Vec SchemaColumn Global) FileFault) → IsFileRead form bytes r ↔ IsFileRead form all r
+ReadAs form bytes all = (r : Result OpenedFile FileFault) → IsFileRead form bytes r ↔ IsFileRead form all r

@@ -19,7 +19,7 @@ use Rattle.column_files.specs.declared.form.Form.TheVariants.{ArrowFile}
 use Rattle.column_files.specs.declared.line.LineFault.{LineFault}
 use Rattle.column_files.specs.declared.line.LineFault.TheVariants as lines
 use Rattle.column_files.specs.declared.refusal.Place.{Place}
-use Rattle.column_files.specs.declared.refusal.Place.TheVariants.{File, Line, LineByte, Byte, MessageByte, FooterByte, Element, StoredByte, Column}
+use Rattle.column_files.specs.declared.refusal.Place.TheVariants.{File, Line, LineByte, Byte, MessageByte, FooterByte, Element, Column}
 
 -- ---- codes
 
@@ -113,8 +113,6 @@ message_place form messages.OutOfMemory = File
 abbrev pub parquet_place : SchemaError → Place
 parquet_place (schemas.Footer (footers.Invalid rule at)) = FooterByte at
 parquet_place (schemas.Elements fault) = Element fault.at
-parquet_place (schemas.Ipc (messages.Broken fault)) = StoredByte fault.at
-parquet_place (schemas.Ipc (messages.Budget at)) = StoredByte at
 parquet_place error = File
 
 abbrev pub fault_place : Form → FileFault → Place

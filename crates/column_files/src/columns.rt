@@ -1,16 +1,19 @@
-//! The columns of what is read of a file, or why there are none.
-ghost use Rattle.std.specs.Prelude.{◌≡◌, ◌+◌, ℕ, List, Result};
+//! What is read of a file, or why nothing is.
+ghost use Rattle.std.specs.Prelude.{◌≡◌, ◌+◌, ℕ, List, Result, IfOk};
 ghost use Rattle.arrow_ipc.specs.Schema.{SchemaTree, Meets, footer_in, schema_of_footer};
 ghost use Rattle.arrow_ipc.specs.declared.fault.IpcFault.{IpcFault};
-ghost use Rattle.column_files.specs.Files.{IsFooterRead, IsSchemaRead, AreLinesRead, AreLinesInFile};
-ghost use Rattle.column_files.specs.Files.{further, footer_begin};
+ghost use Rattle.column_files.specs.Files.{IsFooterRead, IsSchemaRead, AreLinesRead, IsOfLines};
+ghost use Rattle.column_files.specs.Files.{further, footer_begin, IsOfSchema};
 
 use crate::foreign::Foreign;
+use crate::form::Form;
+use crate::geo::{GeoText, take_geo};
 use crate::line::LineFault;
+use crate::opening::File;
 use arrow_columns::SchemaColumn;
 use arrow_ipc::{IpcError, IpcFault, Schema};
 use parquet_columns::SchemaError;
-use std::alloc::{AllocError, AllocFailed};
+use std::alloc::{AllocError, AllocFailed, Global};
 
 /// Why the columns of a file are not read.
 #[derive(Debug, Clone, Copy, PartialEq, Eq)]
@@ -55,30 +58,42 @@ impl<T: Drop> From<AllocFailed<T>> for FileFault {
     }
 }
 
-/// The columns of lines that are read, or that there are none.
-pub(crate) fn columns_of_line_file(
+/// What is read of a file of lines, whose columns are read.
+pub(crate) fn file_of_lines<'a>(
+    alloc: Global,
     read: Result<Vec<SchemaColumn>, FileFault>,
-) -> Result<Vec<SchemaColumn>, FileFault>
-    ensures { (text : List ℕ) → AreLinesRead text read → AreLinesInFile text result }
+) -> Result<File<'a>, FileFault>
+    ensures form { IfOk result (λ file. file.form ≡ Form.Lines) }
+    ensures is { (text : List ℕ) → AreLinesRead text read → IsOfLines text result }
 {
     match read {
         Ok(columns) if columns.is_empty() => Err(FileFault::Empty),
-        read => read,
+        Ok(columns) => Ok(File {
+            form: Form::Lines,
+            columns,
+            elements: Vec::new(alloc),
+            findings: Vec::new(alloc),
+            texts: Vec::new(alloc),
+            geo: GeoText::Absent,
+        }),
+        Err(fault) => Err(fault),
     }
 }
 
-/// The columns of a footer that is read of these bytes of an Arrow file, before which so many
+/// What is read of a footer that is read of these bytes of an Arrow file, before which so many
 /// stand.
-pub(crate) fn columns_of_footer(
+pub(crate) fn file_of_footer<'a>(
+    alloc: Global,
     read: Result<Schema, IpcError>,
     start: usize,
     bytes: &[u8],
-) -> Result<Vec<SchemaColumn>, FileFault>
+) -> Result<File<'a>, FileFault>
     requires { Meets (footer_in bytes.now) (schema_of_footer 61) read }
-    ensures { IsFooterRead start bytes.now result }
+    ensures form { IfOk result (λ file. file.form ≡ Form.ArrowFile) }
+    ensures is { IsFooterRead start bytes.now result }
 {
     match read {
-        Ok(schema) => Ok(schema.columns),
+        Ok(schema) => Ok(file_of_schema(alloc, Form::ArrowFile, schema)),
         Err(error) => Err(FileFault::Ipc(further(
             error,
             start.saturating_add(footer_begin(bytes)),
@@ -121,14 +136,39 @@ fn footer_begin(bytes: &[u8]) -> usize
     }
 }
 
-/// The columns of a schema that is read.
-pub(crate) fn columns_of_schema(
+/// What is read of a message of a stream, whose schema is read.
+pub(crate) fn file_of_message<'a>(
+    alloc: Global,
     read: Result<Schema, IpcError>,
-) -> Result<Vec<SchemaColumn>, FileFault>
-    ensures { (found : Result (List ℕ) IpcFault) (reads : List ℕ → Result (SchemaTree × ℕ) IpcFault) → Meets found reads read → IsSchemaRead found reads result }
+) -> Result<File<'a>, FileFault>
+    ensures form { IfOk result (λ file. file.form ≡ Form.ArrowStream) }
+    ensures is { (found : Result (List ℕ) IpcFault) (reads : List ℕ → Result (SchemaTree × ℕ) IpcFault)
+        → Meets found reads read → IsSchemaRead found reads result }
 {
     match read {
-        Ok(schema) => Ok(schema.columns),
+        Ok(schema) => Ok(file_of_schema(alloc, Form::ArrowStream, schema)),
         Err(error) => Err(FileFault::Ipc(error)),
+    }
+}
+
+/// The file in that format of a schema.
+fn file_of_schema<'a>(alloc: Global, form: Form, schema: Schema) -> File<'a>
+    ensures form { result.form ≡ form }
+    ensures is { IsOfSchema schema result }
+{
+    let Schema {
+        columns,
+        metadata,
+        ..
+    } = schema;
+    let mut metadata = metadata;
+    let geo = take_geo(&mut metadata);
+    File {
+        form,
+        columns,
+        elements: Vec::new(alloc),
+        findings: Vec::new(alloc),
+        texts: Vec::new(alloc),
+        geo,
     }
 }

@@ -1,17 +1,17 @@
-//! Files that are opened: their format, their columns, and their GeoParquet metadata.
-ghost use Rattle.std.specs.Prelude.{◌≡◌, ℕ, None, Ok, Err, MatchResult};
-ghost use Rattle.column_files.specs.Files.{IsOpened, IsEndOpened};
+//! Files that are opened: their format, their columns, and what is read beside them.
+ghost use Rattle.std.specs.Prelude.{◌≡◌, IfOk};
+ghost use Rattle.parquet_columns.specs.Reads.{footer_in};
+ghost use Rattle.column_files.specs.Files.{IsOpened, IsEndOpened, IsParquetRead};
 
-use crate::columns::{FileFault, columns_of_footer, columns_of_line_file, columns_of_schema};
+use crate::columns::{FileFault, file_of_footer, file_of_lines, file_of_message};
 use crate::form::{Form, form_of};
+use crate::geo::{GEO_KEY, GeoText, geo_of_footer};
 use crate::lines::columns_of_lines;
 use arrow_columns::SchemaColumn;
 use arrow_ipc::{read_file_footer, read_schema};
-use parquet_columns::read_file;
+use parquet_columns::{ElementClaim, FileFinding, read_file};
+use parquet_footer::FooterFinding;
 use std::alloc::Global;
-
-/// The key of GeoParquet metadata.
-const GEO_KEY: &str = "geo";
 
 /// A file that was opened: all that is read of it.
 #[derive(Debug, Drop)]
@@ -20,9 +20,17 @@ pub struct File<'a> {
     pub form: Form,
     /// Its columns.
     pub columns: Vec<SchemaColumn>,
-    /// Of a Parquet file the text at the key `geo` of its metadata, if there is one: a part of the
-    /// bytes that were read.
-    pub geo: Option<&'a str>,
+    /// Of a Parquet file, what the elements say beside its columns (docs/FORMAT.md, 4.6), one claim
+    /// for each; else none.
+    pub elements: Vec<ElementClaim>,
+    /// Of a Parquet file, what is found of `ARROW:schema` and of repeated keys (docs/FORMAT.md, 4.5);
+    /// else nothing.
+    pub findings: Vec<FileFinding>,
+    /// Of a Parquet file, names, keys and values that are not UTF-8 (docs/FORMAT.md, 4.3); else
+    /// nothing.
+    pub texts: Vec<FooterFinding<'a>>,
+    /// What stands at the key `geo` of its metadata.
+    pub geo: GeoText<'a>,
 }
 
 /// Opens a file by its bytes, whose first tell the format (docs/FORMAT.md, 2.7). The columns are of
@@ -70,41 +78,28 @@ pub fn open_end<'a>(
     match form {
         Form::ArrowFile => {
             let read = read_file_footer(alloc, end);
-            without_geo(form, columns_of_footer(read, start as usize, end))
+            file_of_footer(alloc, read, start as usize, end)
         }
-        Form::ArrowStream => without_geo(form, columns_of_schema(read_schema(alloc, end))),
+        Form::ArrowStream => file_of_message(alloc, read_schema(alloc, end)),
         Form::Parquet => open_parquet(alloc, end),
-        Form::Lines => without_geo(form, columns_of_line_file(columns_of_lines(alloc, end))),
+        Form::Lines => file_of_lines(alloc, columns_of_lines(alloc, end)),
         Form::Foreign(foreign) => Err(FileFault::Foreign(foreign)),
-    }
-}
-
-/// A file in that format with these columns, or why it has none.
-fn without_geo<'a>(
-    form: Form,
-    read: Result<Vec<SchemaColumn>, FileFault>,
-) -> Result<File<'a>, FileFault>
-    ensures { MatchResult result (λ file. (file.form ≡ form) × (read ≡ Ok file.columns) × (file.geo ≡ None)) (λ fault. read ≡ Err fault) }
-{
-    match read {
-        Ok(columns) => Ok(File {
-            form,
-            columns,
-            geo: None,
-        }),
-        Err(fault) => Err(fault),
     }
 }
 
 /// Opens a Parquet file by its end.
 fn open_parquet<'a>(alloc: Global, end: &'a [u8]) -> Result<File<'a>, FileFault>
-    ensures { (start : ℕ) → IsEndOpened Form.Parquet start end.now result }
+    ensures form { IfOk result (λ file. file.form ≡ Form.Parquet) }
+    ensures is { IsParquetRead (footer_in end.now) result }
 {
     match read_file(alloc, end, GEO_KEY) {
         Ok(read) => Ok(File {
             form: Form::Parquet,
             columns: read.columns,
-            geo: read.value,
+            elements: read.elements,
+            findings: read.findings,
+            texts: read.texts,
+            geo: geo_of_footer(read.value),
         }),
         Err(error) => Err(FileFault::Parquet(error)),
     }

@@ -31,8 +31,6 @@ pub enum Place {
     FooterByte(u64),
     /// An element of the schema of a Parquet file, from 0.
     Element(u64),
-    /// A byte of the message at the key `ARROW:schema` of a Parquet file, from 0.
-    StoredByte(u64),
     /// A column, from 0.
     Column(u64),
 }
@@ -298,15 +296,8 @@ fn parquet_place(error: SchemaError) -> Place
     match error {
         SchemaError::Footer(FooterError::Invalid(_, at)) => Place::FooterByte(at as u64),
         SchemaError::Elements(fault) => Place::Element(fault.at as u64),
-        SchemaError::Ipc(IpcError::Broken(fault)) => Place::StoredByte(fault.at as u64),
-        SchemaError::Ipc(IpcError::Budget(at)) => Place::StoredByte(at as u64),
-        SchemaError::Ipc(IpcError::OutOfMemory)
-        | SchemaError::Footer(
-            FooterError::NotParquet | FooterError::Encrypted | FooterError::Memory,
-        )
+        SchemaError::Footer(FooterError::NotParquet | FooterError::Encrypted | FooterError::Memory)
         | SchemaError::Cut
-        | SchemaError::Encoding(_)
-        | SchemaError::Names
         | SchemaError::Budget
         | SchemaError::OutOfMemory => Place::File,
     }

@@ -1,5 +1,5 @@
-mod Appending
 mod Adding
 mod Places
+mod Joined
 pub mod Reported
 pub mod Whole

@@ -1,27 +1,27 @@
 -- Reports, column by column, and their lines.
-use Rattle.std.proofs.Common.{◌≡◌, ℕ, ◌+◌, ◌<◌, ◌≤◌, List, [], ◌∷◌, ◌++◌, length, get_or, map, drop, Option, sym, ap, ◌∙◌, subst, arith}
+use Rattle.std.proofs.Common.{◌≡◌, Bool, ℕ, ◌+◌, ◌<◌, ◌≤◌, List, [], ◌∷◌, ◌++◌, length, get_or, map, drop, Option, sym, ap, ◌∙◌, subst, arith}
 use Rattle.std.proofs.lemmas.List.{map-append, append_assoc, append-nil, at_drop_more, drop_all, length-append}
 use Rattle.arrow_values.specs.Tree.{Text}
 use Rattle.arrow_columns.specs.Column.{ColumnTree, column_tree}
 use Rattle.arrow_columns.specs.declared.column.SchemaColumn.{SchemaColumn}
 use Rattle.column_reports.specs.Columns.{IsColumnReport}
 use Rattle.column_reports.specs.FileReport.{AreReported, line_of, lines_of}
+use Rattle.column_reports.specs.Weights.{Weighing}
 use Rattle.column_reports.specs.declared.report.ColumnReport.{ColumnReport}
-use Rattle.column_reports.specs.declared.report.Options.{Options}
 
 -- one more column with its report
-reported_more : (o : Options) (cs : List ColumnTree) (rs : List ColumnReport) (c : ColumnTree) (r : ColumnReport) → AreReported o cs rs → IsColumnReport o c r
-    → AreReported o (cs ++ c ∷ []) (rs ++ r ∷ [])
-reported_more o [] [] c r are is = (is, tt)
-reported_more o (d ∷ cs) (s ∷ rs) c r are is = (are.0, reported_more o cs rs c r are.1 is)
-reported_more o [] (s ∷ rs) c r are is = absurd are
-reported_more o (d ∷ cs) [] c r are is = absurd are
+reported_more : (infer : Bool) (w : Weighing) (cs : List ColumnTree) (rs : List ColumnReport) (c : ColumnTree) (r : ColumnReport) → AreReported infer w cs rs → IsColumnReport infer w c r
+    → AreReported infer w (cs ++ c ∷ []) (rs ++ r ∷ [])
+reported_more infer w [] [] c r are is = (is, tt)
+reported_more infer w (d ∷ cs) (s ∷ rs) c r are is = (are.0, reported_more infer w cs rs c r are.1 is)
+reported_more infer w [] (s ∷ rs) c r are is = absurd are
+reported_more infer w (d ∷ cs) [] c r are is = absurd are
 
-pub reported_next : (o : Options) (cs : List SchemaColumn) (rs new : List ColumnReport) (c : SchemaColumn) (r : ColumnReport) → AreReported o (map column_tree cs) rs
-    → IsColumnReport o (column_tree c) r → new ≡ rs ++ r ∷ [] → AreReported o (map column_tree (cs ++ c ∷ [])) new
-reported_next o cs rs new c r are is pushed =
-    subst (AreReported o (map column_tree (cs ++ c ∷ []))) (sym pushed)
-    (subst (λ ts. AreReported o ts (rs ++ r ∷ [])) (sym (map-append column_tree cs (c ∷ []))) (reported_more o (map column_tree cs) rs (column_tree c) r are is))
+pub reported_next : (infer : Bool) (w : Weighing) (cs : List SchemaColumn) (rs new : List ColumnReport) (c : SchemaColumn) (r : ColumnReport) → AreReported infer w (map column_tree cs) rs
+    → IsColumnReport infer w (column_tree c) r → new ≡ rs ++ r ∷ [] → AreReported infer w (map column_tree (cs ++ c ∷ [])) new
+reported_next infer w cs rs new c r are is pushed =
+    subst (AreReported infer w (map column_tree (cs ++ c ∷ []))) (sym pushed)
+    (subst (λ ts. AreReported infer w ts (rs ++ r ∷ [])) (sym (map-append column_tree cs (c ∷ []))) (reported_more infer w (map column_tree cs) rs (column_tree c) r are is))
 
 -- the lines that are still to come stand behind those that were written
 abbrev pub ColumnsFrom : Option Text → List ColumnReport → ℕ → Text → Type 0

@@ -17,6 +17,6 @@ longer limit front back fault (inr (large, past)) = inr (large, omega (arith, pa
 
 -- the lines of the report of the file that was opened are those of the bytes
 pub of_bytes : (file : Option Text) (o : Options) (bytes : List ℕ) (r : FileReport) (result : Result (String Global) FileFault) → IsReportOf o bytes r
-    → IsWithin (budget (length bytes)) (report_text file o.notes r) result → Reports file o bytes result
+    → IsWithin (budget (length bytes)) (report_text file r) result → Reports file o bytes result
 of_bytes file o bytes r (Ok lines) is within = (r, is, within)
 of_bytes file o bytes r (Err fault) is within = inr (inr (r, is, within))

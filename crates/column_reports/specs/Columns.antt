@@ -1,13 +1,19 @@
 -- What is said of a column, as one value.
-use Rattle.std.specs.Prelude.{◌≡◌}
+use Rattle.std.specs.Prelude.{◌≡◌, Bool, true, List}
 use Rattle.arrow_columns.specs.Column.{ColumnTree, column_tree}
 use Rattle.column_check.specs.Finding.{IsFinding}
 use Rattle.column_check.specs.Warnings.{AreWarnings}
+use Rattle.column_check.specs.declared.warning.Warning.{Warning}
+use Rattle.column_reports.specs.Gathered.{of_warnings}
+use Rattle.column_reports.specs.Weighed.{weighed}
+use Rattle.column_reports.specs.Weights.{Weighing}
 use Rattle.column_reports.specs.declared.report.ColumnReport.{ColumnReport}
-use Rattle.column_reports.specs.declared.report.Options.{Options}
 
--- the report of a column where that is asked for: the column itself, what is said of it, and its warnings, with the notes or without them
-pub record IsColumnReport (o : Options) (c : ColumnTree) (r : ColumnReport) : Type 0 where
+-- the report of a column where types are inferred or not and that is asked of findings: the column itself, what is said of it, and those of its
+-- warnings that are shown
+pub record IsColumnReport (infer : Bool) (w : Weighing) (c : ColumnTree) (r : ColumnReport) : Type 0 where
   pub column : column_tree r.column ≡ c
-  pub finding : IsFinding o.infer c r.finding
-  pub warnings : AreWarnings o.notes c r.finding r.warnings.items
+  pub finding : IsFinding infer c r.finding
+  pub warnings : List Warning
+  pub are : AreWarnings true c r.finding warnings
+  pub findings : r.findings.items ≡ weighed w (of_warnings warnings)

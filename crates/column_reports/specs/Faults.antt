@@ -1,13 +1,12 @@
 -- Why a file is refused, as one JSON value and in words (docs/FORMAT.md, 2.8).
-use Rattle.std.specs.Prelude.{ℕ, List, ◌++◌, codes, decimal, Option, None, Some, option_map}
-use Rattle.json.specs.Json.{Json, number}
+use Rattle.std.specs.Prelude.{ℕ, List, ◌++◌, codes, decimal, Option, None, Some}
+use Rattle.json.specs.Json.{Json}
 use Rattle.arrow_values.specs.Tree.{Text}
 use Rattle.arrow_values.specs.Texts.{text_of}
 use Rattle.column_files.specs.declared.refusal.Fault.{Fault}
 use Rattle.column_files.specs.declared.refusal.Place.{Place}
-use Rattle.column_files.specs.declared.refusal.Place.TheVariants.{File, Line, LineByte, Byte, MessageByte, FooterByte, Element, StoredByte, Column}
-use Rattle.column_reports.specs.Objects.{object_of, member_if}
-use Rattle.column_reports.specs.Report.{string_if}
+use Rattle.column_files.specs.declared.refusal.Place.TheVariants.{File, Line, LineByte, Byte, MessageByte, FooterByte, Element, Column}
+use Rattle.column_reports.specs.Objects.{object_of, string_if, number_if}
 
 -- the numbers of a place
 abbrev pub byte_in : Place → Option ℕ
@@ -15,7 +14,6 @@ byte_in (LineByte line byte) = Some byte
 byte_in (Byte byte) = Some byte
 byte_in (MessageByte byte) = Some byte
 byte_in (FooterByte byte) = Some byte
-byte_in (StoredByte byte) = Some byte
 byte_in place = None
 
 abbrev pub line_in : Place → Option ℕ
@@ -43,7 +41,6 @@ place_text (Byte byte) = Some (counted (codes "byte ") byte (codes ""))
 place_text (MessageByte byte) = Some (counted (codes "byte ") byte (codes " of the message"))
 place_text (FooterByte byte) = Some (counted (codes "byte ") byte (codes " of the footer"))
 place_text (Element element) = Some (counted (codes "element ") element (codes " of the schema"))
-place_text (StoredByte byte) = Some (counted (codes "the schema at ARROW:schema: byte ") byte (codes " of the message"))
 place_text (Column column) = Some (counted (codes "column ") column (codes ""))
 
 -- a text with another behind it, if there is one, and what stands between
@@ -62,10 +59,6 @@ placed (Some place) said = place ++ (codes ": " ++ said)
 
 abbrev pub fault_text : Fault → Text
 fault_text fault = placed (place_text fault.place) (said_of fault)
-
--- a member whose value is a number, if there is one
-abbrev pub number_if : Text → Option ℕ → List (Text × Json)
-number_if key n = member_if key (option_map (λ m. number (decimal m)) n)
 
 -- the members, in the order of their keys
 abbrev pub numbers_of : Place → List (Text × Json)

@@ -1,43 +1,79 @@
--- The report of a file: its columns with what is said of each, and what is found in its GeoParquet metadata; and its lines of JSON.
+-- The report of a file: its columns with what is said of each, and what is found of it; and its lines of JSON.
 use Rattle.std.specs.Prelude.{◌≡◌, ◌⊎◌, ◌<◌, ◌≤◌, ◌+◌, ◌++◌, ℕ, ⊤, Bool, List, [], ◌∷◌, codes, length, map, Option, None, Some, Result, Ok, Err, String, string_bytes, if◌then◌else◌}
 use Rattle.std.specs.Global.{Global}
+use Rattle.std.specs.Str.{is_utf8}
 use Rattle.json.specs.Print.{print}
 use Rattle.json.specs.Tree.{json_tokens}
 use Rattle.arrow_values.specs.Tree.{Text}
-use Rattle.arrow_values.specs.Texts.{text_of}
 use Rattle.arrow_columns.specs.Column.{ColumnTree, column_tree}
 use Rattle.column_files.specs.Files.{IsOpened}
 use Rattle.column_files.specs.declared.form.Form.{Form}
 use Rattle.column_files.specs.declared.form.Form.TheVariants.{Parquet}
+use Rattle.column_files.specs.declared.geo.GeoText.{GeoText}
+use Rattle.column_files.specs.declared.geo.GeoText.TheVariants.{Absent, Footer, Schema}
 use Rattle.column_files.specs.declared.opening.File.{File}
 use Rattle.column_files.specs.declared.columns.FileFault.{FileFault}
 use Rattle.column_files.specs.declared.columns.FileFault.TheVariants.{ReportTooLarge, OutOfMemory}
+use Rattle.geoparquet.specs.Findings.{finding}
+use Rattle.geoparquet.specs.GeoColumns.{AreGeoColumns}
+use Rattle.geoparquet.specs.GeoFindings.{AreGeoFindings}
+use Rattle.geoparquet.specs.Sources.{Source, unasked, missing, value}
 use Rattle.geoparquet.specs.declared.finding.GeoReport.{GeoReport}
 use Rattle.parquet_columns.specs.Budget.{budget}
-use Rattle.column_reports.specs.Checks.{AreByMetadata, has_failed}
+use Rattle.parquet_columns.specs.Claims.{claim}
 use Rattle.column_reports.specs.Columns.{IsColumnReport}
-use Rattle.column_reports.specs.GeoLines.{lines_text}
-use Rattle.column_reports.specs.GeoWarning.{no_geo_text}
+use Rattle.column_reports.specs.FindingLines.{findings_text}
+use Rattle.column_reports.specs.Gathered.{of_file}
 use Rattle.column_reports.specs.Report.{report}
 use Rattle.column_reports.specs.Summary.{IsSummary}
+use Rattle.column_reports.specs.Weighed.{weighed}
+use Rattle.column_reports.specs.Weights.{Weighing, plain}
 use Rattle.column_reports.specs.declared.file.FileReport.{FileReport}
 use Rattle.column_reports.specs.declared.report.ColumnReport.{ColumnReport}
 use Rattle.column_reports.specs.declared.report.Options.{Options}
 
 -- each of the columns has its report
-abbrev pub AreReported : Options → List ColumnTree → List ColumnReport → Type 0
-AreReported o [] [] = ⊤
-AreReported o (c ∷ cs) (r ∷ rs) = IsColumnReport o c r × AreReported o cs rs
-AreReported o _ _ = ⊥
+abbrev pub AreReported : Bool → Weighing → List ColumnTree → List ColumnReport → Type 0
+AreReported infer w [] [] = ⊤
+AreReported infer w (c ∷ cs) (r ∷ rs) = IsColumnReport infer w c r × AreReported infer w cs rs
+AreReported infer w _ _ = ⊥
 
--- the report of a file in that format, which has that text at the key `geo`, if any, and denotes these columns
-pub record IsReport (o : Options) (form : Form) (geo : Option Text) (cs : List ColumnTree) (r : FileReport) : Type 0 where
-  pub form_is : r.form ≡ form
-  -- its columns by the metadata
+-- the text at the key geo, if there is one: bytes that are not UTF-8 are none
+abbrev pub text_of_bytes : List ℕ → Option Text
+text_of_bytes bytes = if is_utf8 bytes then Some bytes else None
+
+abbrev pub text_in : GeoText → Option Text
+text_in Absent = None
+text_in (Footer text) = text_of_bytes text.bytes.now
+text_in (Schema text) = Some (string_bytes text)
+
+-- what the rules of GeoParquet take a file in that format to have at the key: of a Parquet file the key is missing where nothing stands at it
+abbrev pub nothing_in : Form → Source
+nothing_in Parquet = missing
+nothing_in form = unasked
+
+abbrev pub source_in : Form → GeoText → Source
+source_in form Absent = nothing_in form
+source_in form (Footer text) = value text.bytes.now
+source_in form (Schema text) = value (string_bytes text)
+
+-- the columns that a file with the columns cs has by that text
+abbrev pub AreColumnsBy : Option Text → List ColumnTree → List ColumnTree → Type 0
+AreColumnsBy None cs made = made ≡ cs
+AreColumnsBy (Some geo) cs made = AreGeoColumns geo cs made
+
+-- the report of a file that was opened, where types are inferred or not and that is asked of findings
+pub record IsReport (infer : Bool) (w : Weighing) (opened : File) (r : FileReport) : Type 0 where
+  pub form : r.form ≡ opened.form
+  -- its columns by the metadata, each with its report
   pub by : List ColumnTree
-  pub are : AreByMetadata geo cs r.findings by
-  pub columns : AreReported o by r.columns.items
-  pub summary : IsSummary r.columns.items (has_failed r.findings) r.summary
+  pub are_by : AreColumnsBy (text_in opened.geo) (map column_tree opened.columns.items) by
+  pub columns : AreReported infer w by r.columns.items
+  -- what the metadata are found to be, of the columns that the file denotes
+  pub geo : GeoReport
+  pub is_geo : AreGeoFindings (source_in opened.form opened.geo) (map column_tree opened.columns.items) (map claim opened.elements.items) geo.version (map finding geo.findings.items)
+  pub findings : r.findings.items ≡ weighed w (of_file opened.texts.items opened.findings.items geo)
+  pub summary : IsSummary r.columns.items r.findings.items r.summary
 
 -- ---- as lines of JSON
 
@@ -49,22 +85,9 @@ abbrev pub lines_of : Option Text → ℕ → List ColumnReport → Text
 lines_of file index [] = []
 lines_of file index (r ∷ rs) = line_of file index r ++ lines_of file (index + 1) rs
 
--- the warning of a Parquet file with geometries
-abbrev pub warning_in : Option Text → Form → Bool → Text
-warning_in file Parquet has_geometry = if has_geometry then no_geo_text file ++ codes "\n" else []
-warning_in file form has_geometry = []
-
--- what stands behind the lines of the columns: those of the findings; or, where there are no metadata, the warning
-abbrev pub behind_in : Option Text → Bool → Option GeoReport → Form → Bool → Text
-behind_in file notes (Some report) form has_geometry = lines_text file report.version notes report.findings.items
-behind_in file notes None form has_geometry = warning_in file form has_geometry
-
-abbrev pub behind : Option Text → Bool → FileReport → Text
-behind file notes r = behind_in file notes r.findings r.form r.summary.has_geometry
-
--- the lines of a report, with those of notes or without
-abbrev pub report_text : Option Text → Bool → FileReport → Text
-report_text file notes r = lines_of file 0 r.columns.items ++ behind file notes r
+-- the lines of a report: those of its columns, and those of what is found of the file
+abbrev pub report_text : Option Text → FileReport → Text
+report_text file r = lines_of file 0 r.columns.items ++ findings_text file r.findings.items
 
 -- what a call answers of a text within a limit of bytes: the text; or that it has more, or that memory is lacking
 abbrev pub IsWithin : ℕ → Text → Result (String Global) FileFault → Type 0
@@ -77,11 +100,11 @@ IsWithin limit text (Err fault) = (fault ≡ OutOfMemory) ⊎ ((fault ≡ Report
 pub record IsReportOf (o : Options) (bytes : List ℕ) (r : FileReport) : Type 0 where
   pub opened : File
   pub is : IsOpened bytes (Ok opened)
-  pub said : IsReport o opened.form (text_of opened.geo) (map column_tree opened.columns.items) r
+  pub said : IsReport o.infer (plain o.notes) opened r
 
 -- what a call answers of the bytes of a file: the lines of its report within the budget of the bytes; or why there are none
 abbrev pub ReportsOf : Option Text → Options → List ℕ → Result (String Global) FileFault → Type 0
-ReportsOf file o bytes result = (r : FileReport) × IsReportOf o bytes r × IsWithin (budget (length bytes)) (report_text file o.notes r) result
+ReportsOf file o bytes result = (r : FileReport) × IsReportOf o bytes r × IsWithin (budget (length bytes)) (report_text file r) result
 
 abbrev pub Reports : Option Text → Options → List ℕ → Result (String Global) FileFault → Type 0
 Reports file o bytes (Ok lines) = ReportsOf file o bytes (Ok lines)

@@ -1,7 +1,7 @@
 -- JSON values, made of their parts.
-use Rattle.std.specs.Prelude.{List, [], ◌∷◌, flat_map, Option, None, Some}
+use Rattle.std.specs.Prelude.{ℕ, List, [], ◌∷◌, decimal, flat_map, Option, None, Some, option_map}
 use Rattle.json.specs.Token.{Token, key}
-use Rattle.json.specs.Json.{Json, array, object, Items, no_items, item, Members, no_members, member}
+use Rattle.json.specs.Json.{Json, array, number, object, string, Items, no_items, item, Members, no_members, member}
 use Rattle.json.specs.Tree.{json_tokens}
 use Rattle.json.specs.Written.{Written}
 use Rattle.arrow_values.specs.Tree.{Text}
@@ -27,6 +27,13 @@ object_of ms = object (members_from ms)
 abbrev pub member_if : Text → Option Json → List (Text × Json)
 member_if k None = []
 member_if k (Some j) = (k, j) ∷ []
+
+-- a member whose value is a string, or a number, if there is one
+abbrev pub string_if : Text → Option Text → List (Text × Json)
+string_if k text = member_if k (option_map string text)
+
+abbrev pub number_if : Text → Option ℕ → List (Text × Json)
+number_if k n = member_if k (option_map (λ m. number (decimal m)) n)
 
 -- ---- while they are written
 

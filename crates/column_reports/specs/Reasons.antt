@@ -1,7 +1,7 @@
 -- The reasons of a column that is invalid, as JSON.
-use Rattle.std.specs.Prelude.{ℕ, ◌==◌, List, [], ◌∷◌, ◌++◌, codes, decimal, map, string_bytes, if◌then◌else◌}
+use Rattle.std.specs.Prelude.{List, [], ◌∷◌, ◌++◌, codes, map, string_bytes}
 use Rattle.std.specs.List.{join_by}
-use Rattle.json.specs.Json.{Json, number, string}
+use Rattle.json.specs.Json.{Json, string}
 use Rattle.arrow_values.specs.Tree.{Text}
 use Rattle.geoarrow_layout.specs.declared.fault.LayoutFault.{LayoutFault}
 use Rattle.geoarrow_layout.specs.declared.fault.LayoutFault.TheVariants.{UnexpectedType, BadInterleavedName, BadSize, BadFieldNames, BadFieldCount, MixedWidths, BadTypeId, MemberDimension, EmptyUnion, SeveralCoordTypes, SeveralDimensions}
@@ -14,18 +14,14 @@ use Rattle.column_check.specs.declared.finding.Reasons.{Reasons}
 use Rattle.column_check.specs.declared.finding.Reasons.TheVariants.{UnknownExtension, DataType, Metadata, DataTypeAndMetadata}
 use Rattle.column_reports.specs.Objects.{array_of, object_of}
 
--- how many more there are, if there are any
-abbrev pub more_if : ℕ → List (Text × Json)
-more_if more = if more == 0 then [] else (codes "more", number (decimal more)) ∷ []
-
--- a reason: a code, a message, how many more it stands for, and the names of the child fields from the column down to where it is
-abbrev pub reason_value : Text → Text → ℕ → List Text → Json
-reason_value code message more path =
-    object_of ((codes "code", string code) ∷ (codes "message", string message) ∷ (more_if more ++ (codes "path", array_of (map string path)) ∷ []))
+-- a reason: a code, a message, and the names of the child fields from the column down to where it is
+abbrev pub reason_value : Text → Text → List Text → Json
+reason_value code message path =
+    object_of ((codes "code", string code) ∷ (codes "message", string message) ∷ (codes "path", array_of (map string path)) ∷ [])
 
 -- a reason of the column itself
 abbrev pub own_reason : Text → Text → Json
-own_reason code message = reason_value code message 0 []
+own_reason code message = reason_value code message []
 
 -- the code of a layout's fault
 abbrev pub fault_code : LayoutFault → Text
@@ -51,7 +47,7 @@ type_message (Layout fault names) = fault_text fault
 abbrev pub type_reason : TypeFault → Json
 type_reason UnsupportedType = own_reason (codes "UnsupportedType") (type_message UnsupportedType)
 type_reason WrongStorage = own_reason (codes "WrongStorage") (type_message WrongStorage)
-type_reason (Layout fault names) = reason_value (fault_code fault) (type_message (Layout fault names)) 0 (map string_bytes names.items)
+type_reason (Layout fault names) = reason_value (fault_code fault) (type_message (Layout fault names)) (map string_bytes names.items)
 
 -- the other messages
 abbrev pub crs_type_message : Text

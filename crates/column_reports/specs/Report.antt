@@ -13,11 +13,11 @@ use Rattle.column_check.specs.declared.finding.Geometry.{Geometry as GeometryCol
 use Rattle.column_check.specs.declared.finding.Finding.{Finding as ColumnFinding}
 use Rattle.column_check.specs.declared.finding.Finding.TheVariants.{Geometry, Invalid, Extension, Inferred, Plain}
 use Rattle.column_check.specs.States.{geometry_in}
-use Rattle.column_check.specs.declared.warning.Warning.{Warning}
-use Rattle.column_reports.specs.Objects.{array_of, object_of, member_if}
+use Rattle.column_reports.specs.FindingLines.{findings_in}
+use Rattle.column_reports.specs.Objects.{array_of, object_of, member_if, string_if}
 use Rattle.column_reports.specs.Reasons.{reasons_of}
-use Rattle.column_reports.specs.Warnings.{warnings_in}
 use Rattle.column_reports.specs.declared.report.ColumnReport.{ColumnReport}
+use Rattle.column_reports.specs.declared.weighed.Weighed.{Weighed}
 
 abbrev pub state_word : ColumnFinding → Text
 state_word (Geometry g) = codes "geometry"
@@ -58,10 +58,6 @@ abbrev pub reasons_in : ColumnFinding → Option Json
 reasons_in (Invalid r) = Some (array_of (reasons_of r))
 reasons_in f = None
 
--- a member whose value is a string, if there is one
-abbrev pub string_if : Text → Option Text → List (Text × Json)
-string_if key text = member_if key (option_map string text)
-
 -- the members, in the order of their keys: the column and its CRS; what geometries are like, and names; the column's place and what is found of it
 abbrev pub names_of : Option Text → ColumnTree → Option GeometryColumn → List (Text × Json)
 names_of file c g =
@@ -70,21 +66,21 @@ names_of file c g =
     ++ string_if (codes "extension") (name_on c)
     ++ string_if (codes "file") file
 
-abbrev pub found_of : ℕ → ColumnFinding → Text → List Warning → List (Text × Json)
-found_of index f word ws =
+abbrev pub found_of : ℕ → ColumnFinding → Text → List Weighed → List (Text × Json)
+found_of index f word fs =
     member_if (codes "index") (Some (number (decimal index)))
     ++ member_if (codes "reasons") (reasons_in f)
     ++ string_if (codes "state") (Some (state_word f))
     ++ string_if (codes "type") (Some word)
-    ++ member_if (codes "warnings") (warnings_in ws)
+    ++ member_if (codes "warnings") (findings_in fs)
 
-abbrev pub members_of : Option Text → ℕ → ColumnTree → ColumnFinding → List Warning → List (Text × Json)
-members_of file index c f ws =
+abbrev pub members_of : Option Text → ℕ → ColumnTree → ColumnFinding → List Weighed → List (Text × Json)
+members_of file index c f fs =
     string_if (codes "column") (Some c.name)
     ++ member_if (codes "crs") (crs_of (geometry_in f))
     ++ names_of file c (geometry_in f)
-    ++ found_of index f (type_word c (geometry_in f)) ws
+    ++ found_of index f (type_word c (geometry_in f)) fs
 
--- the report: the file, where it is named, the place of the column, the column, what is said of it, and its warnings
+-- the report: the file, where it is named, the place of the column, the column, what is said of it, and what is found of it
 abbrev pub report : Option Text → ℕ → ColumnReport → Json
-report file index r = object_of (members_of file index (column_tree r.column) r.finding r.warnings.items)
+report file index r = object_of (members_of file index (column_tree r.column) r.finding r.findings.items)

@@ -1,16 +1,23 @@
--- What counts of the columns of a file, and of what is found in its GeoParquet metadata.
+-- What counts of a file for its status.
 use Rattle.std.specs.Prelude.{◌≡◌, ◌||◌, ℕ, Bool, List, if◌then◌else◌}
 use Rattle.std.specs.List.{list_any}
 use Rattle.column_check.specs.States.{is_invalid, is_geometry}
+use Rattle.column_reports.specs.Weighed.{is_error}
 use Rattle.column_reports.specs.declared.report.ColumnReport.{ColumnReport}
 use Rattle.column_reports.specs.declared.summary.Summary.{Summary}
+use Rattle.column_reports.specs.declared.weighed.Weighed.{Weighed}
 
--- the summary of columns with these reports: whether one is invalid, whether one holds geometries, and whether a finding is an error
-pub record IsSummary (rs : List ColumnReport) (has_failed : Bool) (s : Summary) : Type 0 where
+-- one of the findings counts as an error
+abbrev pub has_error : List Weighed → Bool
+has_error fs = list_any is_error fs
+
+-- the summary of a file with these reports of columns, of which that is found: whether a column is invalid, whether one holds geometries, and whether a
+-- finding of a column or of the file counts as an error
+pub record IsSummary (rs : List ColumnReport) (fs : List Weighed) (s : Summary) : Type 0 where
   pub invalid : s.has_invalid ≡ list_any (λ r. is_invalid r.finding) rs
   pub geometry : s.has_geometry ≡ list_any (λ r. is_geometry r.finding) rs
-  pub failed : s.has_failed ≡ has_failed
+  pub failed : s.has_failed ≡ (list_any (λ r. has_error r.findings.items) rs || has_error fs)
 
--- the status: 1 where a column is invalid, a finding is an error, or what is asked of the file is not met
+-- the status: 1 where a column is invalid, a finding counts as an error, or what is asked of the file is not met
 abbrev pub status : Summary → Bool → ℕ
 status s is_unmet = if s.has_invalid || (s.has_failed || is_unmet) then 1 else 0

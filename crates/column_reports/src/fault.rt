@@ -5,10 +5,10 @@ ghost use Rattle.json.specs.Tree.{json_tokens};
 ghost use Rattle.arrow_values.specs.Texts.{text_of};
 ghost use Rattle.column_reports.specs.Objects.{AddsMembers};
 ghost use Rattle.column_reports.specs.Faults.{byte_in, line_in, element_in, column_in, counted};
-ghost use Rattle.column_reports.specs.Faults.{place_text, placed, with_more, said_of, fault_text, number_if};
+ghost use Rattle.column_reports.specs.Faults.{place_text, placed, with_more, said_of, fault_text};
 ghost use Rattle.column_reports.specs.Faults.{numbers_of, words_of, message_of, fault_report};
 
-use crate::put::{put_text, put_text_if};
+use crate::put::{put_number_if, put_text, put_text_if};
 use column_files::{Fault, Place};
 use json::Writer;
 use std::alloc::{AllocError, Global};
@@ -97,10 +97,6 @@ fn place_text(alloc: Global, place: Place) -> Result<Option<String>, AllocError>
         Place::MessageByte(byte) => named(alloc, "byte ", byte, " of the message"),
         Place::FooterByte(byte) => named(alloc, "byte ", byte, " of the footer"),
         Place::Element(element) => named(alloc, "element ", element, " of the schema"),
-        Place::StoredByte(byte) => {
-            let before = "the schema at ARROW:schema: byte ";
-            named(alloc, before, byte, " of the message")
-        }
         Place::Column(column) => named(alloc, "column ", column, ""),
     }
 }
@@ -150,28 +146,7 @@ fn put_message(out: &mut Writer, fault: &Fault, place: &Option<String>) -> Resul
 {
     put_number_if(out, "line", line_in(fault.place))?;
     put_text(out, "message", fault.message)?;
-    put_text_if(out, "place", text_in(place))
-}
-
-/// The text, if there is one.
-fn text_in(text: &Option<String>) -> Option<&str>
-    ensures { text_of result ≡ option_map string_bytes text.now }
-{
-    match text {
-        Some(text) => Some(text.as_str()),
-        None => None,
-    }
-}
-
-/// Writes a member whose value is a number, if there is one.
-fn put_number_if(out: &mut Writer, key: &str, number: Option<u64>) -> Result<(), AllocError>
-    ensures { OnOk result (AddsMembers (number_if key.now number) out.old out.new) }
-{
-    if let Some(number) = number {
-        out.key(key)?;
-        return out.u64(number);
-    }
-    Ok(())
+    put_text_if(out, "place", place.as_deref())
 }
 
 /// The byte of a place.
@@ -182,8 +157,7 @@ fn byte_in(place: Place) -> Option<u64>
         Place::LineByte(_, byte)
         | Place::Byte(byte)
         | Place::MessageByte(byte)
-        | Place::FooterByte(byte)
-        | Place::StoredByte(byte) => Some(byte),
+        | Place::FooterByte(byte) => Some(byte),
         Place::File | Place::Line(_) | Place::Element(_) | Place::Column(_) => None,
     }
 }

@@ -1,39 +1,44 @@
 //! The report of a file, as one value.
-ghost use Rattle.std.specs.Prelude.{◌≡◌, IfOk, map};
+ghost use Rattle.std.specs.Prelude.{◌≡◌, ◌||◌, IfOk, map};
 ghost use Rattle.std.specs.List.{list_any};
 ghost use Rattle.arrow_values.specs.Texts.{text_of};
 ghost use Rattle.arrow_columns.specs.Column.{column_tree};
 ghost use Rattle.column_check.specs.States.{is_invalid, is_geometry};
 ghost use Rattle.column_reports.specs.FileReport.{AreReported, IsReport, Reports};
+ghost use Rattle.column_reports.specs.Summary.{has_error};
+ghost use Rattle.column_reports.specs.Weights.{plain, weighing};
 
-use crate::checks::{checked_columns, has_failed};
+use crate::gathered::of_file;
+use crate::geo::{columns_by, source_of};
 use crate::lines::json_lines;
-use crate::report::{ColumnReport, Options, report_column};
-use crate::summary::Summary;
+use crate::report::{ColumnReport, Options, weighed_column};
+use crate::summary::{Summary, has_error};
+use crate::weighed::{Weighed, weigh};
+use crate::weights::Weights;
 use arrow_columns::SchemaColumn;
 use column_files::{File, FileFault, Form, open};
-use geoparquet::GeoReport;
+use geoparquet::check_geo;
 use json::Scratch;
 use parquet_columns::report_budget;
 use std::alloc::{AllocError, Global};
 
 /// What is said of a file. Its lines of JSON, its table and its status are made of this.
 #[derive(Debug, Drop)]
-pub struct FileReport {
+pub struct FileReport<'a> {
     /// The format of the file.
     pub form: Form,
     /// Its columns, by its GeoParquet metadata (docs/FORMAT.md, 5.2), each with what is said of it.
     pub columns: Vec<ColumnReport>,
-    /// What is found in its GeoParquet metadata (docs/FORMAT.md, 5); none where it has no text at the
-    /// key `geo`.
-    pub findings: Option<GeoReport>,
+    /// What is found of the file and shown: of the texts of its footer (docs/FORMAT.md, 4.3), then of its
+    /// schemas and keys (4.5), then of its GeoParquet metadata (5).
+    pub findings: Vec<Weighed<'a>>,
     /// What counts of the columns and of the findings.
     pub summary: Summary,
 }
 
-/// Returns the report of a file that was opened: what each of its columns holds and what is doubtful
-/// of it, where the columns are those by its GeoParquet metadata; and what is found in these. Errs
-/// only when out of memory.
+/// Returns the report of a file that was opened: what each of its columns holds and what is found
+/// of it, where the columns are those by its GeoParquet metadata; and what is found of the file.
+/// Errs only when out of memory.
 ///
 /// ```rust
 /// let bytes = br#"{"name":"id","nullable":true,"type":"int64"}"#;
@@ -42,22 +47,47 @@ pub struct FileReport {
 /// assert_eq!(rt; report.columns.len(), 1);
 /// assert!(rt; !report.summary.has_invalid);
 /// ```
-pub fn report_of(
+pub fn report_of<'a>(
     alloc: Global,
-    opened: File<'_>,
+    opened: File<'a>,
     options: Options,
-) -> Result<FileReport, AllocError>
-    ensures { IfOk result (IsReport options opened.entry.form (text_of opened.entry.geo) (map column_tree opened.entry.columns.items)) }
+) -> Result<FileReport<'a>, AllocError>
+    ensures { IfOk result (IsReport options.infer (plain options.notes) opened.entry) }
 {
-    let File { form, columns, geo } = opened;
-    let checked = checked_columns(alloc, geo, columns)?;
-    let columns = report_columns(alloc, checked.columns, options)?;
-    let failed = has_failed(&checked.findings);
-    let summary = summary_of(columns.as_slice(), failed);
+    let weights = Weights::new(alloc, options.notes);
+    weighed_report(alloc, opened, options.infer, &weights)
+}
+
+/// Returns the report of a file that was opened, as [`report_of`] does, but that findings count by
+/// what is asked of them. A column without an extension name is taken for what is inferred from its
+/// data type, if `infer` says so. Errs only when out of memory.
+pub fn weighed_report<'a>(
+    alloc: Global,
+    opened: File<'a>,
+    infer: bool,
+    weights: &Weights,
+) -> Result<FileReport<'a>, AllocError>
+    ensures { IfOk result (IsReport infer (weighing weights.now) opened.entry) }
+{
+    let File {
+        form,
+        columns,
+        elements,
+        findings,
+        texts,
+        geo,
+    } = opened;
+    let source = source_of(form, &geo);
+    let checked = check_geo(alloc, source, columns.as_slice(), elements.as_slice())?;
+    let found = of_file(alloc, texts, findings, checked)?;
+    let findings = weigh(alloc, weights, found)?;
+    let columns = columns_by(alloc, &geo, columns)?;
+    let columns = report_columns(alloc, columns, infer, weights)?;
+    let summary = summary_of(columns.as_slice(), findings.as_slice());
     Ok(FileReport {
         form,
         columns,
-        findings: checked.findings,
+        findings,
         summary,
     })
 }
@@ -66,29 +96,30 @@ pub fn report_of(
 fn report_columns(
     alloc: Global,
     columns: Vec<SchemaColumn>,
-    options: Options,
+    infer: bool,
+    weights: &Weights,
 ) -> Result<Vec<ColumnReport>, AllocError>
-    ensures { IfOk result (λ reported. AreReported options (map column_tree columns.items) reported.items) }
+    ensures { IfOk result (λ reported. AreReported infer (weighing weights.now) (map column_tree columns.items) reported.items) }
 {
     let mut scratch = Scratch::new(alloc);
     let mut reported = Vec::new(alloc);
     for column in columns {
-        let said = report_column(alloc, &mut scratch, column, options)?;
+        let said = weighed_column(alloc, &mut scratch, column, infer, weights)?;
         reported.push(said)?;
     }
     Ok(reported)
 }
 
-/// Returns what counts of columns, and of whether a finding is an error.
-fn summary_of(columns: &[ColumnReport], has_failed: bool) -> Summary
+/// Returns what counts of columns, and of what is found of a file.
+fn summary_of(columns: &[ColumnReport], findings: &[Weighed<'_>]) -> Summary
     ensures invalid { result.has_invalid ≡ list_any (λ r. is_invalid r.finding) columns.now }
     ensures geometry { result.has_geometry ≡ list_any (λ r. is_geometry r.finding) columns.now }
-    ensures failed { result.has_failed ≡ has_failed }
+    ensures failed { result.has_failed ≡ (list_any (λ r. has_error r.findings.items) columns.now || has_error findings.now) }
 {
     Summary {
         has_invalid: is_one_invalid(columns),
         has_geometry: is_one_geometry(columns),
-        has_failed,
+        has_failed: is_one_failed(columns) | has_error(findings),
     }
 }
 
@@ -106,11 +137,19 @@ fn is_one_geometry(columns: &[ColumnReport]) -> bool
     columns.iter().any(|said| said.finding.is_geometry())
 }
 
+/// Whether an error is found of one of some columns.
+fn is_one_failed(columns: &[ColumnReport]) -> bool
+    ensures { result ≡ list_any (λ r. has_error r.findings.items) columns.now }
+{
+    columns
+        .iter()
+        .any(|said| has_error(said.findings.as_slice()))
+}
+
 /// Returns the report of a file, from its bytes, as lines of JSON: what each of its columns holds
-/// and what is doubtful of it; and behind these lines one for each finding in its GeoParquet
-/// metadata, of notes where notes are asked for; or, where a Parquet file has no such metadata and a
-/// column holds geometries, the line of a warning (docs/FORMAT.md, 2.5 and 5.1). `file` is the name
-/// that the lines give the file, if any.
+/// and what is found of it; and behind these lines one for each finding of the file, of notes where
+/// notes are asked for (docs/FORMAT.md, 2.5 and 5.1). `file` is the name that the lines give the
+/// file, if any.
 ///
 /// Errs as `open` of `column_files` does; with `ReportTooLarge` where the lines have more bytes than
 /// `report_budget` of the length of the file (docs/FORMAT.md, 2.5); and when out of memory.
@@ -134,7 +173,7 @@ pub fn report_file(
     match open(alloc, bytes) {
         Ok(opened) => {
             let report = report_of(alloc, opened, options)?;
-            json_lines(alloc, file, &report, options.notes, limit)
+            json_lines(alloc, file, &report, limit)
         }
         Err(fault) => Err(fault),
     }

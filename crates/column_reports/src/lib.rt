@@ -1,35 +1,47 @@
 //! What is said of a column of a schema, as one value: [`report_column`] makes it of what
 //! `inspect_column` and `warnings` of `column_check` answer, [`json_line`] writes it as a line of JSON,
 //! and [`Summary`] keeps what counts of it for the status; beside them its parts in words for people.
-//! The report of a file, [`FileReport`], is made by one call, [`report_of`]: its columns, what the rules
-//! of GeoParquet say of its metadata, and what counts for the status; [`json_lines`] writes it.
+//! The report of a file, [`FileReport`], is made by one call, [`report_of`]: its columns, what is found
+//! of the file, and what counts for the status; [`json_lines`] writes it. All that is found, of a column
+//! or of a file, is a [`Finding`], which [`finding_line`] writes as JSON and [`finding_words`] in words;
+//! [`Weights`] say which findings are shown, and how much each counts.
 #![tactic(auto)]
 
-mod checks;
+mod bytes;
+mod code;
 mod fault;
 mod file;
-mod geo_line;
-mod geo_lines;
-mod geo_warning;
+mod finding;
+mod finding_json;
+mod gathered;
+mod geo;
 mod line;
 mod lines;
 mod plain;
 mod put;
 mod reasons;
 mod report;
+mod said;
+mod sentence;
+mod shown_lines;
 mod summary;
-mod warnings;
+mod weighed;
+mod weights;
 mod words;
 
+pub use code::Code;
 pub use fault::{fault_line, fault_text};
-pub use file::{FileReport, report_file, report_of};
-pub use geo_line::finding_line;
-pub use geo_lines::finding_lines;
-pub use geo_warning::{no_geo_code, no_geo_expected, no_geo_line, no_geo_rule};
+pub use file::{FileReport, report_file, report_of, weighed_report};
+pub use finding::Finding;
+pub use finding_json::finding_line;
 pub use line::json_line;
 pub use lines::json_lines;
 pub use parquet_columns::report_budget;
-pub use plain::{reason_words, warning_words};
-pub use report::{ColumnReport, Options, report_column};
+pub use plain::reason_words;
+pub use report::{ColumnReport, Options, report_column, weighed_column};
+pub use sentence::finding_words;
+pub use shown_lines::finding_lines;
 pub use summary::Summary;
+pub use weighed::Weighed;
+pub use weights::{CodeWeight, Weight, Weights};
 pub use words::type_word;

@@ -7,10 +7,10 @@ ghost use Rattle.arrow_columns.specs.Column.{column_tree};
 ghost use Rattle.column_reports.specs.Objects.{member_if, AddsMembers};
 ghost use Rattle.column_reports.specs.Report.{crs_of, names_of, found_of, report};
 
+use crate::finding_json::put_findings;
 use crate::put::{put_number, put_text, put_text_if};
 use crate::reasons::put_reasons;
 use crate::report::ColumnReport;
-use crate::warnings::put_warnings;
 use crate::words::{crs_of, crs_type_of, edges_of, state_word, type_word};
 use arrow_columns::SchemaColumn;
 use column_check::Geometry;
@@ -38,8 +38,8 @@ const LINE_ROOM: usize = 512;
 ///     metadata: BTreeMap::new(alloc),
 /// };
 /// let mut scratch = Scratch::new(alloc);
-/// let finding = Finding::Plain;
-/// let report = ColumnReport { column, finding, warnings: Vec::new(alloc) };
+/// let finding = column_check::Finding::Plain;
+/// let report = ColumnReport { column, finding, findings: Vec::new(alloc) };
 /// let line = json_line(alloc, &mut scratch, None, 3, &report)?;
 /// assert_eq!(rt; line.as_str(), r#"{"column":"geom","index":3,"state":"plain","type":"int64"}"#);
 ///
@@ -47,24 +47,28 @@ const LINE_ROOM: usize = 512;
 /// let metadata = read_metadata(alloc, Some(text), &mut scratch)?;
 /// let Ok(metadata) = metadata else { return Ok(()); };
 /// let kind = Kind::Native(NativeKind::Point, CoordType::Separated, Dimension::XY);
-/// let finding = Finding::Geometry(Geometry { kind, metadata });
-/// let report = ColumnReport { column: report.column, finding, warnings: Vec::new(alloc) };
+/// let finding = column_check::Finding::Geometry(Geometry { kind, metadata });
+/// let report = ColumnReport { column: report.column, finding, findings: Vec::new(alloc) };
 /// let line = json_line(alloc, &mut scratch, Some("a.arrow"), 0, &report)?;
 /// assert_eq!(rt; line.as_str(), r#"{"column":"geom","crs":{"id":1.50,"id":[2]},"crs_type":"projjson","edges":"planar","file":"a.arrow","index":0,"state":"geometry","type":"point separated XY"}"#);
 ///
 /// let path = vec![in alloc; String::from_str(alloc, "x\ny")?]?;
 /// let fault = TypeFault::Layout(LayoutFault::BadSize, path);
-/// let finding = Finding::Invalid(Reasons::DataType(fault));
-/// let report = ColumnReport { column: report.column, finding, warnings: Vec::new(alloc) };
+/// let finding = column_check::Finding::Invalid(Reasons::DataType(fault));
+/// let report = ColumnReport { column: report.column, finding, findings: Vec::new(alloc) };
 /// let line = json_line(alloc, &mut scratch, None, 0, &report)?;
 /// assert_eq!(rt; line.as_str(), r#"{"column":"geom","index":0,"reasons":[{"code":"BadSize","message":"list size differs from the field name","path":["x\ny"]}],"state":"invalid","type":"int64"}"#);
 ///
 /// let path = vec![in alloc; String::from_str(alloc, "child")?]?;
-/// let warning = Warning { code: WarningCode::NestedGeometry, path, more: 0 };
-/// let warnings = vec![in alloc; warning]?;
-/// let report = ColumnReport { column: report.column, finding: Finding::Extension, warnings };
+/// let code = WarningCode::NestedGeometry;
+/// let found = Some(String::from_str(alloc, "geoarrow.wkb")?);
+/// let warning = Warning { code, path, pointer: None, found, more: 0 };
+/// let warned = Weighed { severity: Severity::Warning, finding: Finding::Column(warning) };
+/// let findings = vec![in alloc; warned]?;
+/// let finding = column_check::Finding::Extension;
+/// let report = ColumnReport { column: report.column, finding, findings };
 /// let line = json_line(alloc, &mut scratch, None, 0, &report)?;
-/// assert_eq!(rt; line.as_str(), r#"{"column":"geom","index":0,"state":"extension","type":"int64","warnings":[{"code":"NestedGeometry","message":"child field has a GeoArrow extension name","path":["child"]}]}"#);
+/// assert_eq!(rt; line.as_str(), r#"{"column":"geom","index":0,"state":"extension","type":"int64","warnings":[{"severity":"warning","code":"NestedGeometry","path":["child"],"found":"geoarrow.wkb","expected":"the name of a column alone","help":"GeoParquet takes columns at the root alone."}]}"#);
 /// ```
 pub fn json_line(
     alloc: Global,
@@ -83,7 +87,7 @@ pub fn json_line(
     put_text(&mut out, "column", said.column.name.as_str())?;
     put_crs(&mut out, scratch, geometry)?;
     put_names(&mut out, geometry, &said.column, file)?;
-    put_found(&mut out, index, said, type_word.as_str())?;
+    put_found(alloc, &mut out, index, said, type_word.as_str())?;
     out.end_object()?;
     Ok(text_of(out))
 }
@@ -120,16 +124,17 @@ fn put_names(
 
 /// Writes the place of a column and what is found of it, with the word of its type.
 fn put_found(
+    alloc: Global,
     out: &mut Writer,
     index: usize,
     said: &ColumnReport,
     word: &str,
 ) -> Result<(), AllocError>
-    ensures { OnOk result (AddsMembers (found_of index said.now.finding word.now said.now.warnings.items) out.old out.new) }
+    ensures { OnOk result (AddsMembers (found_of index said.now.finding word.now said.now.findings.items) out.old out.new) }
 {
-    put_number(out, "index", index)?;
+    put_number(out, "index", index as u64)?;
     put_reasons(out, &said.finding)?;
     put_text(out, "state", state_word(&said.finding))?;
     put_text(out, "type", word)?;
-    put_warnings(out, said.warnings.as_slice())
+    put_findings(alloc, out, said.findings.as_slice())
 }

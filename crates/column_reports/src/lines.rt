@@ -1,37 +1,34 @@
 //! The report of a file as lines of JSON.
-ghost use Rattle.std.specs.Prelude.{◌≡◌, ◌≤◌, ◌<◌, ◌++◌, IfOk, OnOk, MatchBool, length, string_bytes};
+ghost use Rattle.std.specs.Prelude.{◌≡◌, ◌≤◌, ◌<◌, ◌++◌, OnOk, MatchBool, length, string_bytes};
 ghost use Rattle.arrow_values.specs.Texts.{text_of};
-ghost use Rattle.column_reports.specs.FileReport.{line_of, lines_of, behind, warning_in, report_text, IsWithin};
+ghost use Rattle.column_reports.specs.FileReport.{line_of, lines_of, report_text, IsWithin};
 
 use crate::file::FileReport;
-use crate::geo_lines::finding_lines;
-use crate::geo_warning::no_geo_line;
 use crate::line::json_line;
 use crate::report::ColumnReport;
-use column_files::{FileFault, Form};
+use crate::shown_lines::finding_lines;
+use column_files::FileFault;
 use json::Scratch;
 use std::alloc::{AllocError, Global};
 
 /// Returns the report of a file as lines of JSON, each with its line feed: one for each column
-/// (docs/FORMAT.md, 2.5), and behind them one for each finding in its GeoParquet metadata that is
-/// an error or a warning, and with `notes` for each note too; or, where a Parquet file has no such
-/// metadata and a column holds geometries, the line of a warning (docs/FORMAT.md, 5.1). `file` is
-/// the name that the lines give the file, if any.
+/// (docs/FORMAT.md, 2.5), and behind them one for each finding of the file that is shown
+/// (docs/FORMAT.md, 5.1). `file` is the name that the lines give the file, if any.
 ///
 /// Errs with `ReportTooLarge` where the lines have more than `limit` bytes, as soon as those of the
 /// first columns have; and when out of memory.
 pub fn json_lines(
     alloc: Global,
     file: Option<&str>,
-    report: &FileReport,
-    notes: bool,
+    report: &FileReport<'_>,
     limit: u128,
 ) -> Result<String, FileFault>
-    ensures { IsWithin limit (report_text (text_of file.entry) notes report.now) result }
+    ensures { IsWithin limit (report_text (text_of file.entry) report.now) result }
 {
     match column_lines(alloc, file, report.columns.as_slice(), limit) {
         Ok(lines) => {
-            let behind = lines_behind(alloc, file, report, notes)?;
+            let findings = report.findings.as_slice();
+            let behind = finding_lines(alloc, file, findings)?;
             let mut text = lines;
             text.push_str(behind.as_str())?;
             within(text, limit)
@@ -93,32 +90,4 @@ fn within(text: String, limit: u128) -> Result<String, FileFault>
         return Err(FileFault::ReportTooLarge);
     }
     Ok(text)
-}
-
-/// What stands behind the lines of columns.
-fn lines_behind(
-    alloc: Global,
-    file: Option<&str>,
-    report: &FileReport,
-    notes: bool,
-) -> Result<String, AllocError>
-    ensures { IfOk result (λ text. string_bytes text ≡ behind (text_of file.entry) notes report.now) }
-{
-    match &report.findings {
-        Some(findings) => finding_lines(alloc, file, findings, notes),
-        None => warning_of(alloc, file, report),
-    }
-}
-
-/// The line of the warning, where a Parquet file has columns of geometries, and no GeoParquet
-/// metadata; else no text.
-fn warning_of(alloc: Global, file: Option<&str>, report: &FileReport) -> Result<String, AllocError>
-    ensures { IfOk result (λ text. string_bytes text ≡ warning_in (text_of file.entry) report.now.form report.now.summary.has_geometry) }
-{
-    if !matches!(report.form, Form::Parquet) || !report.summary.has_geometry {
-        return Ok(String::new(alloc));
-    }
-    let mut line = no_geo_line(alloc, file)?;
-    line.push_str("\n")?;
-    Ok(line)
 }

@@ -1,13 +1,12 @@
-//! The reasons of a column that is invalid and the warnings of any, in words.
+//! The reasons of a column that is invalid, in words.
 ghost use Rattle.std.specs.Prelude.{◌≡◌, ◌∷◌, [], ◌++◌, IfOk, OnOk, map, string_bytes};
 ghost use Rattle.column_reports.specs.Reasons.{place_words, type_words, metadata_words, words_of};
-ghost use Rattle.column_reports.specs.Warnings.{more_words, warning_words};
 
 use crate::reasons::{
     CRS_TYPE_MESSAGE, EDGES_MESSAGE, EXTENSION_MESSAGE, NOT_JSON_MESSAGE, NOT_OBJECT_MESSAGE,
     type_message,
 };
-use column_check::{MetadataFault, Reasons, TypeFault, Warning};
+use column_check::{MetadataFault, Reasons, TypeFault};
 use std::alloc::{AllocError, Global};
 
 /// Returns all reasons of an invalid column in words, one text for each, in the order in which the
@@ -35,30 +34,6 @@ pub fn reason_words(alloc: Global, reasons: &Reasons) -> Result<Vec<String>, All
     Ok(words)
 }
 
-/// Returns the warnings of a column in words, one text for each, in their order (`docs/FORMAT.md`,
-/// 2.5): its message and, where a child field is meant, ` at ` and the names of the fields on the
-/// way, with dots between them; and, where it stands for more, how many. Errs only when out of
-/// memory.
-///
-/// ```rust
-/// let path = vec![in alloc; String::from_str(alloc, "rings")?, String::from_str(alloc, "vertices")?]?;
-/// let words = warning_words(alloc, &[Warning { code: WarningCode::AxisNames, path, more: 4 }])?;
-/// let text = "fields are not named after the axes, in their order at rings.vertices, and 4 more";
-/// assert_eq!(rt; words[0].as_str(), text);
-/// ```
-pub fn warning_words(alloc: Global, warnings: &[Warning]) -> Result<Vec<String>, AllocError>
-    ensures { IfOk result (λ words. map string_bytes words.items ≡ map warning_words warnings.now) }
-{
-    let mut words = Vec::new(alloc);
-    for warning in warnings {
-        let message = warning.code.message();
-        let mut text = words_at(alloc, message, warning.path.as_slice())?;
-        push_more(alloc, &mut text, warning.more)?;
-        words.push(text)?;
-    }
-    Ok(words)
-}
-
 /// A message, and where in a column.
 fn words_at(alloc: Global, message: &str, path: &[String]) -> Result<String, AllocError>
     ensures { IfOk result (λ text. string_bytes text ≡ message.now ++ place_words (map string_bytes path.now)) }
@@ -66,17 +41,6 @@ fn words_at(alloc: Global, message: &str, path: &[String]) -> Result<String, All
     let mut text = String::from_str(alloc, message)?;
     push_place(&mut text, path)?;
     Ok(text)
-}
-
-/// Adds how many more there are, if there are any.
-fn push_more(alloc: Global, text: &mut String, more: usize) -> Result<(), AllocError>
-    ensures { OnOk result (string_bytes text.new ≡ string_bytes text.old ++ more_words more) }
-{
-    if more == 0 {
-        return Ok(());
-    }
-    let words = format!(in alloc; ", and {more} more")?;
-    text.push_str(words.as_str())
 }
 
 /// Adds a message.

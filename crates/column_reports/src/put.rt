@@ -2,8 +2,7 @@
 ghost use Rattle.std.specs.Prelude.{◌∷◌, [], OnOk, decimal, map, string_bytes};
 ghost use Rattle.json.specs.Json.{number, string};
 ghost use Rattle.arrow_values.specs.Texts.{text_of};
-ghost use Rattle.column_reports.specs.Objects.{array_of, AddsMembers};
-ghost use Rattle.column_reports.specs.Report.{string_if};
+ghost use Rattle.column_reports.specs.Objects.{array_of, string_if, number_if, AddsMembers};
 
 use json::Writer;
 use std::alloc::AllocError;
@@ -27,11 +26,21 @@ pub(crate) fn put_text_if(out: &mut Writer, key: &str, text: Option<&str>) -> Re
 }
 
 /// Writes a member whose value is a number.
-pub(crate) fn put_number(out: &mut Writer, key: &str, n: usize) -> Result<(), AllocError>
+pub(crate) fn put_number(out: &mut Writer, key: &str, n: u64) -> Result<(), AllocError>
     ensures { OnOk result (AddsMembers ((key.now, number (decimal n)) ∷ []) out.old out.new) }
 {
     out.key(key)?;
-    out.u64(n as u64)
+    out.u64(n)
+}
+
+/// Writes a member whose value is a number, if there is one.
+pub(crate) fn put_number_if(out: &mut Writer, key: &str, n: Option<u64>) -> Result<(), AllocError>
+    ensures { OnOk result (AddsMembers (number_if key.now n) out.old out.new) }
+{
+    match n {
+        Some(n) => put_number(out, key, n),
+        None => Ok(()),
+    }
 }
 
 /// Writes a member whose value is an array of strings.

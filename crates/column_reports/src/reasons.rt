@@ -1,10 +1,10 @@
 //! The reasons of a column that is invalid.
 ghost use Rattle.std.specs.Prelude.{◌≡◌, ◌∷◌, [], OnOk, codes, map, string_bytes};
-ghost use Rattle.column_reports.specs.Reasons.{more_if, reason_value, own_reason, fault_code, type_message, type_reason, metadata_reasons, reasons_of};
+ghost use Rattle.column_reports.specs.Reasons.{reason_value, own_reason, fault_code, type_message, type_reason, metadata_reasons, reasons_of};
 ghost use Rattle.column_reports.specs.Report.{reasons_in};
 ghost use Rattle.column_reports.specs.Objects.{member_if, AddsMembers, AddsValues};
 
-use crate::put::{put_number, put_text, put_texts};
+use crate::put::{put_text, put_texts};
 use column_check::{Finding, MetadataFault, Reasons, TypeFault};
 use geoarrow_layout::LayoutFault;
 use json::Writer;
@@ -53,38 +53,26 @@ pub(crate) fn type_message(fault: &TypeFault) -> &'static str
 }
 
 /// Writes a reason.
-pub(crate) fn put_reason(
+fn put_reason(
     out: &mut Writer,
     code: &str,
     message: &str,
-    more: usize,
     path: &[String],
 ) -> Result<(), AllocError>
-    ensures { OnOk result (AddsValues (reason_value code.now message.now more (map string_bytes path.now) ∷ []) out.old out.new) }
+    ensures { OnOk result (AddsValues (reason_value code.now message.now (map string_bytes path.now) ∷ []) out.old out.new) }
 {
     out.begin_object()?;
     put_text(out, "code", code)?;
     put_text(out, "message", message)?;
-    put_more(out, more)?;
     put_texts(out, "path", path)?;
     out.end_object()
-}
-
-/// Writes how many more there are, if there are any.
-fn put_more(out: &mut Writer, more: usize) -> Result<(), AllocError>
-    ensures { OnOk result (AddsMembers (more_if more) out.old out.new) }
-{
-    if more == 0 {
-        return Ok(());
-    }
-    put_number(out, "more", more)
 }
 
 /// Writes a reason of the column itself.
 fn put_own(out: &mut Writer, code: &str, message: &str) -> Result<(), AllocError>
     ensures { OnOk result (AddsValues (own_reason code.now message.now ∷ []) out.old out.new) }
 {
-    put_reason(out, code, message, 0, &[])
+    put_reason(out, code, message, &[])
 }
 
 /// Writes the reason of a type.
@@ -96,7 +84,7 @@ fn put_type(out: &mut Writer, fault: &TypeFault) -> Result<(), AllocError>
         TypeFault::UnsupportedType => put_own(out, "UnsupportedType", message),
         TypeFault::WrongStorage => put_own(out, "WrongStorage", message),
         TypeFault::Layout(of_layout, names) => {
-            put_reason(out, fault_code(*of_layout), message, 0, names.as_slice())
+            put_reason(out, fault_code(*of_layout), message, names.as_slice())
         }
     }
 }

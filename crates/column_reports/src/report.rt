@@ -2,9 +2,13 @@
 ghost use Rattle.std.specs.Prelude.{IfOk};
 ghost use Rattle.arrow_columns.specs.Column.{column_tree};
 ghost use Rattle.column_reports.specs.Columns.{IsColumnReport};
+ghost use Rattle.column_reports.specs.Weights.{plain, weighing};
 
+use crate::gathered::of_warnings;
+use crate::weighed::{Weighed, weigh};
+use crate::weights::Weights;
 use arrow_columns::SchemaColumn;
-use column_check::{Finding, Warning, inspect_column, warnings};
+use column_check::{inspect_column, warnings};
 use json::Scratch;
 use std::alloc::{AllocError, Global};
 
@@ -24,9 +28,9 @@ pub struct ColumnReport {
     /// The column itself.
     pub column: SchemaColumn,
     /// What is said of it, as `inspect_column` of `column_check` answers it.
-    pub finding: Finding,
-    /// What is doubtful of it, as `warnings` of `column_check` answers it.
-    pub warnings: Vec<Warning>,
+    pub finding: column_check::Finding,
+    /// What is found of it and shown: of what is doubtful, as `warnings` of `column_check` answers it.
+    pub findings: Vec<Weighed<'static>>,
 }
 
 /// Returns a column with what is said of it and what is doubtful of it. The scratch buffer is kept by
@@ -41,8 +45,8 @@ pub struct ColumnReport {
 /// };
 /// let options = Options { infer: true, notes: false };
 /// let report = report_column(alloc, &mut Scratch::new(alloc), column, options)?;
-/// assert!(rt; matches!(report.finding, Finding::Inferred(_)));
-/// assert!(rt; report.warnings.is_empty());
+/// assert!(rt; matches!(report.finding, column_check::Finding::Inferred(_)));
+/// assert!(rt; report.findings.is_empty());
 /// ```
 pub fn report_column(
     alloc: Global,
@@ -50,13 +54,30 @@ pub fn report_column(
     column: SchemaColumn,
     options: Options,
 ) -> Result<ColumnReport, AllocError>
-    ensures { IfOk result (IsColumnReport options (column_tree column)) }
+    ensures { IfOk result (IsColumnReport options.infer (plain options.notes) (column_tree column)) }
 {
-    let finding = inspect_column(alloc, scratch, &column, options.infer)?;
-    let warnings = warnings(alloc, &column, &finding, options.notes)?;
+    let weights = Weights::new(alloc, options.notes);
+    weighed_column(alloc, scratch, column, options.infer, &weights)
+}
+
+/// Returns a column with what is said of it and what is doubtful of it, as it counts by what is asked
+/// of findings. `infer` and the scratch buffer are as those of [`report_column`]. Errs only when out
+/// of memory.
+pub fn weighed_column(
+    alloc: Global,
+    scratch: &mut Scratch,
+    column: SchemaColumn,
+    infer: bool,
+    weights: &Weights,
+) -> Result<ColumnReport, AllocError>
+    ensures { IfOk result (IsColumnReport infer (weighing weights.now) (column_tree column)) }
+{
+    let finding = inspect_column(alloc, scratch, &column, infer)?;
+    let warnings = warnings(alloc, &column, &finding, true)?;
+    let findings = weigh(alloc, weights, of_warnings(alloc, warnings)?)?;
     Ok(ColumnReport {
         column,
         finding,
-        warnings,
+        findings,
     })
 }

@@ -1,11 +1,12 @@
-//! What counts of the columns of a file, and of what is found in its GeoParquet metadata.
+//! What counts of a file for its status.
 ghost use Rattle.std.specs.Prelude.{◌≡◌, ◌||◌, false};
 ghost use Rattle.column_check.specs.States.{is_invalid, is_geometry};
-ghost use Rattle.column_reports.specs.Summary.{status};
+ghost use Rattle.column_reports.specs.Summary.{has_error, status};
 
-use column_check::Finding;
+use crate::report::ColumnReport;
+use crate::weighed::Weighed;
 
-/// What counts of the columns of a file and of what is found in its GeoParquet metadata.
+/// What counts of a file for its status: of its columns, and of what is found of them and of it.
 #[derive(Debug, Clone, Copy)]
 pub struct Summary {
     /// Whether a column is invalid.
@@ -13,7 +14,7 @@ pub struct Summary {
     /// Whether a column holds geometries by its extension name: its state is `geometry`, and not
     /// `inferred`.
     pub has_geometry: bool,
-    /// Whether a finding in its GeoParquet metadata is an error.
+    /// Whether a finding, of a column or of the file, counts as an error.
     pub has_failed: bool,
 }
 
@@ -31,26 +32,27 @@ impl Summary {
         }
     }
 
-    /// Adds what is said of one more column.
-    pub fn add(&mut self, finding: &Finding)
-        ensures invalid { self.new.has_invalid ≡ (self.old.has_invalid || is_invalid finding.now) }
-        ensures geometry { self.new.has_geometry ≡ (self.old.has_geometry || is_geometry finding.now) }
-        ensures failed { self.new.has_failed ≡ self.old.has_failed }
+    /// Adds what is said of one more column, and what is found of it.
+    pub fn add(&mut self, said: &ColumnReport)
+        ensures invalid { self.new.has_invalid ≡ (self.old.has_invalid || is_invalid said.now.finding) }
+        ensures geometry { self.new.has_geometry ≡ (self.old.has_geometry || is_geometry said.now.finding) }
+        ensures failed { self.new.has_failed ≡ (self.old.has_failed || has_error said.now.findings.items) }
     {
-        self.has_invalid = self.has_invalid | finding.is_invalid();
-        self.has_geometry = self.has_geometry | finding.is_geometry();
+        self.has_invalid = self.has_invalid | said.finding.is_invalid();
+        self.has_geometry = self.has_geometry | said.finding.is_geometry();
+        self.has_failed = self.has_failed | has_error(said.findings.as_slice());
     }
 
     /// Returns the status of a file that is reported to its end (`docs/FORMAT.md`, 2.7): 1 where a
-    /// column is invalid, where a finding is an error, or where what is asked of the file is not
+    /// column is invalid, where a finding counts as an error, or where what is asked of the file is not
     /// met, and else 0.
     ///
     /// ```rust
-    /// let mut summary = Summary::new();
-    /// summary.add(&Finding::Plain);
+    /// let summary = Summary::new();
     /// assert_eq!(rt; summary.status(false), 0);
-    /// summary.add(&Finding::Invalid(Reasons::UnknownExtension));
-    /// assert_eq!(rt; summary.status(false), 1);
+    /// assert_eq!(rt; summary.status(true), 1);
+    /// let failed = Summary { has_failed: true, ..summary };
+    /// assert_eq!(rt; failed.status(false), 1);
     /// ```
     pub fn status(&self, is_unmet: bool) -> u8
         ensures { result ≡ status self.now is_unmet }
@@ -61,4 +63,11 @@ impl Summary {
             0
         }
     }
+}
+
+/// Returns whether one of some findings counts as an error.
+pub(crate) fn has_error(findings: &[Weighed<'_>]) -> bool
+    ensures { result ≡ has_error findings.now }
+{
+    findings.iter().any(|finding| finding.is_error())
 }

@@ -4,6 +4,7 @@ pub mod Identifiers
 pub mod Tokens
 pub mod Wkt
 pub mod Forms
+pub mod FormNames
 pub mod Classes
 pub mod Verdicts
 pub mod Malformed

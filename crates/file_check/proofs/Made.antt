@@ -7,7 +7,8 @@ use Rattle.column_files.specs.declared.form.Form.TheVariants.{Lines as FormLines
 use Rattle.column_files.specs.declared.columns.FileFault.{FileFault}
 use Rattle.column_reports.specs.declared.file.FileReport.{FileReport}
 use Rattle.parquet_columns.specs.Budget.{budget}
-use Rattle.file_check.specs.Asked.{output_of, options_of}
+use Rattle.column_reports.specs.Weights.{weighing}
+use Rattle.file_check.specs.Asked.{output_of}
 use Rattle.file_check.specs.Made.{IsReportOfEnd, MakesOf, MakesOfEnd}
 use Rattle.file_check.specs.Printed.{Prints, IsAnswered, IsCheckedFrom, IsFileFrom, IsWhole}
 use Rattle.file_check.specs.declared.asked.Asked.{Asked}
@@ -15,7 +16,7 @@ use Rattle.file_check.specs.declared.print.Made.{Made}
 
 module _ (asked : Asked) (file : Text) where
   -- of the report of the file
-  pub whole : (form : Form) (start : ℕ) (end : List ℕ) (r : FileReport) (result : Result Made FileFault) → IsReportOfEnd (options_of asked.flags) form start end r
+  pub whole : (form : Form) (start : ℕ) (end : List ℕ) (r : FileReport) (result : Result Made FileFault) → IsReportOfEnd asked.flags.infer (weighing asked.weights) form start end r
       → MakesOf asked file (budget (length end)) r result → MakesOfEnd asked file form start end result
   whole form start end r (Ok made) is makes = (r, is, makes)
   whole form start end r (Err fault) is makes = inr (inr (r, is, makes))

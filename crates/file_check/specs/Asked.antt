@@ -1,6 +1,5 @@
 -- What is asked of files.
 use Rattle.std.specs.Prelude.{if◌then◌else◌}
-use Rattle.column_reports.specs.declared.report.Options.{Options}
 use Rattle.file_check.specs.declared.asked.Flags.{Flags}
 use Rattle.file_check.specs.declared.asked.Output.{Output}
 use Rattle.file_check.specs.declared.asked.Output.TheVariants.{Nothing, Table, Json, Lines, Ipc}
@@ -8,7 +7,3 @@ use Rattle.file_check.specs.declared.asked.Output.TheVariants.{Nothing, Table, J
 -- what is printed of columns: of several the first of these; else a table
 abbrev pub output_of : Flags → Output
 output_of f = if f.lines then Lines else (if f.ipc then Ipc else (if f.quiet then Nothing else (if f.json then Json else Table)))
-
--- what is asked of the report of a column
-abbrev pub options_of : Flags → Options
-options_of f = record { infer = f.infer; notes = f.notes }

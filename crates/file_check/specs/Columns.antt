@@ -8,7 +8,7 @@ use Rattle.column_check.specs.declared.finding.Finding.TheVariants.{Geometry, In
 use Rattle.column_check.specs.States.{geometry_in}
 use Rattle.column_reports.specs.Reasons.{words_of}
 use Rattle.column_reports.specs.Report.{type_word, edges_of}
-use Rattle.column_reports.specs.Warnings.{warning_words}
+use Rattle.column_reports.specs.FindingWords.{finding_words}
 use Rattle.column_reports.specs.declared.report.ColumnReport.{ColumnReport}
 use Rattle.file_check.specs.Table.{Line, cut}
 use Rattle.file_check.specs.Crs.{crs_of_geometry}
@@ -31,12 +31,12 @@ abbrev pub reasons_in : ColumnFinding → List Text
 reasons_in (Invalid r) = words_of r
 reasons_in f = []
 
--- the row: the column's name, what it holds, of geometries their CRS and edges, in cells that are cut; and as notes the reasons and the warnings
+-- the row: the column's name, what it holds, of geometries their CRS and edges, in cells that are cut; and as notes the reasons and the findings
 abbrev pub row_of : ColumnReport → Line
 row_of r = record {
   name = cut (shown (column_tree r.column).name);
   holds = cut (held (column_tree r.column) r.finding);
   crs = crs_of_geometry (geometry_in r.finding);
   edges = unwrap_or (edges_of (geometry_in r.finding)) [];
-  notes = map shown (reasons_in r.finding ++ map warning_words r.warnings.items);
+  notes = map shown (reasons_in r.finding ++ map finding_words r.findings.items);
 }

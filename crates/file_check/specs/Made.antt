@@ -1,9 +1,7 @@
 -- What is made of a file that has a schema, before it is printed.
-use Rattle.std.specs.Prelude.{◌≡◌, ◌⊎◌, ℕ, ⊤, List, [], length, map, Result, Ok, Err, String, string_bytes}
+use Rattle.std.specs.Prelude.{◌≡◌, ◌⊎◌, ℕ, ⊤, Bool, List, [], length, Result, Ok, Err, String, string_bytes}
 use Rattle.std.specs.Global.{Global}
 use Rattle.arrow_values.specs.Tree.{Text}
-use Rattle.arrow_values.specs.Texts.{text_of}
-use Rattle.arrow_columns.specs.Column.{column_tree}
 use Rattle.column_files.specs.Files.{IsEndOpened}
 use Rattle.column_files.specs.declared.form.Form.{Form}
 use Rattle.column_files.specs.declared.opening.File.{File}
@@ -11,9 +9,9 @@ use Rattle.column_files.specs.declared.columns.FileFault.{FileFault}
 use Rattle.column_files.specs.declared.columns.FileFault.TheVariants.{ReportTooLarge, OutOfMemory}
 use Rattle.column_reports.specs.FileReport.{IsReport, IsWithin, report_text}
 use Rattle.column_reports.specs.declared.file.FileReport.{FileReport}
-use Rattle.column_reports.specs.declared.report.Options.{Options}
+use Rattle.column_reports.specs.Weights.{Weighing, weighing}
 use Rattle.parquet_columns.specs.Budget.{budget}
-use Rattle.file_check.specs.Asked.{output_of, options_of}
+use Rattle.file_check.specs.Asked.{output_of}
 use Rattle.file_check.specs.Names.{name_of}
 use Rattle.file_check.specs.Wants.{AreFoundIn}
 use Rattle.file_check.specs.declared.asked.Asked.{Asked}
@@ -22,22 +20,22 @@ use Rattle.file_check.specs.declared.asked.Output.TheVariants.{Json, Table}
 use Rattle.file_check.specs.declared.print.Made.{Made}
 
 -- the lines of JSON of a report
-abbrev pub json_text : Asked → Text → FileReport → Text
-json_text asked file r = report_text (name_of file) asked.flags.notes r
+abbrev pub json_text : Text → FileReport → Text
+json_text file r = report_text (name_of file) r
 
 abbrev pub IsPastTable : FileFault → Type 0
 IsPastTable fault = (fault ≡ OutOfMemory) ⊎ (fault ≡ ReportTooLarge)
 
 -- the text that is printed first: the lines of JSON within the limit; of a table nothing is said but that it may be too large; else no text
-abbrev pub IsTextOf : Output → Asked → Text → ℕ → FileReport → Result (String Global) FileFault → Type 0
-IsTextOf Json asked file limit r result = IsWithin limit (json_text asked file r) result
-IsTextOf Table asked file limit r (Ok text) = ⊤
-IsTextOf Table asked file limit r (Err fault) = IsPastTable fault
-IsTextOf output asked file limit r (Ok text) = string_bytes text ≡ []
-IsTextOf output asked file limit r (Err fault) = fault ≡ OutOfMemory
+abbrev pub IsTextOf : Output → Text → ℕ → FileReport → Result (String Global) FileFault → Type 0
+IsTextOf Json file limit r result = IsWithin limit (json_text file r) result
+IsTextOf Table file limit r (Ok text) = ⊤
+IsTextOf Table file limit r (Err fault) = IsPastTable fault
+IsTextOf output file limit r (Ok text) = string_bytes text ≡ []
+IsTextOf output file limit r (Err fault) = fault ≡ OutOfMemory
 
 abbrev pub MakesText : Asked → Text → ℕ → FileReport → Result (String Global) FileFault → Type 0
-MakesText asked file limit r result = IsTextOf (output_of asked.flags) asked file limit r result
+MakesText asked file limit r result = IsTextOf (output_of asked.flags) file limit r result
 
 -- what is made of a report within a limit: that text, and what counts of it
 pub record IsMade (asked : Asked) (file : Text) (limit : ℕ) (r : FileReport) (made : Made) : Type 0 where
@@ -50,15 +48,15 @@ abbrev pub MakesOf : Asked → Text → ℕ → FileReport → Result Made FileF
 MakesOf asked file limit r (Ok made) = IsMade asked file limit r made
 MakesOf asked file limit r (Err fault) = (fault ≡ OutOfMemory) ⊎ MakesText asked file limit r (Err fault)
 
--- the report of the file that the end of one in that format is, before which so many bytes stand
-pub record IsReportOfEnd (o : Options) (form : Form) (start : ℕ) (end : List ℕ) (r : FileReport) : Type 0 where
+-- the report of the file that the end of one in that format is, before which so many bytes stand, where types are inferred or not and that is asked of findings
+pub record IsReportOfEnd (infer : Bool) (w : Weighing) (form : Form) (start : ℕ) (end : List ℕ) (r : FileReport) : Type 0 where
   pub opened : File
   pub is : IsEndOpened form start end (Ok opened)
-  pub said : IsReport o opened.form (text_of opened.geo) (map column_tree opened.columns.items) r
+  pub said : IsReport infer w opened r
 
 -- what a call answers of such an end: what is made of the report within the budget of the bytes; or why the file is refused
 abbrev pub MakesOpened : Asked → Text → Form → ℕ → List ℕ → Result Made FileFault → Type 0
-MakesOpened asked file form start end result = (r : FileReport) × IsReportOfEnd (options_of asked.flags) form start end r × MakesOf asked file (budget (length end)) r result
+MakesOpened asked file form start end result = (r : FileReport) × IsReportOfEnd asked.flags.infer (weighing asked.weights) form start end r × MakesOf asked file (budget (length end)) r result
 
 abbrev pub MakesOfEnd : Asked → Text → Form → ℕ → List ℕ → Result Made FileFault → Type 0
 MakesOfEnd asked file form start end (Ok made) = MakesOpened asked file form start end (Ok made)

@@ -1,14 +1,16 @@
 //! What is asked of files.
 ghost use Rattle.std.specs.Prelude.{◌≡◌};
-ghost use Rattle.file_check.specs.Asked.{output_of, options_of};
+ghost use Rattle.file_check.specs.Asked.{output_of};
 
-use column_reports::Options;
+use column_reports::Weights;
 
 /// What is asked.
 #[derive(Debug, Drop)]
 pub struct Asked {
     /// Which options that stand alone there are.
     pub flags: Flags,
+    /// Which findings are shown, and how much each counts: `--notes`, `--deny` and `--allow`.
+    pub weights: Weights,
     /// What columns are expected to hold.
     pub wants: Vec<Want>,
     /// The files, `-` for standard input.
@@ -35,8 +37,6 @@ pub struct Flags {
     pub ipc: bool,
     /// `--infer`: types are inferred for columns without an extension name.
     pub infer: bool,
-    /// `--notes`: what is only to be noted of a column or of GeoParquet metadata is said too.
-    pub notes: bool,
     /// `--quiet`: nothing is printed of columns.
     pub quiet: bool,
     /// `--require-geometry`: a file has a column of geometries.
@@ -74,16 +74,6 @@ impl Flags {
             Output::Json
         } else {
             Output::Table
-        }
-    }
-
-    /// What is asked of the report of a column.
-    pub(crate) fn options(&self) -> Options
-        ensures { result ≡ options_of self.now }
-    {
-        Options {
-            infer: self.infer,
-            notes: self.notes,
         }
     }
 }

@@ -33,8 +33,9 @@ pub struct Answer {
 /// `--json`, and the status whatever is printed; of lines it says neither.
 ///
 /// ```rust
-/// let flags = Flags { json: true, lines: false, ipc: false, infer: false, notes: false, quiet: false, require_geometry: false };
-/// let asked = Asked { flags, wants: Vec::new(alloc), files: Vec::new(alloc) };
+/// let flags = Flags { json: true, lines: false, ipc: false, infer: false, quiet: false, require_geometry: false };
+/// let weights = Weights::new(alloc, false);
+/// let asked = Asked { flags, weights, wants: Vec::new(alloc), files: Vec::new(alloc) };
 /// let answer = check_bytes(alloc, &asked, "-", b"\xef\xbb\xbf{}")?;
 /// let line = b"{\"error\":\"LineName\",\"line\":1,\"message\":\"is JSON, but no field: \\\"name\\\" is no text\",\"place\":\"line 1\"}\n";
 /// assert!(rt; answer.output.as_slice() == line.as_slice());

@@ -3,7 +3,7 @@ ghost use Rattle.std.specs.Prelude.{◌≡◌, ◌++◌, [], None, Some, IfOk, O
 ghost use Rattle.std.specs.Option.{unwrap_or};
 ghost use Rattle.arrow_columns.specs.Column.{column_tree};
 ghost use Rattle.column_reports.specs.Report.{edges_of};
-ghost use Rattle.column_reports.specs.Warnings.{warning_words};
+ghost use Rattle.column_reports.specs.FindingWords.{finding_words};
 ghost use Rattle.file_check.specs.Table.{line_of, cut};
 ghost use Rattle.file_check.specs.Columns.{extension_word, held, reasons_in, row_of};
 ghost use Rattle.file_check.specs.Crs.{crs_of_geometry};
@@ -14,13 +14,13 @@ use crate::crs::crs_name;
 use crate::table::Row;
 use crate::text::shown;
 use arrow_columns::SchemaColumn;
-use column_check::{Finding, Geometry, Warning};
-use column_reports::{ColumnReport, reason_words, type_word, warning_words};
+use column_check::{Finding, Geometry};
+use column_reports::{ColumnReport, Weighed, finding_words, reason_words, type_word};
 use std::alloc::{AllocError, Global};
 
 /// Returns the row of a column: its name; the kind, coordinate type and dimension of geometries, or
 /// the type of another column, and `invalid` or `extension` with the extension name; the CRS and the
-/// edges of geometries; and below it the reasons and the warnings (`docs/FORMAT.md`, 2.5 to 2.7).
+/// edges of geometries; and below it the reasons and the findings (`docs/FORMAT.md`, 2.5 to 2.7).
 /// Cells are cut by [`cut`], and control characters are shown as `?`. Errs only when out of memory.
 pub fn row_of(alloc: Global, report: &ColumnReport) -> Result<Row, AllocError>
     ensures { IfOk result (λ row. line_of row ≡ row_of report.now) }
@@ -31,7 +31,7 @@ pub fn row_of(alloc: Global, report: &ColumnReport) -> Result<Row, AllocError>
         holds: held_cell(alloc, &report.column, finding)?,
         crs: crs_of(alloc, finding.geometry())?,
         edges: edges_of(alloc, finding.geometry())?,
-        notes: notes_of(alloc, finding, report.warnings.as_slice())?,
+        notes: notes_of(alloc, finding, report.findings.as_slice())?,
     })
 }
 
@@ -120,20 +120,31 @@ fn reasons_in(alloc: Global, finding: &Finding) -> Result<Vec<String>, AllocErro
     }
 }
 
-/// The reasons and the warnings of a column.
+/// The reasons of a column, and what is found of it.
 fn notes_of(
     alloc: Global,
     finding: &Finding,
-    warnings: &[Warning],
+    found: &[Weighed<'_>],
 ) -> Result<Vec<String>, AllocError>
-    ensures { IfOk result (λ notes. map string_bytes notes.items ≡ map shown (reasons_in finding.now ++ map warning_words warnings.now)) }
+    ensures { IfOk result (λ notes. map string_bytes notes.items ≡ map shown (reasons_in finding.now ++ map finding_words found.now)) }
 {
     let reasons = reasons_in(alloc, finding)?;
-    let warned = warning_words(alloc, warnings)?;
+    let found = words_of(alloc, found)?;
     let mut notes = Vec::new(alloc);
     add_shown(alloc, &mut notes, reasons.as_slice())?;
-    add_shown(alloc, &mut notes, warned.as_slice())?;
+    add_shown(alloc, &mut notes, found.as_slice())?;
     Ok(notes)
+}
+
+/// Findings in words.
+fn words_of(alloc: Global, found: &[Weighed<'_>]) -> Result<Vec<String>, AllocError>
+    ensures { IfOk result (λ words. map string_bytes words.items ≡ map finding_words found.now) }
+{
+    let mut words = Vec::new(alloc);
+    for finding in found {
+        words.push(finding_words(alloc, finding)?)?;
+    }
+    Ok(words)
 }
 
 /// Adds texts as they are shown.

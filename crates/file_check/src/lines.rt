@@ -10,7 +10,7 @@ use crate::table::{Row, row_bytes};
 use crate::wants::Found;
 use arrow_columns::SchemaColumn;
 use column_files::{FileFault, Form, LineColumns, MAX_LINE_BYTES, ReadFault, column_line};
-use column_reports::{ColumnReport, Summary, json_line, report_budget, report_column};
+use column_reports::{ColumnReport, Summary, json_line, report_budget, weighed_column};
 use json::Scratch;
 use std::alloc::{AllocError, Global};
 use std::io;
@@ -100,9 +100,9 @@ impl<'a> LineReport<'a> {
 
     /// Adds a column.
     fn add(&mut self, column: SchemaColumn) -> Result<(), FileFault> {
-        let options = self.asked.flags.options();
-        let said = report_column(self.alloc, &mut self.scratch, column, options)?;
-        self.counted.summary.add(&said.finding);
+        let (infer, weights) = (self.asked.flags.infer, &self.asked.weights);
+        let said = weighed_column(self.alloc, &mut self.scratch, column, infer, weights)?;
+        self.counted.summary.add(&said);
         self.expect(&said)?;
         match self.asked.flags.output() {
             Output::Json => self.add_json(&said)?,

@@ -11,7 +11,7 @@ use crate::print::{Made, named_table};
 use crate::table::row_bytes;
 use arrow_columns::SchemaColumn;
 use column_files::{FileFault, Form, open_end};
-use column_reports::{ColumnReport, FileReport, json_lines, report_budget, report_of};
+use column_reports::{ColumnReport, FileReport, json_lines, report_budget, weighed_report};
 use std::alloc::{AllocError, Global};
 
 /// What is made of a file in that format by its end, before which so many bytes stand.
@@ -28,7 +28,7 @@ pub(crate) fn made_of_end(
     let limit = report_budget(end.len());
     match open_end(alloc, form, start, end) {
         Ok(opened) => {
-            let report = report_of(alloc, opened, asked.flags.options())?;
+            let report = weighed_report(alloc, opened, asked.flags.infer, &asked.weights)?;
             made_of(alloc, asked, file, report, limit)
         }
         Err(fault) => Err(fault),
@@ -40,10 +40,10 @@ fn made_of(
     alloc: Global,
     asked: &Asked,
     file: &str,
-    report: FileReport,
+    report: FileReport<'_>,
     limit: u128,
 ) -> Result<Made, FileFault>
-    ensures { MakesOf asked.now file.now limit report result }
+    ensures { MakesOf asked.now file.now limit report.entry result }
 {
     let found = found_in(alloc, asked.wants.as_slice(), report.columns.as_slice())?;
     let summary = report.summary;
@@ -62,13 +62,13 @@ fn text_of_report(
     alloc: Global,
     asked: &Asked,
     file: &str,
-    report: &FileReport,
+    report: &FileReport<'_>,
     limit: u128,
 ) -> Result<String, FileFault>
     ensures { MakesText asked.now file.now limit report.now result }
 {
     match asked.flags.output() {
-        Output::Json => json_lines(alloc, named(file), report, asked.flags.notes, limit),
+        Output::Json => json_lines(alloc, named(file), report, limit),
         Output::Table => table_of(alloc, asked, file, report, limit),
         Output::Lines | Output::Ipc | Output::Nothing => Ok(String::new(alloc)),
     }
@@ -94,12 +94,12 @@ fn table_of(
     alloc: Global,
     asked: &Asked,
     file: &str,
-    report: &FileReport,
+    report: &FileReport<'_>,
     limit: u128,
 ) -> Result<String, FileFault>
     ensures { IfErr result IsPastTable }
 {
-    let findings = findings_of(alloc, asked, report)?;
+    let findings = findings_text(alloc, report.findings.as_slice())?;
     let mut rows = Vec::new(alloc);
     let mut size = findings.len() as u128;
     for said in &report.columns {
@@ -113,17 +113,4 @@ fn table_of(
     let mut text = named_table(alloc, asked, file, rows.as_slice())?;
     text.push_str(findings.as_str())?;
     Ok(text)
-}
-
-/// What is found in the GeoParquet metadata of a Parquet file, in words.
-fn findings_of(alloc: Global, asked: &Asked, report: &FileReport) -> Result<String, AllocError> {
-    match report.form {
-        Form::Parquet => {
-            let has_geometry = report.summary.has_geometry;
-            findings_text(alloc, &report.findings, has_geometry, asked.flags.notes)
-        }
-        Form::ArrowFile | Form::ArrowStream | Form::Lines | Form::Foreign(_) => {
-            Ok(String::new(alloc))
-        }
-    }
 }

@@ -1,12 +1,13 @@
 //! Rows of Parquet footers: calls of `parquet_footer` and `parquet_columns`. A row's text is bytes in
 //! hexadecimal digits.
 use arrow_columns::SchemaColumn;
-use arrow_ipc::IpcError;
 use parquet_columns::{
-    ColumnsError, ElementFault, FileColumns, SchemaError, columns_of, read_file,
+    ColumnsError, ElementClaim, ElementFault, FileColumns, FileFinding, SchemaError, columns_of,
+    read_file,
 };
 use parquet_footer::{
-    Footer, FooterError, KeyValue, LogicalType, SchemaElement, footer_length, read_footer,
+    Footer, FooterError, FooterFinding, FooterText, KeyValue, LogicalType, SchemaElement,
+    footer_length, read_footer,
 };
 use rows::asked::Asked;
 use rows::said::Said;
@@ -46,6 +47,10 @@ fn answer_bytes(it: &mut Asked<'_>, bytes: &[u8], key: &str) {
             let read = ManuallyDrop::new(read_file(it.alloc, bytes, key));
             it.after();
             say_file(&mut it.said, &read);
+        }
+        "elements_of_file" => {
+            let read = ManuallyDrop::new(read_file(it.alloc, bytes, key));
+            say_elements(&mut it.said, &read);
         }
         "footer_length" => match bytes.first_chunk::<8>() {
             Some(tail) => {
@@ -114,9 +119,28 @@ fn say_logical(said: &mut Said, logical: &Option<LogicalType<'_>>) {
     }
 }
 
+/// Says bytes in hexadecimal digits.
+fn say_bytes(said: &mut Said, bytes: &[u8]) {
+    for byte in bytes {
+        say!(said, "{byte:02x}");
+    }
+}
+
+/// Says a text, or its bytes, which are no UTF-8.
+fn say_text(said: &mut Said, text: FooterText<'_>) {
+    match str::from_utf8(text.bytes) {
+        Ok(text) => said.push(text),
+        Err(_) => {
+            said.push("<");
+            say_bytes(said, text.bytes);
+            said.push(">");
+        }
+    }
+}
+
 /// Says an element of a schema.
 fn say_element(said: &mut Said, element: &SchemaElement<'_>) {
-    said.push(element.storage.name);
+    say_text(said, element.storage.name);
     say_or_dash(said, &element.storage.physical_type);
     say_or_dash(said, &element.storage.type_length);
     say_or_dash(said, &element.storage.repetition);
@@ -129,11 +153,19 @@ fn say_element(said: &mut Said, element: &SchemaElement<'_>) {
 
 /// Says a key, and its value if it has one.
 fn say_key_value(said: &mut Said, pair: &KeyValue<'_>) {
-    said.push(pair.key);
+    say_text(said, pair.key);
     if let Some(value) = pair.value {
         said.push("=");
-        said.push(value);
+        say_text(said, value);
     }
+}
+
+/// Says what is found of a name, a key or a value: the code, the byte and the bytes.
+fn say_finding(said: &mut Said, finding: &FooterFinding<'_>) {
+    let text = finding.text;
+    let (code, byte) = (finding.code.code(), text.byte);
+    say!(said, "{code} {byte} ");
+    say_bytes(said, text.bytes);
 }
 
 /// Says a footer.
@@ -146,6 +178,10 @@ fn say_footer(said: &mut Said, footer: &Footer<'_>) {
     for (at, pair) in footer.key_value_metadata.iter().enumerate() {
         said.push(if at > 0 { "; " } else { "" });
         say_key_value(said, pair);
+    }
+    for (at, finding) in footer.findings.iter().enumerate() {
+        said.push(if at > 0 { "; " } else { " | " });
+        say_finding(said, finding);
     }
 }
 
@@ -195,10 +231,65 @@ fn say_named_columns(said: &mut Said, columns: &[SchemaColumn]) {
     }
 }
 
+/// Says a text behind a blank, or a dash.
+fn say_part(said: &mut Said, text: &Option<String>) {
+    said.push(" ");
+    said.push(match text {
+        Some(text) => text.as_str(),
+        None => "-",
+    });
+}
+
+/// Says what is found in a file: the code, the column and the child fields below it, the place, what stands there and what is wanted.
+fn say_file_finding(said: &mut Said, finding: &FileFinding) {
+    let (code, part) = (finding.code.code(), finding.place.part.text());
+    say!(said, " | {code}");
+    if let Some(column) = &finding.column {
+        said.push(" ");
+        said.push(column.as_str());
+    }
+    for name in &finding.path {
+        said.push(".");
+        said.push(name.as_str());
+    }
+    say!(said, " {part}");
+    say_or_dash(said, &finding.place.byte);
+    say_part(said, &finding.found);
+    said.push(" ->");
+    say_part(said, &finding.wanted);
+}
+
 /// Says the columns of a file, or why there are none; out of memory is no answer.
 fn say_file(said: &mut Said, read: &Result<FileColumns<'_>, SchemaError>) {
     match read {
-        Ok(read) => say_named_columns(said, read.columns.as_slice()),
+        Ok(read) => {
+            say_named_columns(said, read.columns.as_slice());
+            for finding in &read.findings {
+                say_file_finding(said, finding);
+            }
+            for finding in &read.texts {
+                said.push(" | ");
+                say_finding(said, finding);
+            }
+        }
+        Err(error) => say_fault(said, error),
+    }
+}
+
+/// Says what the elements of a file say beside its columns, or why there are none.
+fn say_elements(said: &mut Said, read: &Result<FileColumns<'_>, SchemaError>) {
+    match read {
+        Ok(read) => {
+            for (at, element) in read.elements.iter().enumerate() {
+                said.push(if at > 0 { "; " } else { "" });
+                match element {
+                    ElementClaim::Silent => said.push("silent"),
+                    ElementClaim::Given { names_crs: false } => said.push("given"),
+                    ElementClaim::Given { names_crs: true } => said.push("given CRS"),
+                    ElementClaim::Beside(metadata) => said.push(metadata.as_str()),
+                }
+            }
+        }
         Err(error) => say_fault(said, error),
     }
 }
@@ -209,7 +300,7 @@ fn say_value(said: &mut Said, read: &Result<FileColumns<'_>, SchemaError>) {
         Ok(read) => match read.value {
             Some(value) => {
                 said.push("=");
-                said.push(value);
+                say_text(said, value);
             }
             None => said.push("-"),
         },
@@ -227,11 +318,6 @@ fn say_fault(said: &mut Said, error: &SchemaError) {
             let ElementFault { rule, at } = fault;
             say!(said, "Elements {rule:?} {at}");
         }
-        SchemaError::Ipc(IpcError::Broken(fault)) => {
-            let (rule, at) = (fault.rule, fault.at);
-            say!(said, "Ipc {rule:?} {at}");
-        }
-        SchemaError::Encoding(_) => said.push("Encoding"),
         SchemaError::OutOfMemory => said.fail(),
         error => said.name(error),
     }

@@ -1,7 +1,13 @@
-//! Rows of GeoParquet metadata: calls of `geoparquet`. A row's text is the text at the key `geo`, and then lines of fields, each with ` & ` before it.
+//! Rows of GeoParquet metadata: calls of `geoparquet`. A row's text is the text at the key `geo`,
+//! under `check_bytes` its bytes in hexadecimal digits, and under `check_missing` and
+//! `check_unasked` nothing; and then lines of fields, each with ` & ` before it. Behind the line of a
+//! field may stand what its element says beside the column: `element given`, where it gives the
+//! column all that this has, and ` CRS` behind that where it names a CRS; or `element` and extension
+//! metadata, beside those of a field that has an extension name of its own.
 use arrow_columns::SchemaColumn;
 use column_files::{column_line, columns_of_lines};
-use geoparquet::{GeoFinding, check_geo, geo_columns};
+use geoparquet::{GeoFinding, GeoSource, check_geo, geo_columns};
+use parquet_columns::ElementClaim;
 use rows::asked::Asked;
 use rows::said::Said;
 use std::alloc::AllocError;
@@ -9,14 +15,25 @@ use std::mem::ManuallyDrop;
 
 /// Says the answer to a text under a command. It is lacking when out of memory before the call, and where the lines are no fields.
 pub fn answer(it: &mut Asked<'_>) {
-    let (geo, lines) = it.text.split_once(" & ").unwrap_or((it.text, ""));
-    let lines = it.said.replaced(lines, " & ", "\n");
+    let (geo, lines) = match it.command {
+        "check_missing" | "check_unasked" => ("", it.text),
+        _ => it.text.split_once(" & ").unwrap_or((it.text, "")),
+    };
+    let (lines, elements) = asked(&mut it.said, lines);
+    let elements = ManuallyDrop::new(elements);
     let Ok(columns) = columns_of_lines(it.alloc, lines.as_bytes()) else {
         return it.said.fail();
     };
     let columns = ManuallyDrop::new(columns);
+    let (held, claims) = (columns.as_slice(), elements.as_slice());
     match it.command {
-        "check_geo" => say_report(it, geo, columns.as_slice()),
+        "check_geo" => say_report(it, GeoSource::Value(geo.as_bytes()), held, claims),
+        "check_missing" => say_report(it, GeoSource::Missing, held, claims),
+        "check_unasked" => say_report(it, GeoSource::Unasked, held, claims),
+        "check_bytes" => match hex::decode(it.alloc, geo) {
+            Ok(bytes) => say_report(it, GeoSource::Value(bytes.as_slice()), held, claims),
+            Err(_) => it.said.fail(),
+        },
         "geo_columns" => {
             let made = geo_columns(it.alloc, geo, ManuallyDrop::into_inner(columns));
             say_columns(it, made);
@@ -25,9 +42,47 @@ pub fn answer(it: &mut Asked<'_>) {
     }
 }
 
+/// The lines of fields, each with a line feed, and what the element of each says beside it.
+fn asked(said: &mut Said, text: &str) -> (String, Vec<ElementClaim>) {
+    let mut lines = String::new(said.alloc);
+    let mut elements = Vec::new(said.alloc);
+    for part in text.split(" & ") {
+        match part.strip_prefix("element ") {
+            Some(words) => {
+                let claim = claim_of(said, words);
+                elements.pop();
+                said.put(&mut elements, claim);
+            }
+            None if part.is_empty() => {}
+            None => {
+                let done = lines.push_str(part);
+                said.note(done);
+                let done = lines.push_str("\n");
+                said.note(done);
+                said.put(&mut elements, ElementClaim::Silent);
+            }
+        }
+    }
+    (lines, elements)
+}
+
+/// What an element says, by the words behind `element`.
+fn claim_of(said: &mut Said, words: &str) -> ElementClaim {
+    match words {
+        "given" => ElementClaim::Given { names_crs: false },
+        "given CRS" => ElementClaim::Given { names_crs: true },
+        metadata => ElementClaim::Beside(said.owned(metadata)),
+    }
+}
+
 /// Says the version by which the metadata are judged, and the findings, with ` & ` between them.
-fn say_report(it: &mut Asked<'_>, geo: &str, columns: &[SchemaColumn]) {
-    match check_geo(it.alloc, geo, columns) {
+fn say_report(
+    it: &mut Asked<'_>,
+    geo: GeoSource<'_>,
+    columns: &[SchemaColumn],
+    elements: &[ElementClaim],
+) {
+    match check_geo(it.alloc, geo, columns, elements) {
         Ok(report) => {
             it.said.name(&report.version);
             for (place, finding) in report.findings.iter().enumerate() {

@@ -1,17 +1,24 @@
 //! Rows of reports: calls of `column_reports`, and so of the crates that read files and say what
 //! columns hold. A row's text is lines of fields, with ` & ` between them in place of line feeds;
-//! under `report_file` and `report_size` it is the bytes of a file in hexadecimal digits, under
-//! `columns_of_end` those of the end of an Arrow file, behind the number of bytes before it, and
-//! under `crs` a metadata text.
-use column_check::{Finding, read_metadata};
+//! under `report_file`, `report_file_noted`, `file_words` and `report_size` it is the bytes of a file
+//! in hexadecimal digits, under `columns_of_end` those of the end of an Arrow file, behind the number
+//! of bytes before it, and under `crs` a metadata text.
+use column_check::read_metadata;
 use column_files::{FileFault, Form, open, open_end};
 use column_reports::{
-    ColumnReport, Options, reason_words, report_column, report_file, warning_words,
+    ColumnReport, Options, Weighed, finding_words, reason_words, report_column, report_file,
+    report_of,
 };
 use json::Scratch;
 use parquet_columns::SchemaError;
 use rows::asked::Asked;
 use std::alloc::{AllocError, Global};
+
+/// What is asked of a report in which notes stand and no type is inferred.
+const NOTED: Options = Options {
+    infer: false,
+    notes: true,
+};
 
 /// Says the answer to a text under a command. It is lacking when out of memory before the call.
 pub fn answer(it: &mut Asked<'_>) {
@@ -27,6 +34,14 @@ pub fn answer(it: &mut Asked<'_>) {
         },
         "report_file" => match hex::decode(it.alloc, it.text) {
             Ok(bytes) => report(it, bytes.as_slice(), false, false),
+            Err(_) => it.said.fail(),
+        },
+        "report_file_noted" => match hex::decode(it.alloc, it.text) {
+            Ok(bytes) => report(it, bytes.as_slice(), false, true),
+            Err(_) => it.said.fail(),
+        },
+        "file_words" => match hex::decode(it.alloc, it.text) {
+            Ok(bytes) => words(it, file_words(it.alloc, bytes.as_slice())),
             Err(_) => it.said.fail(),
         },
         "columns_of_end" => end(it),
@@ -95,7 +110,7 @@ fn report(it: &mut Asked<'_>, bytes: &[u8], infer: bool, notes: bool) {
 fn reasons_of(alloc: Global, text: &str) -> Result<Vec<String>, FileFault> {
     match first_report(alloc, text)? {
         Some(report) => match &report.finding {
-            Finding::Invalid(reasons) => Ok(reason_words(alloc, reasons)?),
+            column_check::Finding::Invalid(reasons) => Ok(reason_words(alloc, reasons)?),
             _ => Ok(Vec::new(alloc)),
         },
         None => Ok(Vec::new(alloc)),
@@ -105,9 +120,24 @@ fn reasons_of(alloc: Global, text: &str) -> Result<Vec<String>, FileFault> {
 /// The warnings of the first column that some lines denote, in words.
 fn warnings_of(alloc: Global, text: &str) -> Result<Vec<String>, FileFault> {
     match first_report(alloc, text)? {
-        Some(report) => Ok(warning_words(alloc, report.warnings.as_slice())?),
+        Some(report) => Ok(words_of(alloc, report.findings.as_slice())?),
         None => Ok(Vec::new(alloc)),
     }
+}
+
+/// What is found of a file beside its columns, in words, notes among them.
+fn file_words(alloc: Global, bytes: &[u8]) -> Result<Vec<String>, FileFault> {
+    let report = report_of(alloc, open(alloc, bytes)?, NOTED)?;
+    Ok(words_of(alloc, report.findings.as_slice())?)
+}
+
+/// Findings in words.
+fn words_of(alloc: Global, findings: &[Weighed<'_>]) -> Result<Vec<String>, AllocError> {
+    let mut words = Vec::new(alloc);
+    for finding in findings {
+        words.push(finding_words(alloc, finding)?)?;
+    }
+    Ok(words)
 }
 
 /// What is said of the first column that some lines denote, with the notes.
@@ -116,12 +146,8 @@ fn first_report(alloc: Global, text: &str) -> Result<Option<ColumnReport>, FileF
     let Some(column) = opened.columns.into_iter().next() else {
         return Ok(None);
     };
-    let options = Options {
-        infer: false,
-        notes: true,
-    };
     let scratch = &mut Scratch::new(alloc);
-    Ok(Some(report_column(alloc, scratch, column, options)?))
+    Ok(Some(report_column(alloc, scratch, column, NOTED)?))
 }
 
 /// Says the words.

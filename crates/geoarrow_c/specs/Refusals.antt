@@ -28,7 +28,6 @@ lacks_memory_for_message error = false
 abbrev pub lacks_memory_for_columns : SchemaError → Bool
 lacks_memory_for_columns schemas.OutOfMemory = true
 lacks_memory_for_columns (schemas.Footer footers.Memory) = true
-lacks_memory_for_columns (schemas.Ipc error) = lacks_memory_for_message error
 lacks_memory_for_columns error = false
 
 abbrev pub lacks_memory : FileFault → Bool

@@ -30,14 +30,11 @@ fn lacks_memory_for_columns(error: SchemaError) -> bool
 {
     match error {
         SchemaError::OutOfMemory | SchemaError::Footer(FooterError::Memory) => true,
-        SchemaError::Ipc(error) => lacks_memory_for_message(error),
         SchemaError::Footer(
             FooterError::NotParquet | FooterError::Encrypted | FooterError::Invalid(_, _),
         )
         | SchemaError::Cut
         | SchemaError::Elements(_)
-        | SchemaError::Encoding(_)
-        | SchemaError::Names
         | SchemaError::Budget => false,
     }
 }

@@ -6,3 +6,4 @@ pub mod Naming
 pub mod Among
 pub mod Claims
 pub mod Counted
+pub mod Sourcing

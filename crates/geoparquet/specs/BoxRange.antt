@@ -9,6 +9,7 @@ use Rattle.arrow_values.specs.Tree.{Text}
 use Rattle.arrow_columns.specs.Column.{ColumnTree}
 use Rattle.geoparquet.specs.BoxRules.{box_in, box_place, float_of, is_less}
 use Rattle.geoparquet.specs.Counting.{is_crs_paired}
+use Rattle.geoparquet.specs.Sources.{Element}
 use Rattle.geoparquet.specs.Findings.{Finding, item_place}
 use Rattle.geoparquet.specs.Rules.{found_at}
 use Rattle.geoparquet.specs.declared.code.GeoCode.TheVariants.{BboxRange}
@@ -63,6 +64,6 @@ abbrev pub box_range : Bool → Text → Option (List Json) → List Finding
 box_range paired key (Some js) = judged_range (range_findings key js) paired
 box_range paired key None = []
 
-abbrev pub bbox_range_findings : Version → Text → Option ColumnTree → Json → List Finding
-bbox_range_findings version key c member =
-    box_range (is_crs_paired version c member) key (box_in version member)
+abbrev pub bbox_range_findings : Version → Text → Option ColumnTree → Option Element → Json → List Finding
+bbox_range_findings version key c e member =
+    box_range (is_crs_paired version c e member) key (box_in version member)

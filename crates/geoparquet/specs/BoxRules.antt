@@ -12,6 +12,7 @@ use Rattle.arrow_columns.specs.Column.{ColumnTree}
 use Rattle.geoarrow_layout.specs.declared.dimensions.Dimension.{Dimension}
 use Rattle.geoarrow_layout.specs.declared.native_kinds.NativeKind.{NativeKind}
 use Rattle.geoparquet.specs.Counting.{crs_that_counts, is_projected}
+use Rattle.geoparquet.specs.Sources.{Element}
 use Rattle.geoparquet.specs.Findings.{Finding, item_place}
 use Rattle.geoparquet.specs.Rules.{found_at, part_place, part_finding, unless, items_in, items_findings}
 use Rattle.geoparquet.specs.TypeNames.{has_z}
@@ -116,9 +117,9 @@ abbrev pub box_order : Bool → Text → Option (List Json) → List Finding
 box_order projected key (Some js) = x_order_findings projected key js ++ order_findings key js
 box_order projected key None = []
 
-abbrev pub bbox_order_findings : Version → Text → Option ColumnTree → Json → List Finding
-bbox_order_findings version key c member =
-    box_order (is_projected (crs_that_counts version c member)) key (box_in version member)
+abbrev pub bbox_order_findings : Version → Text → Option ColumnTree → Option Element → Json → List Finding
+bbox_order_findings version key c e member =
+    box_order (is_projected (crs_that_counts version c e member)) key (box_in version member)
 
 -- ---- the types have a z where the box has one
 

@@ -1,12 +1,13 @@
 -- The codes of what may be found in the metadata of GeoParquet, and how much each weighs (docs/FORMAT.md, 5).
 use Rattle.std.specs.Prelude.{codes}
 use Rattle.arrow_values.specs.Tree.{Text}
-use Rattle.geoparquet.specs.declared.code.Severity.{Severity}
-use Rattle.geoparquet.specs.declared.code.Severity.TheVariants.{Error, Warning, Note}
+use Rattle.column_check.specs.declared.code.Severity.{Severity}
+use Rattle.column_check.specs.declared.code.Severity.TheVariants.{Error, Warning, Note}
 use Rattle.geoparquet.specs.declared.code.GeoCode.{GeoCode}
-use Rattle.geoparquet.specs.declared.code.GeoCode.TheVariants.{NotJson, NotObject, Version, OldVersion, NewVersion, Columns, ColumnMissing, ColumnRepeated, Member, ColumnUndeclared, PrimaryColumn, Encoding, Layout, Types, TypesVersion, TypesContradict, Crs, CrsMalformed, Edges, Orientation, Epoch, Bbox, BboxOrder, BboxRange, BboxDimension, Covering, CoveringName, CoveringColumn, CoveringType, CoveringShape, CoveringAbsent, EncodingContradicts, CrsContradicts, CrsNotCompared, EdgesContradict, EdgesOnProjected}
+use Rattle.geoparquet.specs.declared.code.GeoCode.TheVariants.{NoMetadata, NotJson, NotObject, Version, OldVersion, NewVersion, Columns, ColumnMissing, ColumnRepeated, Member, ColumnUndeclared, PrimaryColumn, Encoding, Layout, Types, TypesVersion, TypesContradict, Crs, CrsMalformed, Edges, Orientation, Epoch, Bbox, BboxOrder, BboxRange, BboxDimension, Covering, CoveringName, CoveringColumn, CoveringType, CoveringShape, CoveringAbsent, EncodingContradicts, CrsContradicts, CrsNotCompared, EdgesContradict, EdgesOnProjected}
 
 abbrev pub code_of : GeoCode → Text
+code_of NoMetadata = codes "NoGeoMetadata"
 code_of NotJson = codes "GeoNotJson"
 code_of NotObject = codes "GeoNotObject"
 code_of Version = codes "GeoVersion"
@@ -45,6 +46,7 @@ code_of EdgesContradict = codes "EdgesContradict"
 code_of EdgesOnProjected = codes "EdgesOnProjected"
 
 abbrev pub severity_of : GeoCode → Severity
+severity_of NoMetadata = Warning
 severity_of NotJson = Error
 severity_of NotObject = Error
 severity_of Version = Error

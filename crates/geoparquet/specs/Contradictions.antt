@@ -11,6 +11,8 @@ use Rattle.geoarrow_layout.specs.declared.dimensions.Dimension.{Dimension}
 use Rattle.geoarrow_layout.specs.declared.native_kinds.NativeKind.{NativeKind}
 use Rattle.geoarrow_layout.specs.declared.native_kinds.NativeKind.TheVariants.{Point, LineString, Polygon, MultiPoint, MultiLineString, MultiPolygon}
 use Rattle.geoparquet.specs.Findings.{Finding}
+use Rattle.geoparquet.specs.Pairs.{text_findings}
+use Rattle.geoparquet.specs.Sources.{Element, silent, gives, beside}
 use Rattle.geoparquet.specs.Rules.{found_at, part_place, items_findings, unless}
 use Rattle.geoparquet.specs.MemberRules.{encoding_of, is_edges_value}
 use Rattle.geoparquet.specs.StrictLayouts.{layout_of}
@@ -93,14 +95,32 @@ abbrev pub named_encoding : Option ColumnTree → Option Text
 named_encoding None = None
 named_encoding (Some c) = option_and_then own_encoding (name_on c)
 
-abbrev pub encodings_findings : Text → Json → Option Text → Option Text → List Finding
-encodings_findings key j (Some said) (Some own) = unless (bytes_eq said own) (encoding_finding EncodingContradicts key j own)
-encodings_findings key j _ _ = []
+-- the encoding that an element says: that of well-known binary, if it is of a geometry type
+abbrev pub element_encoding : Option Element → Option Text
+element_encoding None = None
+element_encoding (Some silent) = None
+element_encoding (Some (gives names_crs)) = Some (codes "WKB")
+element_encoding (Some (beside s)) = Some (codes "WKB")
 
--- `encoding` and the extension name say two; not judged where the column has not the layout of the encoding
-abbrev pub encoding_contradicts_findings : Version → Text → Option ColumnTree → Json → List Finding
-encoding_contradicts_findings version key c j =
-    if is_some (stored_layout version c j) then encodings_findings key j (encoding_of version j) (named_encoding c) else []
+-- the encoding that a field says: none where its column has its name from the element
+abbrev pub field_encoding : Option Element → Option ColumnTree → Option Text
+field_encoding None c = named_encoding c
+field_encoding (Some silent) c = named_encoding c
+field_encoding (Some (gives names_crs)) c = None
+field_encoding (Some (beside s)) c = named_encoding c
+
+-- the encoding that a member says, where the column has the layout of it
+abbrev pub layout_encoding : Version → Option ColumnTree → Json → Option Text
+layout_encoding version c j = if is_some (stored_layout version c j) then encoding_of version j else None
+
+-- two of the element, the field and `encoding` say two
+abbrev pub encodings_findings : Text → Option Json → Option ColumnTree → Option Element → Option Text → List Finding
+encodings_findings key found c e said =
+    text_findings EncodingContradicts key (codes "encoding") found (element_encoding e) (field_encoding e c) said
+
+abbrev pub encoding_contradicts_findings : Version → Text → Option ColumnTree → Option Element → Json → List Finding
+encoding_contradicts_findings version key c e j =
+    encodings_findings key (get (codes "encoding") j) c e (layout_encoding version c j)
 
 -- ---- the edges
 
@@ -132,12 +152,38 @@ abbrev pub own_edges : Data → Option Text
 own_edges (own.object ms) = edges_at (get_data (codes "edges") (own.object ms))
 own_edges d = None
 
-abbrev pub two_edges_findings : Text → Option Json → Option Text → Option Text → List Finding
-two_edges_findings key found (Some said) (Some own) =
-    unless (bytes_eq said own) (found_at EdgesContradict (Some key) (part_place key (codes "edges")) found (Some own))
-two_edges_findings key found _ _ = []
+-- the metadata of an element: those of its column, or those beside
+abbrev pub element_metadata : Option Element → Option ColumnTree → Data
+element_metadata None c = own.null
+element_metadata (Some silent) c = own.null
+element_metadata (Some (gives names_crs)) c = own_metadata c
+element_metadata (Some (beside s)) c = geo_value s
 
--- `edges` and the column's own metadata say two
-abbrev pub edges_contradict_findings : Version → Text → Option ColumnTree → Json → List Finding
-edges_contradict_findings version key c j =
-    two_edges_findings key (get (codes "edges") j) (said_edges version (get (codes "edges") j)) (own_edges (own_metadata c))
+-- the edges in the metadata of an element: planar where there are none
+abbrev pub edges_in : Data → Option Text
+edges_in own.null = Some (codes "planar")
+edges_in (own.object ms) = own_edges (own.object ms)
+edges_in d = None
+
+-- the edges that an element says, if it is of a geometry type
+abbrev pub element_edges : Option Element → Data → Option Text
+element_edges None d = None
+element_edges (Some silent) d = None
+element_edges (Some (gives names_crs)) d = edges_in d
+element_edges (Some (beside s)) d = edges_in d
+
+-- the edges that a field says: none where its column has its metadata from the element
+abbrev pub field_edges : Option Element → Data → Option Text
+field_edges None d = own_edges d
+field_edges (Some silent) d = own_edges d
+field_edges (Some (gives names_crs)) d = None
+field_edges (Some (beside s)) d = own_edges d
+
+-- two of the element, the field and `edges` say two
+abbrev pub edges_claims_findings : Text → Option Json → Option ColumnTree → Option Element → Option Text → List Finding
+edges_claims_findings key found c e said =
+    text_findings EdgesContradict key (codes "edges") found (element_edges e (element_metadata e c)) (field_edges e (own_metadata c)) said
+
+abbrev pub edges_contradict_findings : Version → Text → Option ColumnTree → Option Element → Json → List Finding
+edges_contradict_findings version key c e j =
+    edges_claims_findings key (get (codes "edges") j) c e (said_edges version (get (codes "edges") j))

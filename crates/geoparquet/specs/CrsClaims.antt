@@ -1,5 +1,5 @@
--- What `crs` says against the column's own metadata, and edges against a CRS (docs/FORMAT.md, 5.1 and 5.3).
-use Rattle.std.specs.Prelude.{Bool, true, false, List, [], ◌∷◌, codes, bytes_eq, Option, None, Some, option_and_then, if◌then◌else◌}
+-- What the element, the field and `crs` say of the CRS (docs/FORMAT.md, 5.1 and 5.3).
+use Rattle.std.specs.Prelude.{Bool, true, false, List, [], codes, bytes_eq, Option, None, Some, option_and_then, option_map, if◌then◌else◌}
 use Rattle.json.specs.Json.{Json, null, string, object}
 use Rattle.json.specs.Find.{get, as_str}
 use Rattle.arrow_values.specs.Tree.{Text}
@@ -11,10 +11,12 @@ use Rattle.crs_identity.specs.declared.verdict.Verdict.TheVariants.{Agree, Contr
 use Rattle.geoparquet.specs.Findings.{Finding, shown_value}
 use Rattle.geoparquet.specs.Identifiers.{default_identifier}
 use Rattle.geoparquet.specs.Malformed.{is_projjson}
-use Rattle.geoparquet.specs.Rules.{found_at, part_place}
+use Rattle.geoparquet.specs.Pairs.{first_pair, pair_findings}
+use Rattle.geoparquet.specs.Sources.{Element, silent, gives, beside}
 use Rattle.geoparquet.specs.Versions.{is_judged}
 use Rattle.geoparquet.specs.declared.code.GeoCode.TheVariants.{CrsContradicts, CrsNotCompared}
 use Rattle.geoparquet.specs.declared.finding.Version.{Version}
+use Rattle.geoparquet.specs.declared.pairs.Pair.{Pair}
 
 -- a CRS that is said, and the format's default
 abbrev pub claimed : Said → Claimed
@@ -73,31 +75,94 @@ abbrev pub own_crs_in : Option Json → Option Claimed
 own_crs_in None = None
 own_crs_in (Some j) = own_crs j
 
+-- ---- what an element and a field say
+
+-- the extension metadata of an element: those of its column, or those beside
+abbrev pub element_json : Option Element → Option ColumnTree → Option Json
+element_json None c = None
+element_json (Some silent) c = None
+element_json (Some (gives names_crs)) c = own_json c
+element_json (Some (beside s)) c = json_in s
+
+-- those of a field: none where its column has them from the element
+abbrev pub field_json : Option Element → Option ColumnTree → Option Json
+field_json None c = own_json c
+field_json (Some silent) c = own_json c
+field_json (Some (gives names_crs)) c = None
+field_json (Some (beside s)) c = own_json c
+
+-- the CRS that an element says, if it is of a geometry type: the default where it names none
+abbrev pub or_default : Option Claimed → Option Claimed
+or_default None = Some default_claim
+or_default (Some c) = Some c
+
+abbrev pub element_crs : Option Element → Option Json → Option Claimed
+element_crs None own = None
+element_crs (Some silent) own = None
+element_crs (Some (gives false)) own = Some default_claim
+element_crs (Some (gives true)) own = or_default (own_crs_in own)
+element_crs (Some (beside s)) own = or_default (own_crs_in own)
+
 -- ---- findings
 
--- the value at `crs` of extension metadata, as a finding shows it
-abbrev pub crs_shown : Option Json → Option Text
-crs_shown None = None
-crs_shown (Some j) = Some (shown_value j)
+-- the value at `crs` of extension metadata
+abbrev pub crs_at : Option Json → Option Json
+crs_at None = None
+crs_at (Some j) = get (codes "crs") j
 
+-- as a finding shows it
 abbrev pub own_shown : Option Json → Option Text
-own_shown None = None
-own_shown (Some j) = crs_shown (get (codes "crs") j)
+own_shown own = option_map shown_value (crs_at own)
 
-abbrev pub verdict_findings : Text → Option Json → Option Text → Verdict → List Finding
-verdict_findings key found wanted Agree = []
-verdict_findings key found wanted Contradict = found_at CrsContradicts (Some key) (part_place key (codes "crs")) found wanted ∷ []
-verdict_findings key found wanted NotCompared = found_at CrsNotCompared (Some key) (part_place key (codes "crs")) found wanted ∷ []
+-- and as it shows the CRS of an element
+abbrev pub claim_shown : Option Claimed → Option Json → Option Text
+claim_shown None own = None
+claim_shown (Some c) own = if c.is_default then Some (codes "\"OGC:CRS84\"") else own_shown own
 
--- both say a CRS
-abbrev pub two_crs_findings : Text → Option Json → Option Text → Option Claimed → Option Claimed → List Finding
-two_crs_findings key found wanted (Some said) (Some own) = verdict_findings key found wanted (crs_verdict said own)
-two_crs_findings key found wanted _ _ = []
+-- what is said of two sources: nothing where one of them says none
+abbrev pub pair_verdict : Option Claimed → Option Claimed → Verdict
+pair_verdict None b = Agree
+pair_verdict (Some a) None = Agree
+pair_verdict (Some a) (Some b) = crs_verdict a b
 
-abbrev pub crs_own_findings : Version → Text → Option Json → Json → List Finding
-crs_own_findings version key own j =
-    two_crs_findings key (get (codes "crs") j) (own_shown own) (said_crs version (get (codes "crs") j)) (own_crs_in own)
+abbrev pub is_contradict : Verdict → Bool
+is_contradict Agree = false
+is_contradict Contradict = true
+is_contradict NotCompared = false
 
--- `crs` and the column's own metadata say two CRSs, or it is not known whether they are one
-abbrev pub crs_contradicts_findings : Version → Text → Option ColumnTree → Json → List Finding
-crs_contradicts_findings version key c j = crs_own_findings version key (own_json c) j
+abbrev pub is_not_compared : Verdict → Bool
+is_not_compared Agree = false
+is_not_compared Contradict = false
+is_not_compared NotCompared = true
+
+-- the first pair that contradicts; and if none does, the first that is not compared
+abbrev pub verdict_findings : Text → Option Json → Option Text → Option Json → Option Text → Option Pair → Option Pair → List Finding
+verdict_findings key found element field own None not_compared =
+    pair_findings CrsNotCompared key (codes "crs") found element field own not_compared
+verdict_findings key found element field own (Some pair) not_compared =
+    pair_findings CrsContradicts key (codes "crs") found element field own (Some pair)
+
+abbrev pub verdicts_findings : Text → Option Json → Option Text → Option Json → Option Text → Verdict → Verdict → Verdict → List Finding
+verdicts_findings key found element field own eg ea ag =
+    verdict_findings key found element field own
+    (first_pair (is_contradict eg) (is_contradict ea) (is_contradict ag))
+    (first_pair (is_not_compared eg) (is_not_compared ea) (is_not_compared ag))
+
+-- by the claims of the element, of the field and of `geo`
+abbrev pub three_findings : Text → Option Json → Option Text → Option Json → Option Claimed → Option Claimed → Option Claimed → List Finding
+three_findings key found shown own element field said =
+    verdicts_findings key found shown (crs_at own) (own_shown own)
+    (pair_verdict element said) (pair_verdict element field) (pair_verdict field said)
+
+-- by the metadata of the element and of the field
+abbrev pub crs_json_findings : Text → Option Json → Option Element → Option Json → Option Json → Option Claimed → List Finding
+crs_json_findings key found e element field said =
+    three_findings key found (claim_shown (element_crs e element) element) field (element_crs e element) (own_crs_in field) said
+
+-- two of the element, the field and `crs` say two CRSs, or it is not known whether they are one
+abbrev pub crs_claims_findings : Text → Option Json → Option ColumnTree → Option Element → Option Claimed → List Finding
+crs_claims_findings key found c e said = crs_json_findings key found e (element_json e c) (field_json e c) said
+
+abbrev pub crs_contradicts_findings : Version → Text → Option ColumnTree → Option Element → Json → List Finding
+crs_contradicts_findings version key c e j =
+    crs_claims_findings key (get (codes "crs") j) c e (said_crs version (get (codes "crs") j))

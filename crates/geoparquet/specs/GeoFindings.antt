@@ -1,5 +1,6 @@
 -- What is found of the metadata at the key `geo`, against the columns of a file (docs/FORMAT.md, 5).
 use Rattle.std.specs.Prelude.{◌≡◌, ◌⊎◌, ◌||◌, Bool, true, false, not, List, [], ◌∷◌, ◌++◌, codes, Option, None, Some, is_some, flat_map, option_and_then, if◌then◌else◌}
+use Rattle.std.specs.Str.{IsUtf8}
 use Rattle.json.specs.Json.{Json}
 use Rattle.json.specs.Find.{get, as_str}
 use Rattle.serde_json.specs.Read.{read}
@@ -8,6 +9,8 @@ use Rattle.arrow_values.specs.Tree.{Text}
 use Rattle.arrow_columns.specs.Column.{ColumnTree}
 use Rattle.arrow_columns.specs.Names.{first_of, is_one}
 use Rattle.geoparquet.specs.Findings.{Finding, shown}
+use Rattle.geoparquet.specs.Sources.{Source, unasked, missing, value, Element, element_named, with_elements}
+use Rattle.geoparquet.specs.Spelled.{spelled}
 use Rattle.geoparquet.specs.Rules.{column_place, found_at, unless}
 use Rattle.geoparquet.specs.Versions.{version_of, version_findings}
 use Rattle.geoparquet.specs.MemberRules.{encoding_findings, crs_findings, edges_findings, orientation_findings, epoch_findings}
@@ -17,10 +20,10 @@ use Rattle.geoparquet.specs.BoxRange.{bbox_range_findings}
 use Rattle.geoparquet.specs.Counting.{edges_on_projected_findings}
 use Rattle.geoparquet.specs.CoveringAbsent.{covering_absent_findings}
 use Rattle.geoparquet.specs.Coverings.{covering_findings}
-use Rattle.geoparquet.specs.Contradictions.{layout_findings, types_contradict_findings, encoding_contradicts_findings, edges_contradict_findings}
+use Rattle.geoparquet.specs.Contradictions.{layout_findings, types_contradict_findings, encodings_findings, encoding_contradicts_findings, edges_claims_findings, edges_contradict_findings}
 use Rattle.geoparquet.specs.Malformed.{malformed_findings}
-use Rattle.geoparquet.specs.CrsClaims.{crs_contradicts_findings}
-use Rattle.geoparquet.specs.Undeclared.{undeclared_findings}
+use Rattle.geoparquet.specs.CrsClaims.{crs_claims_findings, crs_contradicts_findings}
+use Rattle.geoparquet.specs.Undeclared.{undeclared_findings, no_metadata_findings}
 use Rattle.geoparquet.specs.Ordered.{are_some, columns_of, has_member}
 use Rattle.geoparquet.specs.Extensions.{IsJson}
 use Rattle.geoparquet.specs.declared.code.GeoCode.{GeoCode}
@@ -75,69 +78,111 @@ fact_findings version key j =
     ++ orientation_findings version key j
     ++ epoch_findings version key j
 
-abbrev pub box_findings : Version → Text → Option ColumnTree → Json → List Finding
-box_findings version key c j =
+abbrev pub box_findings : Version → Text → Option ColumnTree → Option Element → Json → List Finding
+box_findings version key c e j =
     box.bbox_findings version key j
-    ++ box.bbox_order_findings version key c j
-    ++ bbox_range_findings version key c j
+    ++ box.bbox_order_findings version key c e j
+    ++ bbox_range_findings version key c e j
     ++ box.bbox_dimension_findings version key j
 
--- against other columns, and the column itself
-abbrev pub column_findings : List ColumnTree → Version → Text → Option ColumnTree → Json → List Finding
-column_findings cs version key c j =
+-- what the element, the field and the member say of one fact
+abbrev pub claim_findings : Version → Text → Option ColumnTree → Option Element → Json → List Finding
+claim_findings version key c e j =
+    encoding_contradicts_findings version key c e j
+    ++ crs_contradicts_findings version key c e j
+    ++ edges_contradict_findings version key c e j
+    ++ edges_on_projected_findings version key c e j
+
+-- against other columns
+abbrev pub covered_findings : List ColumnTree → Version → Text → Option ColumnTree → Json → List Finding
+covered_findings cs version key c j =
     covering_findings cs version key c j
     ++ covering_absent_findings cs version key c j
-    ++ encoding_contradicts_findings version key c j
-    ++ crs_contradicts_findings version key c j
-    ++ edges_contradict_findings version key c j
-    ++ edges_on_projected_findings version key c j
 
-abbrev pub part_findings : List ColumnTree → Version → Text → Option ColumnTree → Json → List Finding
-part_findings cs version key c j =
+abbrev pub part_findings : List ColumnTree → Version → Text → Option ColumnTree → Option Element → Json → List Finding
+part_findings cs version key c e j =
     storage_findings version key c j
     ++ fact_findings version key j
-    ++ box_findings version key c j
-    ++ column_findings cs version key c j
+    ++ box_findings version key c e j
+    ++ covered_findings cs version key c j
+    ++ claim_findings version key c e j
+
+-- what the element and the field say of one fact, without a member
+abbrev pub own_findings : Text → Option ColumnTree → Option Element → List Finding
+own_findings key c e =
+    encodings_findings key None c e None
+    ++ crs_claims_findings key None c e None
+    ++ edges_claims_findings key None c e None
+
+-- of the value of a key, by a column of that name, if there is one
+abbrev pub value_findings : List ColumnTree → Version → Text → Option ColumnTree → Option Element → Json → List Finding
+value_findings cs version key c e j =
+    if is_object j then part_findings cs version key c e j
+    else (key_finding Member key j ∷ []) ++ own_findings key c e
 
 -- the rules of a column are judged of the first column of that name
-abbrev pub value_findings : List ColumnTree → Version → Text → Json → List Finding
-value_findings cs version key j =
-    if is_object j then part_findings cs version key (first_of cs key) j else key_finding Member key j ∷ []
+abbrev pub member_findings : List ColumnTree → List (ColumnTree × Option Element) → Version → Text × Json → List Finding
+member_findings cs xs version m =
+    key_findings cs m.0 m.1 ++ value_findings cs version m.0 (first_of cs m.0) (element_named xs m.0) m.1
 
-abbrev pub member_findings : List ColumnTree → Version → Text × Json → List Finding
-member_findings cs version m = key_findings cs m.0 m.1 ++ value_findings cs version m.0 m.1
+abbrev pub members_findings : List ColumnTree → List (ColumnTree × Option Element) → Version → List (Text × Json) → List Finding
+members_findings cs xs version ms = flat_map (member_findings cs xs version) ms
 
-abbrev pub members_findings : List ColumnTree → Version → List (Text × Json) → List Finding
-members_findings cs version ms = flat_map (member_findings cs version) ms
+-- of a column that has no member
+abbrev pub column_alone_findings : List (Text × Json) → ColumnTree × Option Element → List Finding
+column_alone_findings ms x = if has_member x.0.name ms then [] else own_findings x.0.name (Some x.0) x.1
+
+abbrev pub alone_findings : List (Text × Json) → List (ColumnTree × Option Element) → List Finding
+alone_findings ms xs = flat_map (column_alone_findings ms) xs
 
 -- ---- of the whole
 
--- columns without a member are judged where `columns` has members
-abbrev pub missing_findings : List ColumnTree → Json → List Finding
-missing_findings cs j =
-    if are_some (columns_of j) then undeclared_findings (columns_of j) cs else []
+-- columns that lack a member are found where `columns` has members
+abbrev pub missing_findings : List (ColumnTree × Option Element) → Json → List Finding
+missing_findings xs j =
+    if are_some (columns_of j) then undeclared_findings (columns_of j) xs else []
 
-abbrev pub object_findings : List ColumnTree → Json → List Finding
-object_findings cs j =
+abbrev pub object_findings : List ColumnTree → List (ColumnTree × Option Element) → Json → List Finding
+object_findings cs xs j =
     version_findings j
     ++ columns_findings j
     ++ primary_findings j
-    ++ members_findings cs (version_of j) (columns_of j)
-    ++ missing_findings cs j
+    ++ members_findings cs xs (version_of j) (columns_of j)
+    ++ missing_findings xs j
 
--- what is found of a JSON value: of all of it, of each member of `columns` in the ascending order of keys, of columns without a member
-abbrev pub geo_findings : List ColumnTree → Json → List Finding
-geo_findings cs j = if is_object j then object_findings cs j else found_at NotObject None [] (Some j) None ∷ []
+-- of a value: of all of it, of each member of `columns` in the ascending order of keys, of columns that lack a member
+abbrev pub json_findings : List ColumnTree → List (ColumnTree × Option Element) → Json → List Finding
+json_findings cs xs j = if is_object j then object_findings cs xs j else found_at NotObject None [] (Some j) None ∷ []
 
--- what is found of a text that is no JSON
+-- what is found of a JSON value; and of columns that have no member
+abbrev pub geo_findings : List ColumnTree → List (ColumnTree × Option Element) → Json → List Finding
+geo_findings cs xs j = json_findings cs xs j ++ alone_findings (columns_of j) xs
+
+-- what is found of a value that is no JSON, as it is shown
 abbrev pub unread_finding : Text → Finding
-unread_finding geo = record { code = NotJson; column = None; pointer = []; found = Some (shown geo); wanted = None }
+unread_finding text = record { code = NotJson; column = None; pointer = []; found = Some (shown text); wanted = None }
 
 -- the version and the findings are those of the text: of the value that it is, where it is JSON
-abbrev pub AreGeoFindings : Text → List ColumnTree → Version → List Finding → Type 0
-AreGeoFindings geo cs version fs =
-    ((read geo ≡ None) × (version ≡ V1_1) × (fs ≡ unread_finding geo ∷ []))
-    ⊎ ((j : Json) × IsJson geo j × (version ≡ version_of j) × (fs ≡ geo_findings cs j))
+abbrev pub AreTextFindings : Text → List ColumnTree → List (ColumnTree × Option Element) → Version → List Finding → Type 0
+AreTextFindings geo cs xs version fs =
+    ((read geo ≡ None) × (version ≡ V1_1) × (fs ≡ unread_finding geo ∷ alone_findings [] xs))
+    ⊎ ((j : Json) × IsJson geo j × (version ≡ version_of j) × (fs ≡ geo_findings cs xs j))
+
+-- those of a value, by its bytes: of the text that they are, where they are UTF-8
+abbrev pub AreValueFindings : Text → List ColumnTree → List (ColumnTree × Option Element) → Version → List Finding → Type 0
+AreValueFindings bytes cs xs version fs =
+    (IsUtf8 bytes × AreTextFindings bytes cs xs version fs)
+    ⊎ ((¬ IsUtf8 bytes) × (version ≡ V1_1) × (fs ≡ unread_finding (spelled bytes) ∷ alone_findings [] xs))
+
+-- those of what a file has at the key `geo`
+abbrev pub AreSourceFindings : Source → List ColumnTree → List (ColumnTree × Option Element) → Version → List Finding → Type 0
+AreSourceFindings unasked cs xs version fs = (version ≡ V1_1) × (fs ≡ alone_findings [] xs)
+AreSourceFindings missing cs xs version fs = (version ≡ V1_1) × (fs ≡ no_metadata_findings xs ++ alone_findings [] xs)
+AreSourceFindings (value bytes) cs xs version fs = AreValueFindings bytes cs xs version fs
+
+-- the version and the findings are those of what a file has at the key `geo`, with these columns, beside which the elements say that
+abbrev pub AreGeoFindings : Source → List ColumnTree → List Element → Version → List Finding → Type 0
+AreGeoFindings geo cs es version fs = AreSourceFindings geo cs (with_elements cs es) version fs
 
 -- ---- for private contracts
 

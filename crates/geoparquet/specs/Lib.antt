@@ -1,9 +1,12 @@
 pub mod Codes
 pub mod Findings
+pub mod Sources
+pub mod Spelled
 pub mod Weights
 pub mod Nearest
 pub mod Words
 pub mod Rules
+pub mod Pairs
 pub mod Versions
 pub mod MemberRules
 pub mod TypeNames

@@ -1,5 +1,5 @@
--- Columns that hold geometries by their extension name, and have no member of `columns` (docs/FORMAT.md, 5.1).
-use Rattle.std.specs.Prelude.{◌&&◌, ◌||◌, Bool, true, false, not, List, codes, bytes_eq, Option, None, Some, is_some, flat_map, option_and_then}
+-- Columns that hold geometries by their extension name or their element, and have no member of `columns` (docs/FORMAT.md, 5.1).
+use Rattle.std.specs.Prelude.{◌&&◌, ◌||◌, Bool, true, false, not, List, [], codes, bytes_eq, Option, None, Some, is_some, flat_map, option_and_then}
 use Rattle.std.specs.List.{list_any}
 use Rattle.json.specs.Json.{Json, string}
 use Rattle.json.specs.Find.{get, at, as_str}
@@ -8,8 +8,9 @@ use Rattle.arrow_columns.specs.Column.{ColumnTree, name_on}
 use Rattle.geoparquet.specs.Findings.{Finding}
 use Rattle.geoparquet.specs.Rules.{found_at, unless}
 use Rattle.geoparquet.specs.Ordered.{has_member}
-use Rattle.geoparquet.specs.Contradictions.{own_encoding}
-use Rattle.geoparquet.specs.declared.code.GeoCode.TheVariants.{ColumnUndeclared}
+use Rattle.geoparquet.specs.Contradictions.{own_encoding, element_encoding}
+use Rattle.geoparquet.specs.Sources.{Element}
+use Rattle.geoparquet.specs.declared.code.GeoCode.TheVariants.{ColumnUndeclared, NoMetadata}
 
 -- an extension name of geometries: each that says an encoding, but for that of boxes
 abbrev pub is_geometry_name : Text → Bool
@@ -40,14 +41,25 @@ covers name j = is_box_in name (option_and_then (get (codes "bbox")) (get (codes
 abbrev pub is_covered : Text → List (Text × Json) → Bool
 is_covered name ms = list_any (λ m. covers name m.1) ms
 
--- a column that holds no geometries, has a member, or is that of a covering
-abbrev pub is_declared : List (Text × Json) → ColumnTree → Bool
-is_declared ms c = not (is_geometry (name_on c)) || (has_member c.name ms || is_covered c.name ms)
+-- a column that holds no geometries by its field and its element, has a member, or is that of a covering
+abbrev pub is_declared : List (Text × Json) → ColumnTree × Option Element → Bool
+is_declared ms x =
+    not (is_geometry (name_on x.0) || is_some (element_encoding x.1)) || (has_member x.0.name ms || is_covered x.0.name ms)
 
 -- the name of the column is what is found
-abbrev pub column_undeclared_findings : List (Text × Json) → ColumnTree → List Finding
-column_undeclared_findings ms c =
-    unless (is_declared ms c) (found_at ColumnUndeclared (Some c.name) (codes "/columns") (Some (string c.name)) None)
+abbrev pub column_undeclared_findings : List (Text × Json) → ColumnTree × Option Element → List Finding
+column_undeclared_findings ms x =
+    unless (is_declared ms x) (found_at ColumnUndeclared (Some x.0.name) (codes "/columns") (Some (string x.0.name)) None)
 
-abbrev pub undeclared_findings : List (Text × Json) → List ColumnTree → List Finding
-undeclared_findings ms cs = flat_map (column_undeclared_findings ms) cs
+abbrev pub undeclared_findings : List (Text × Json) → List (ColumnTree × Option Element) → List Finding
+undeclared_findings ms xs = flat_map (column_undeclared_findings ms) xs
+
+-- ---- files without metadata
+
+-- a column that holds geometries by its field, and not by its element
+abbrev pub is_bare : ColumnTree × Option Element → Bool
+is_bare x = is_geometry (name_on x.0) && not (is_some (element_encoding x.1))
+
+-- there is no value at the key `geo`, and such a column
+abbrev pub no_metadata_findings : List (ColumnTree × Option Element) → List Finding
+no_metadata_findings xs = unless (not (list_any is_bare xs)) (found_at NoMetadata None [] None None)

@@ -2,20 +2,14 @@
 use Rattle.std.specs.Prelude.{List, [], ◌∷◌, ◌++◌, codes, Option, None, Some}
 use Rattle.arrow_values.specs.Tree.{Text}
 use Rattle.geoparquet.specs.Nearest.{nearest}
-use Rattle.geoparquet.specs.declared.code.Severity.{Severity}
-use Rattle.geoparquet.specs.declared.code.Severity.TheVariants as severities
 use Rattle.geoparquet.specs.declared.code.GeoCode.{GeoCode}
-use Rattle.geoparquet.specs.declared.code.GeoCode.TheVariants.{NotJson, NotObject, Version, OldVersion, NewVersion, Columns, ColumnMissing, ColumnRepeated, Member, ColumnUndeclared, PrimaryColumn, Encoding, Layout, Types, TypesVersion, TypesContradict, Crs, CrsMalformed, Edges, Orientation, Epoch, Bbox, BboxOrder, BboxRange, BboxDimension, Covering, CoveringName, CoveringColumn, CoveringType, CoveringShape, CoveringAbsent, EncodingContradicts, CrsContradicts, CrsNotCompared, EdgesContradict, EdgesOnProjected}
+use Rattle.geoparquet.specs.declared.code.GeoCode.TheVariants.{NoMetadata, NotJson, NotObject, Version, OldVersion, NewVersion, Columns, ColumnMissing, ColumnRepeated, Member, ColumnUndeclared, PrimaryColumn, Encoding, Layout, Types, TypesVersion, TypesContradict, Crs, CrsMalformed, Edges, Orientation, Epoch, Bbox, BboxOrder, BboxRange, BboxDimension, Covering, CoveringName, CoveringColumn, CoveringType, CoveringShape, CoveringAbsent, EncodingContradicts, CrsContradicts, CrsNotCompared, EdgesContradict, EdgesOnProjected}
 use Rattle.geoparquet.specs.declared.finding.Version.{Version as GeoVersion}
 use Rattle.geoparquet.specs.declared.finding.Version.TheVariants as versions
 
-abbrev pub severity_text : Severity → Text
-severity_text severities.Error = codes "error"
-severity_text severities.Warning = codes "warning"
-severity_text severities.Note = codes "note"
-
 -- when a code is found
 abbrev pub rule_of : GeoCode → Text
+rule_of NoMetadata = codes "the file has columns of geometries, and no value at the key geo"
 rule_of NotJson = codes "the value of geo is absent, no UTF-8, or no JSON within 127 levels"
 rule_of NotObject = codes "the value of geo is JSON, and no object"
 rule_of Version = codes "version is absent, no text, or no version of the format"
@@ -47,10 +41,10 @@ rule_of CoveringColumn = codes "a path of a covering leads to no child of one gr
 rule_of CoveringType = codes "a path of a covering leads to another type than floats, or than the other paths"
 rule_of CoveringShape = codes "the group of a covering has other children, or another repetition"
 rule_of CoveringAbsent = codes "a group has the children of a covering, and no covering names it"
-rule_of EncodingContradicts = codes "encoding is another than the extension name of the column says"
-rule_of CrsContradicts = codes "crs is another than the column's own metadata say"
-rule_of CrsNotCompared = codes "it is not known whether crs and that of the column's own metadata are one"
-rule_of EdgesContradict = codes "edges are others than the column's own metadata say"
+rule_of EncodingContradicts = codes "two of the element, the field and geo say two encodings"
+rule_of CrsContradicts = codes "two of the element, the field and geo say two CRSs"
+rule_of CrsNotCompared = codes "two of the element, the field and geo say CRSs that nothing tells to be one or two"
+rule_of EdgesContradict = codes "two of the element, the field and geo say two kinds of edges"
 rule_of EdgesOnProjected = codes "the edges are not planar, and the CRS is projected"
 
 -- what is expected where a code is found, by the version
@@ -72,6 +66,7 @@ bbox_text versions.V2 = codes "4, 6 or 8 finite numbers"
 bbox_text version = codes "4 or 6 finite numbers"
 
 abbrev pub expected_of : GeoVersion → GeoCode → Text
+expected_of version NoMetadata = codes "metadata of GeoParquet at the key geo"
 expected_of version NotJson = codes "JSON"
 expected_of version NotObject = codes "an object"
 expected_of version Version = codes "1.1.0"
@@ -103,10 +98,10 @@ expected_of version CoveringColumn = codes "the name of one group, the same in a
 expected_of version CoveringType = codes "float or double, the same for all bounds"
 expected_of version CoveringShape = codes "a group of the bounds alone, there as often as the geometry"
 expected_of version CoveringAbsent = codes "a covering that names the group"
-expected_of version EncodingContradicts = codes "the encoding of the column's extension name"
-expected_of version CrsContradicts = codes "the CRS of the column's own metadata"
-expected_of version CrsNotCompared = codes "the CRS of the column's own metadata"
-expected_of version EdgesContradict = codes "the edges of the column's own metadata"
+expected_of version EncodingContradicts = codes "the encoding of the other source"
+expected_of version CrsContradicts = codes "the CRS of the other source"
+expected_of version CrsNotCompared = codes "the CRS of the other source"
+expected_of version EdgesContradict = codes "the edges of the other source"
 expected_of version EdgesOnProjected = codes "planar edges, or a CRS that is not projected"
 
 -- what helps where a code is found, by the version
@@ -130,9 +125,8 @@ advice_of version Epoch = Some (codes "A number has no quotes.")
 advice_of version BboxOrder = Some (codes "Only a box of a geographic CRS has an xmin above its xmax, where it crosses the antimeridian.")
 advice_of version CoveringName = Some (codes "Where bounds are exchanged, filters by this covering drop rows.")
 advice_of version CoveringAbsent = Some (codes "Add \"covering\":{\"bbox\":{\"xmin\":[NAME,\"xmin\"],\"ymin\":[NAME,\"ymin\"],\"xmax\":[NAME,\"xmax\"],\"ymax\":[NAME,\"ymax\"]}}, where NAME is the name found.")
-advice_of version CrsContradicts = Some (codes "The report of the column shows that of its own metadata.")
-advice_of version CrsNotCompared = Some (codes "The report of the column shows that of its own metadata.")
-advice_of version EdgesContradict = Some (codes "The report of the column shows those of its own metadata.")
+advice_of version CrsContradicts = Some (codes "That of the element counts first, then that of geo, then that of the field.")
+advice_of version EdgesContradict = Some (codes "Those of the element count first, then those of geo, then those of the field.")
 advice_of version _ = None
 
 -- the names that are expected where a code is found, each as JSON

@@ -5,6 +5,7 @@ ghost use Rattle.json.specs.Value.{value_view};
 ghost use Rattle.value_tokens.specs.Values.{IsReadable};
 ghost use Rattle.arrow_values.specs.Texts.{text_of};
 ghost use Rattle.arrow_columns.specs.Column.{column_tree};
+ghost use Rattle.geoparquet.specs.Sources.{element_view};
 ghost use Rattle.geoparquet.specs.Findings.{finding};
 ghost use Rattle.geoparquet.specs.Counting.{is_crs_paired};
 ghost use Rattle.geoparquet.specs.BoxRange.{nearest_float, longitude_limit, latitude_limit, limit_findings, bound_range_findings, pair_range_findings, range_findings, judged_range, bbox_range_findings};
@@ -16,6 +17,7 @@ use crate::finding::{GeoFinding, Version};
 use crate::place::{finding_at, item_place, part_place};
 use arrow_columns::SchemaColumn;
 use json::Value;
+use parquet_columns::ElementClaim;
 use std::alloc::{AllocError, Global};
 
 /// Returns the nearest float of a number's text.
@@ -162,17 +164,18 @@ fn add_judged(
     findings: &mut Vec<GeoFinding>,
     version: Version,
     column: Option<&SchemaColumn>,
+    element: Option<&ElementClaim>,
     member: &Value<'_>,
     beyond: Vec<GeoFinding>,
 ) -> Result<(), AllocError>
     ensures { OnOk result (map finding findings.new.items ≡ map finding findings.old.items
-        ++ judged_range (map finding beyond.items) (is_crs_paired version (option_map (λ c. column_tree c.now) column.entry) (value_view member.now))) }
+        ++ judged_range (map finding beyond.items) (is_crs_paired version (option_map (λ c. column_tree c.now) column.entry) (option_map (λ e. element_view e.now) element.entry) (value_view member.now))) }
 {
     let mut beyond = beyond;
     let [_first, _rest @ ..] = beyond.as_slice() else {
         return Ok(());
     };
-    if !counts_paired(alloc, version, column, member)? {
+    if !counts_paired(alloc, version, column, element, member)? {
         return Ok(());
     }
     findings.append(&mut beyond)?;
@@ -187,16 +190,17 @@ pub(crate) fn add_bbox_range(
     version: Version,
     key: &str,
     column: Option<&SchemaColumn>,
+    element: Option<&ElementClaim>,
     member: &Value<'_>,
 ) -> Result<(), AllocError>
     requires { IsReadable (value_view member.now) }
     ensures { OnOk result (map finding findings.new.items ≡ map finding findings.old.items
-        ++ bbox_range_findings version key.now (option_map (λ c. column_tree c.now) column.entry) (value_view member.now)) }
+        ++ bbox_range_findings version key.now (option_map (λ c. column_tree c.now) column.entry) (option_map (λ e. element_view e.now) element.entry) (value_view member.now)) }
 {
     let Some(numbers) = box_in(version, member) else {
         return Ok(());
     };
     let mut beyond = Vec::new(alloc);
     add_ranges(alloc, &mut beyond, key, numbers)?;
-    add_judged(alloc, findings, version, column, member, beyond)
+    add_judged(alloc, findings, version, column, element, member, beyond)
 }

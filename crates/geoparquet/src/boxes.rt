@@ -7,6 +7,7 @@ ghost use Rattle.json.specs.Value.{value_view, items_view};
 ghost use Rattle.arrow_values.specs.Texts.{text_of};
 ghost use Rattle.value_tokens.specs.Values.{IsReadable};
 ghost use Rattle.arrow_columns.specs.Column.{column_tree};
+ghost use Rattle.geoparquet.specs.Sources.{element_view};
 ghost use Rattle.geoparquet.specs.Counting.{crs_that_counts, is_projected};
 ghost use Rattle.geoparquet.specs.Findings.{finding};
 ghost use Rattle.geoparquet.specs.Rules.{items_findings};
@@ -22,6 +23,7 @@ use crate::version::is_judged;
 use arrow_columns::SchemaColumn;
 use geoarrow_layout::Dimension;
 use json::Value;
+use parquet_columns::ElementClaim;
 use std::alloc::{AllocError, Global};
 use value_tokens::member_of;
 
@@ -152,15 +154,18 @@ pub(crate) fn add_bbox_order(
     version: Version,
     key: &str,
     column: Option<&SchemaColumn>,
+    element: Option<&ElementClaim>,
     member: &Value<'_>,
 ) -> Result<(), AllocError>
     requires { IsReadable (value_view member.now) }
-    ensures { OnOk result (map finding findings.new.items ≡ map finding findings.old.items ++ bbox_order_findings version key.now (option_map (λ c. column_tree c.now) column.entry) (value_view member.now)) }
+    ensures { OnOk result (map finding findings.new.items ≡ map finding findings.old.items ++ bbox_order_findings version key.now (option_map (λ c. column_tree c.now) column.entry) (option_map (λ e. element_view e.now) element.entry) (value_view member.now)) }
 {
     let Some(numbers) = box_in(version, member) else {
         return Ok(());
     };
-    add_x_order(alloc, findings, version, key, column, member, numbers)?;
+    add_x_order(
+        alloc, findings, version, key, column, element, member, numbers,
+    )?;
     add_order(alloc, findings, key, numbers)
 }
 
@@ -171,21 +176,28 @@ fn add_x_order(
     version: Version,
     key: &str,
     column: Option<&SchemaColumn>,
+    element: Option<&ElementClaim>,
     member: &Value<'_>,
     numbers: &[Value<'_>],
 ) -> Result<(), AllocError>
     requires { All IsReadable (map value_view numbers.now) }
-    ensures { OnOk result (map finding findings.new.items ≡ map finding findings.old.items ++ x_order_findings (is_projected (crs_that_counts version (option_map (λ c. column_tree c.now) column.entry) (value_view member.now))) key.now (map value_view numbers.now)) }
+    ensures { OnOk result (map finding findings.new.items ≡ map finding findings.old.items ++ x_order_findings (is_projected (crs_that_counts version (option_map (λ c. column_tree c.now) column.entry) (option_map (λ e. element_view e.now) element.entry) (value_view member.now))) key.now (map value_view numbers.now)) }
 {
     let size = numbers.len();
     if size == 4 {
-        return add_x_axis(alloc, findings, version, key, column, member, numbers, 2);
+        return add_x_axis(
+            alloc, findings, version, key, column, element, member, numbers, 2,
+        );
     }
     if size == 6 {
-        return add_x_axis(alloc, findings, version, key, column, member, numbers, 3);
+        return add_x_axis(
+            alloc, findings, version, key, column, element, member, numbers, 3,
+        );
     }
     if size == 8 {
-        return add_x_axis(alloc, findings, version, key, column, member, numbers, 4);
+        return add_x_axis(
+            alloc, findings, version, key, column, element, member, numbers, 4,
+        );
     }
     Ok(())
 }
@@ -197,17 +209,20 @@ fn add_x_axis(
     version: Version,
     key: &str,
     column: Option<&SchemaColumn>,
+    element: Option<&ElementClaim>,
     member: &Value<'_>,
     numbers: &[Value<'_>],
     greatest: usize,
 ) -> Result<(), AllocError>
     requires readable { All IsReadable (map value_view numbers.now) }
     requires high { greatest < length numbers.now }
-    ensures { OnOk result (map finding findings.new.items ≡ map finding findings.old.items ++ x_axis_findings (is_projected (crs_that_counts version (option_map (λ c. column_tree c.now) column.entry) (value_view member.now))) key.now (map value_view numbers.now) greatest) }
+    ensures { OnOk result (map finding findings.new.items ≡ map finding findings.old.items ++ x_axis_findings (is_projected (crs_that_counts version (option_map (λ c. column_tree c.now) column.entry) (option_map (λ e. element_view e.now) element.entry) (value_view member.now))) key.now (map value_view numbers.now) greatest) }
 {
     let low = &numbers[0];
     let high = &numbers[greatest];
-    add_x(alloc, findings, version, key, column, member, low, high)
+    add_x(
+        alloc, findings, version, key, column, element, member, low, high,
+    )
 }
 
 /// Adds what is found of the bounds of x: only where the least is greater, and the CRS that counts is
@@ -218,17 +233,18 @@ fn add_x(
     version: Version,
     key: &str,
     column: Option<&SchemaColumn>,
+    element: Option<&ElementClaim>,
     member: &Value<'_>,
     least: &Value<'_>,
     greatest: &Value<'_>,
 ) -> Result<(), AllocError>
     requires { IsReadable (value_view least.now) }
-    ensures { OnOk result (map finding findings.new.items ≡ map finding findings.old.items ++ x_findings (is_projected (crs_that_counts version (option_map (λ c. column_tree c.now) column.entry) (value_view member.now))) key.now (value_view least.now) (value_view greatest.now)) }
+    ensures { OnOk result (map finding findings.new.items ≡ map finding findings.old.items ++ x_findings (is_projected (crs_that_counts version (option_map (λ c. column_tree c.now) column.entry) (option_map (λ e. element_view e.now) element.entry) (value_view member.now))) key.now (value_view least.now) (value_view greatest.now)) }
 {
     if is_in_order(least, greatest) {
         return Ok(());
     }
-    if !counts_projected(alloc, version, column, member)? {
+    if !counts_projected(alloc, version, column, element, member)? {
         return Ok(());
     }
     add_greater(alloc, findings, key, 0, least, greatest)

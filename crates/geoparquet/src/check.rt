@@ -1,41 +1,51 @@
 //! What is found of the metadata at the key `geo`.
-ghost use Rattle.std.specs.Prelude.{◌≡◌, ◌++◌, List, IfOk, OnOk, map, None, option_and_then};
+ghost use Rattle.std.specs.Prelude.{◌≡◌, ◌∷◌, ◌++◌, [], IfOk, OnOk, map, option_and_then};
 ghost use Rattle.json.specs.Find.{as_str, get};
 ghost use Rattle.json.specs.Value.{value_view};
 ghost use Rattle.value_tokens.specs.Values.{IsReadable};
 ghost use Rattle.arrow_values.specs.Texts.{text_of};
-ghost use Rattle.serde_json.specs.Read.{read};
-ghost use Rattle.arrow_columns.specs.Column.{ColumnTree, column_tree};
+ghost use Rattle.arrow_columns.specs.Column.{column_tree};
 ghost use Rattle.geoparquet.specs.CoveringAbsent.{first_box};
 ghost use Rattle.geoparquet.specs.Findings.{finding};
 ghost use Rattle.geoparquet.specs.Extensions.{IsJson};
 ghost use Rattle.geoparquet.specs.Ordered.{columns_of, members_entries};
 ghost use Rattle.geoparquet.specs.Versions.{version_of};
-ghost use Rattle.geoparquet.specs.GeoFindings.{columns_findings, is_primary, has_primary, primary_findings, members_findings, missing_findings, object_findings, geo_findings, AreGeoFindings, AreRead};
+ghost use Rattle.geoparquet.specs.GeoFindings.{columns_findings, is_primary, has_primary, primary_findings, members_findings, column_alone_findings, alone_findings, missing_findings, object_findings, json_findings, geo_findings, unread_finding, AreTextFindings, AreValueFindings, AreSourceFindings, AreGeoFindings, AreRead};
+ghost use Rattle.geoparquet.specs.Sources.{source, element_view, sourced, AreElements};
+ghost use Rattle.geoparquet.specs.Spelled.{spelled};
+ghost use Rattle.geoparquet.specs.Undeclared.{no_metadata_findings};
+ghost use Rattle.geoparquet.specs.declared.finding.Version.{Version};
 
 use crate::adding::add_at;
 use crate::code::GeoCode;
-use crate::column::{add_member, is_object};
+use crate::column::{add_member, add_own, is_object};
 use crate::covering_absent::first_box;
 use crate::finding::{GeoFinding, GeoReport, Version};
 use crate::ordered::{ByKey, are_some, has_member, members_in};
 use crate::place::shown;
-use crate::undeclared::add_undeclared;
+use crate::source::GeoSource;
+use crate::sources::{Sourced, Sources, with_elements};
+use crate::spelled::spelled;
+use crate::undeclared::{add_no_metadata, add_undeclared};
 use crate::version::{add_version, version_of};
 use arrow_columns::{ColumnNames, SchemaColumn};
 use json::{Scratch, Value};
+use parquet_columns::ElementClaim;
 use std::alloc::{AllocError, Global};
+use std::collections::BTreeMap;
 use value_tokens::{Refusal, member_of, read_json};
 
-/// Returns what is found of the metadata `geo`, the text at the key `geo` of a file with these columns
-/// (docs/FORMAT.md, 5): the version by which they are judged, and a finding for each rule that is not
-/// kept, where it is not. Of a text that is no JSON, and of one that is no object, that alone is
-/// found. Where a key of an object is repeated, its last value counts. Errs only when out of memory.
+/// Returns what is found of what a file with these columns has at the key `geo`, where `elements` are
+/// what its elements say beside its columns, in order (docs/FORMAT.md, 5): the version by which the
+/// metadata are judged, and a finding for each rule that is not kept, where it is not. Of a value that
+/// is no UTF-8 or no JSON, and of one that is no object, that is found, and what the element and the
+/// field of a column say of one fact. A column beyond those of `elements` has none. Where a key of an
+/// object is repeated, its last value counts. Errs only when out of memory.
 ///
-/// Takes time that grows with the length of the text and the number of columns, times the logarithm
+/// Takes time that grows with the length of the value and the number of columns, times the logarithm
 /// of the number of members of `columns`; with the number of coverings times that of the children of
-/// their groups; and with the number of columns that have an extension name of geometries and no
-/// member, times that of members.
+/// their groups; and with the number of columns that hold geometries and have no member, times that of
+/// members.
 ///
 /// ```rust
 /// let column = SchemaColumn {
@@ -46,41 +56,123 @@ use value_tokens::{Refusal, member_of, read_json};
 /// };
 /// let columns = vec![in alloc; column]?;
 /// let geo = r#"{"version":"1.1.0","primary_column":"geom","columns":{"geom":{"encoding":"WKB","geometry_types":["Dot"]}}}"#;
-/// let report = check_geo(alloc, geo, columns.as_slice())?;
+/// let report = check_geo(alloc, GeoSource::Value(geo.as_bytes()), columns.as_slice(), &[])?;
 /// assert_eq!(rt; report.findings.len(), 1);
 /// assert_eq!(rt; report.findings[0].pointer.as_str(), "/columns/geom/geometry_types/0");
 /// ```
 pub fn check_geo(
     alloc: Global,
+    geo: GeoSource<'_>,
+    columns: &[SchemaColumn],
+    elements: &[ElementClaim],
+) -> Result<GeoReport, AllocError>
+    ensures { IfOk result (λ report. AreGeoFindings (source geo.entry) (map column_tree columns.now) (map element_view elements.now) report.version (map finding report.findings.items)) }
+{
+    let all = with_elements(alloc, columns, elements)?;
+    source_report(alloc, geo, columns, all.as_slice())
+}
+
+/// Returns what is found of what a file has at the key `geo`. Errs only when out of memory.
+fn source_report(
+    alloc: Global,
+    geo: GeoSource<'_>,
+    columns: &[SchemaColumn],
+    all: &[Sourced<'_>],
+) -> Result<GeoReport, AllocError>
+    ensures { IfOk result (λ report. AreSourceFindings (source geo.entry) (map column_tree columns.now) (map sourced all.now) report.version (map finding report.findings.items)) }
+{
+    match geo {
+        GeoSource::Unasked => report_with(alloc, Vec::new(alloc), all),
+        GeoSource::Missing => missing_report(alloc, all),
+        GeoSource::Value(bytes) => value_report(alloc, bytes, columns, all),
+    }
+}
+
+/// Returns findings, and behind them what is found of columns, where there are no members. Errs only
+/// when out of memory.
+fn report_with(
+    alloc: Global,
+    findings: Vec<GeoFinding>,
+    all: &[Sourced<'_>],
+) -> Result<GeoReport, AllocError>
+    ensures version { IfOk result (λ report. report.version ≡ Version.V1_1) }
+    ensures findings { IfOk result (λ report. map finding report.findings.items ≡ map finding findings.items ++ alone_findings [] (map sourced all.now)) }
+{
+    let mut findings = findings;
+    let members = BTreeMap::new(alloc);
+    add_alone(alloc, &mut findings, &members, all)?;
+    Ok(GeoReport {
+        version: Version::V1_1,
+        findings,
+    })
+}
+
+/// Returns what is found of a file without a value at the key `geo`. Errs only when out of memory.
+fn missing_report(alloc: Global, all: &[Sourced<'_>]) -> Result<GeoReport, AllocError>
+    ensures version { IfOk result (λ report. report.version ≡ Version.V1_1) }
+    ensures findings { IfOk result (λ report. map finding report.findings.items ≡ no_metadata_findings (map sourced all.now) ++ alone_findings [] (map sourced all.now)) }
+{
+    let mut findings = Vec::new(alloc);
+    add_no_metadata(alloc, &mut findings, all)?;
+    report_with(alloc, findings, all)
+}
+
+/// Returns what is found of a value. Errs only when out of memory.
+fn value_report(
+    alloc: Global,
+    bytes: &[u8],
+    columns: &[SchemaColumn],
+    all: &[Sourced<'_>],
+) -> Result<GeoReport, AllocError>
+    ensures { IfOk result (λ report. AreValueFindings bytes.now (map column_tree columns.now) (map sourced all.now) report.version (map finding report.findings.items)) }
+{
+    match str::from_utf8(bytes) {
+        Ok(geo) => text_report(alloc, geo, columns, all),
+        Err(_) => spelled_report(alloc, bytes, all),
+    }
+}
+
+/// Returns what is found of a value that is no UTF-8. Errs only when out of memory.
+fn spelled_report(alloc: Global, bytes: &[u8], all: &[Sourced<'_>]) -> Result<GeoReport, AllocError>
+    ensures { IfOk result (λ report. (report.version ≡ Version.V1_1)
+        × (map finding report.findings.items ≡ unread_finding (spelled bytes.now) ∷ alone_findings [] (map sourced all.now))) }
+{
+    let text = spelled(alloc, bytes)?;
+    unread_report(alloc, text.as_str(), all)
+}
+
+/// Returns what is found of a text. Errs only when out of memory.
+fn text_report(
+    alloc: Global,
     geo: &str,
     columns: &[SchemaColumn],
+    all: &[Sourced<'_>],
 ) -> Result<GeoReport, AllocError>
-    ensures { IfOk result (λ report. AreGeoFindings geo.now (map column_tree columns.now) report.version (map finding report.findings.items)) }
+    ensures { IfOk result (λ report. AreTextFindings geo.now (map column_tree columns.now) (map sourced all.now) report.version (map finding report.findings.items)) }
 {
     let mut scratch = Scratch::new(alloc);
     match read_json(alloc, geo, &mut scratch) {
-        Ok(value) => report_of(alloc, geo, &value, columns),
-        Err(Refusal::Text) => unread_report(alloc, geo),
+        Ok(value) => report_of(alloc, geo, &value, columns, all),
+        Err(Refusal::Text) => unread_report(alloc, geo, all),
         Err(Refusal::Memory) => Err(AllocError),
     }
 }
 
-/// Returns what is found of a text that is no JSON. Errs only when out of memory.
-fn unread_report(alloc: Global, geo: &str) -> Result<GeoReport, AllocError>
-    requires { read geo.now ≡ None }
-    ensures { IfOk result (λ report. (cs : List ColumnTree) → AreGeoFindings geo.now cs report.version (map finding report.findings.items)) }
+/// Returns what is found of a value that is no JSON, as it is shown. Errs only when out of memory.
+fn unread_report(alloc: Global, text: &str, all: &[Sourced<'_>]) -> Result<GeoReport, AllocError>
+    ensures version { IfOk result (λ report. report.version ≡ Version.V1_1) }
+    ensures findings { IfOk result (λ report. map finding report.findings.items ≡ unread_finding text.now ∷ alone_findings [] (map sourced all.now)) }
 {
     let found = GeoFinding {
         code: GeoCode::NotJson,
         column: None,
         pointer: String::new(alloc),
-        found: Some(shown(alloc, geo)?),
+        found: Some(shown(alloc, text)?),
         wanted: None,
     };
-    let version = Version::V1_1;
     let mut findings = Vec::new(alloc);
     findings.push(found)?;
-    Ok(GeoReport { version, findings })
+    report_with(alloc, findings, all)
 }
 
 /// Returns what is found of the JSON value that a text is. Errs only when out of memory.
@@ -89,30 +181,52 @@ fn report_of(
     geo: &str,
     value: &Value<'_>,
     columns: &[SchemaColumn],
+    all: &[Sourced<'_>],
 ) -> Result<GeoReport, AllocError>
     requires is { IsJson geo.now (value_view value.now) }
     requires read { IsReadable (value_view value.now) }
-    ensures { IfOk result (λ report. AreGeoFindings geo.now (map column_tree columns.now) report.version (map finding report.findings.items)) }
+    ensures { IfOk result (λ report. AreTextFindings geo.now (map column_tree columns.now) (map sourced all.now) report.version (map finding report.findings.items)) }
 {
     let version = version_of(value);
     let mut findings = Vec::new(alloc);
-    add_all(alloc, &mut findings, value, columns)?;
+    add_all(alloc, &mut findings, value, columns, all)?;
     Ok(GeoReport { version, findings })
 }
 
-/// Adds what is found of a JSON value. Errs only when out of memory.
+/// Adds what is found of a JSON value, and of columns that have no member. Errs only when out of
+/// memory.
 fn add_all(
     alloc: Global,
     findings: &mut Vec<GeoFinding>,
     value: &Value<'_>,
     columns: &[SchemaColumn],
+    all: &[Sourced<'_>],
 ) -> Result<(), AllocError>
     requires { IsReadable (value_view value.now) }
     ensures { OnOk result (map finding findings.new.items ≡ map finding findings.old.items
-        ++ geo_findings (map column_tree columns.now) (value_view value.now)) }
+        ++ geo_findings (map column_tree columns.now) (map sourced all.now) (value_view value.now)) }
+{
+    let members = members_in(alloc, member_of(value, "columns"))?;
+    add_json(alloc, findings, value, columns, all, &members)?;
+    add_alone(alloc, findings, &members, all)
+}
+
+/// Adds what is found of a JSON value. Errs only when out of memory.
+fn add_json(
+    alloc: Global,
+    findings: &mut Vec<GeoFinding>,
+    value: &Value<'_>,
+    columns: &[SchemaColumn],
+    all: &[Sourced<'_>],
+    members: &ByKey<'_, '_>,
+) -> Result<(), AllocError>
+    requires read { IsReadable (value_view value.now) }
+    requires members { members_entries members.now.entries ≡ columns_of (value_view value.now) }
+    ensures { OnOk result (map finding findings.new.items ≡ map finding findings.old.items
+        ++ json_findings (map column_tree columns.now) (map sourced all.now) (value_view value.now)) }
 {
     if is_object(value) {
-        return add_object(alloc, findings, value, columns);
+        return add_object(alloc, findings, value, columns, all, members);
     }
     add_at(
         alloc,
@@ -131,19 +245,21 @@ fn add_object(
     findings: &mut Vec<GeoFinding>,
     value: &Value<'_>,
     columns: &[SchemaColumn],
+    all: &[Sourced<'_>],
+    members: &ByKey<'_, '_>,
 ) -> Result<(), AllocError>
-    requires { IsReadable (value_view value.now) }
+    requires read { IsReadable (value_view value.now) }
+    requires members { members_entries members.now.entries ≡ columns_of (value_view value.now) }
     ensures { OnOk result (map finding findings.new.items ≡ map finding findings.old.items
-        ++ object_findings (map column_tree columns.now) (value_view value.now)) }
+        ++ object_findings (map column_tree columns.now) (map sourced all.now) (value_view value.now)) }
 {
-    let members = members_in(alloc, member_of(value, "columns"))?;
     let names = ColumnNames::new(alloc, columns)?;
     let boxed = first_box(columns);
     add_version(alloc, findings, value)?;
-    add_columns(alloc, findings, value, &members)?;
-    add_primary(alloc, findings, value, &members)?;
-    add_members(alloc, findings, value, &names, boxed, &members)?;
-    add_missing(alloc, findings, value, columns, &members)
+    add_columns(alloc, findings, value, members)?;
+    add_primary(alloc, findings, value, members)?;
+    add_members(alloc, findings, value, &names, all, boxed, members)?;
+    add_missing(alloc, findings, value, all, members)
 }
 
 /// Adds what is found of `columns`. Errs only when out of memory.
@@ -231,16 +347,20 @@ fn add_each(
     findings: &mut Vec<GeoFinding>,
     version: Version,
     columns: &ColumnNames<'_>,
+    sources: &Sources<'_>,
     boxed: Option<&str>,
     members: &ByKey<'_, '_>,
 ) -> Result<(), AllocError>
     requires boxed { text_of boxed ≡ first_box (map column_tree columns.now) }
+    requires named { AreElements (map sourced sources.now.all.now) sources.now.named }
     requires read { AreRead (members_entries members.now.entries) }
     ensures { OnOk result (map finding findings.new.items ≡ map finding findings.old.items
-        ++ members_findings (map column_tree columns.now) version (members_entries members.now.entries)) }
+        ++ members_findings (map column_tree columns.now) (map sourced sources.now.all.now) version (members_entries members.now.entries)) }
 {
     for (key, member) in members.iter() {
-        add_member(alloc, findings, columns, boxed, version, key, member)?;
+        add_member(
+            alloc, findings, columns, sources, boxed, version, key, member,
+        )?;
     }
     Ok(())
 }
@@ -251,6 +371,7 @@ fn add_members(
     findings: &mut Vec<GeoFinding>,
     value: &Value<'_>,
     columns: &ColumnNames<'_>,
+    all: &[Sourced<'_>],
     boxed: Option<&str>,
     members: &ByKey<'_, '_>,
 ) -> Result<(), AllocError>
@@ -258,26 +379,72 @@ fn add_members(
     requires read { IsReadable (value_view value.now) }
     requires members { members_entries members.now.entries ≡ columns_of (value_view value.now) }
     ensures { OnOk result (map finding findings.new.items ≡ map finding findings.old.items
-        ++ members_findings (map column_tree columns.now) (version_of (value_view value.now)) (columns_of (value_view value.now))) }
+        ++ members_findings (map column_tree columns.now) (map sourced all.now) (version_of (value_view value.now)) (columns_of (value_view value.now))) }
 {
-    add_each(alloc, findings, version_of(value), columns, boxed, members)
+    let sources = Sources::new(alloc, all)?;
+    add_each(
+        alloc,
+        findings,
+        version_of(value),
+        columns,
+        &sources,
+        boxed,
+        members,
+    )
 }
 
-/// Adds what is found of columns without a member. Errs only when out of memory.
+/// Adds what is found of columns that lack a member. Errs only when out of memory.
 fn add_missing(
     alloc: Global,
     findings: &mut Vec<GeoFinding>,
     value: &Value<'_>,
-    columns: &[SchemaColumn],
+    all: &[Sourced<'_>],
     members: &ByKey<'_, '_>,
 ) -> Result<(), AllocError>
     requires read { IsReadable (value_view value.now) }
     requires members { members_entries members.now.entries ≡ columns_of (value_view value.now) }
     ensures { OnOk result (map finding findings.new.items ≡ map finding findings.old.items
-        ++ missing_findings (map column_tree columns.now) (value_view value.now)) }
+        ++ missing_findings (map sourced all.now) (value_view value.now)) }
 {
     if !are_some(members) {
         return Ok(());
     }
-    add_undeclared(alloc, findings, members, columns)
+    add_undeclared(alloc, findings, members, all)
+}
+
+/// Adds what the element and the field of a column say of one fact, where it has no member. Errs only
+/// when out of memory.
+fn add_column_alone(
+    alloc: Global,
+    findings: &mut Vec<GeoFinding>,
+    members: &ByKey<'_, '_>,
+    it: &Sourced<'_>,
+) -> Result<(), AllocError>
+    ensures { OnOk result (map finding findings.new.items ≡ map finding findings.old.items
+        ++ column_alone_findings (members_entries members.now.entries) (sourced it.now)) }
+{
+    let name = it.column.name.as_str();
+    if has_member(name, members) {
+        return Ok(());
+    }
+    add_own(alloc, findings, name, Some(it.column), it.element)
+}
+
+/// Adds what the elements and the fields of columns say of one fact, where these have no member. Errs
+/// only when out of memory.
+fn add_alone(
+    alloc: Global,
+    findings: &mut Vec<GeoFinding>,
+    members: &ByKey<'_, '_>,
+    all: &[Sourced<'_>],
+) -> Result<(), AllocError>
+    ensures { OnOk result (map finding findings.new.items ≡ map finding findings.old.items
+        ++ alone_findings (members_entries members.now.entries) (map sourced all.now)) }
+{
+    let mut left = all;
+    'columns: while let [it, rest @ ..] = left {
+        add_column_alone(alloc, findings, members, it)?;
+        left = rest;
+    }
+    Ok(())
 }

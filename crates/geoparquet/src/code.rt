@@ -2,23 +2,16 @@
 ghost use Rattle.std.specs.Prelude.{◌≡◌};
 ghost use Rattle.geoparquet.specs.Codes.{code_of, severity_of};
 
-/// How much a finding weighs.
-#[derive(Clone, Copy, Debug, PartialEq, Eq)]
-pub enum Severity {
-    /// The file breaks a rule of its format, or contradicts itself.
-    Error,
-    /// The file keeps the rules, and readers may take it otherwise than it is meant.
-    Warning,
-    /// What is worth to know, and nothing is to be done.
-    Note,
-}
+use column_check::Severity;
 
 /// A rule that the metadata at the key `geo` do not keep (docs/FORMAT.md, 5). Those up to
 /// `PrimaryColumn` are of all the metadata, but for `Member` and `ColumnUndeclared`; the others of
 /// one column.
 #[derive(Clone, Copy, Debug, PartialEq, Eq)]
 pub enum GeoCode {
-    /// The text is no JSON.
+    /// There is no value at the key `geo`, and a column holds geometries by its field alone.
+    NoMetadata,
+    /// The value is no UTF-8, or no JSON.
     NotJson,
     /// It is JSON, and no object.
     NotObject,
@@ -81,13 +74,13 @@ pub enum GeoCode {
     CoveringShape,
     /// A group has the children of a covering, and no covering names it.
     CoveringAbsent,
-    /// `encoding` is another than the extension name of the column says.
+    /// Two of the element, the field and `geo` say two encodings.
     EncodingContradicts,
-    /// `crs` is another than the column's own metadata say.
+    /// Two of them say two CRSs.
     CrsContradicts,
-    /// `crs` and the column's own metadata say CRSs of which it is not known whether they are one.
+    /// Two of them say CRSs of which it is not known whether they are one, and no two say two.
     CrsNotCompared,
-    /// `edges` are others than the column's own metadata say.
+    /// Two of them say two kinds of edges.
     EdgesContradict,
     /// The edges are not planar, and the CRS is projected.
     EdgesOnProjected,
@@ -103,6 +96,7 @@ impl GeoCode {
         ensures { result.now ≡ code_of self }
     {
         match self {
+            Self::NoMetadata => "NoGeoMetadata",
             Self::NotJson => "GeoNotJson",
             Self::NotObject => "GeoNotObject",
             Self::Version => "GeoVersion",
@@ -147,7 +141,8 @@ impl GeoCode {
         ensures { result ≡ severity_of self }
     {
         match self {
-            Self::OldVersion
+            Self::NoMetadata
+            | Self::OldVersion
             | Self::ColumnUndeclared
             | Self::BboxRange
             | Self::BboxDimension

@@ -10,19 +10,22 @@ ghost use Rattle.geoparquet.specs.Findings.{finding};
 ghost use Rattle.std.specs.List.{All};
 ghost use Rattle.geoparquet.specs.Rules.{item_finding, items_findings, unless};
 ghost use Rattle.geoparquet.specs.TypeRules.{is_text};
-ghost use Rattle.geoparquet.specs.Contradictions.{layout_in, stored_layout, encoding_finding, encoding_layout_findings, layout_findings, single_of, goes_with, types_contradict_findings, own_encoding, named_encoding, encodings_findings, encoding_contradicts_findings, said_edges, own_metadata, edges_at, own_edges, two_edges_findings, edges_contradict_findings};
+ghost use Rattle.geoparquet.specs.Contradictions.{layout_in, stored_layout, encoding_finding, encoding_layout_findings, layout_findings, single_of, goes_with, types_contradict_findings, own_encoding, named_encoding, element_encoding, field_encoding, layout_encoding, encodings_findings, encoding_contradicts_findings, said_edges, own_metadata, edges_at, own_edges, element_metadata, edges_in, element_edges, field_edges, edges_claims_findings, edges_contradict_findings};
+ghost use Rattle.geoparquet.specs.Sources.{element_view};
 
 use crate::adding::add_part;
 use crate::code::GeoCode;
 use crate::finding::{GeoFinding, Version};
 use crate::layout::{Layout, layout_of};
 use crate::members::{encoding_of, is_edges_value};
+use crate::pairs::add_texts;
 use crate::place::{item_finding, part_place};
 use crate::types::{type_of, type_text, types_in};
 use crate::values::geo_value;
 use arrow_columns::SchemaColumn;
 use geoarrow_layout::{Dimension, NativeKind};
 use json::Value;
+use parquet_columns::ElementClaim;
 use std::alloc::{AllocError, Global};
 use value_tokens::member_of;
 
@@ -222,57 +225,99 @@ fn named_encoding(column: Option<&SchemaColumn>) -> Option<&'static str>
     own_encoding(column?.extension_type_name()?)
 }
 
-/// Adds what is found where both encodings are there, and are not one. Errs only when out of memory.
-fn add_encodings(
+/// Returns the encoding that an element says.
+pub(crate) fn element_encoding(element: Option<&ElementClaim>) -> Option<&'static str>
+    ensures { text_of result ≡ element_encoding (option_map (λ e. element_view e.now) element.entry) }
+{
+    let Some(element) = element else {
+        return None;
+    };
+    match element {
+        ElementClaim::Silent => None,
+        ElementClaim::Given { .. } => Some("WKB"),
+        ElementClaim::Beside(_) => Some("WKB"),
+    }
+}
+
+/// Returns the encoding that a field says.
+fn field_encoding(
+    element: Option<&ElementClaim>,
+    column: Option<&SchemaColumn>,
+) -> Option<&'static str>
+    ensures { text_of result ≡ field_encoding (option_map (λ e. element_view e.now) element.entry) (option_map (λ c. column_tree c.now) column.entry) }
+{
+    let Some(element) = element else {
+        return named_encoding(column);
+    };
+    match element {
+        ElementClaim::Silent => named_encoding(column),
+        ElementClaim::Given { .. } => None,
+        ElementClaim::Beside(_) => named_encoding(column),
+    }
+}
+
+/// Returns the encoding that a member says, where the column has the layout of it.
+fn layout_encoding<'a>(
+    version: Version,
+    column: Option<&SchemaColumn>,
+    member: &Value<'a>,
+) -> Option<&'a str>
+    requires { IsReadable (value_view member.now) }
+    ensures { text_of result ≡ layout_encoding version (option_map (λ c. column_tree c.now) column.entry) (value_view member.now) }
+{
+    if stored_layout(version, column, member).is_some() {
+        encoding_of(version, member)
+    } else {
+        None
+    }
+}
+
+/// Adds what is found where two of the element, the field and `encoding` say two. Errs only when out
+/// of memory.
+pub(crate) fn add_encodings(
     alloc: Global,
     findings: &mut Vec<GeoFinding>,
     key: &str,
-    member: &Value<'_>,
+    found: Option<&Value<'_>>,
+    column: Option<&SchemaColumn>,
+    element: Option<&ElementClaim>,
     said: Option<&str>,
-    own: Option<&str>,
 ) -> Result<(), AllocError>
-    requires { IsReadable (value_view member.now) }
+    requires { IfSome found (λ v. IsReadable (value_view v.now)) }
     ensures { OnOk result (map finding findings.new.items ≡ map finding findings.old.items
-        ++ encodings_findings key.now (value_view member.now) (text_of said.entry) (text_of own.entry)) }
+        ++ encodings_findings key.now (option_map (λ v. value_view v.now) found.entry) (option_map (λ c. column_tree c.now) column.entry) (option_map (λ e. element_view e.now) element.entry) (text_of said.entry)) }
 {
-    let Some(said) = said else {
-        return Ok(());
-    };
-    let Some(own) = own else {
-        return Ok(());
-    };
-    if said == own {
-        return Ok(());
-    }
-    add_at_encoding(
+    add_texts(
         alloc,
         findings,
         GeoCode::EncodingContradicts,
         key,
-        member,
-        own,
+        "encoding",
+        found,
+        element_encoding(element),
+        field_encoding(element, column),
+        said,
     )
 }
 
-/// Adds what is found where `encoding` and the extension name of the column say two (docs/FORMAT.md,
-/// 5.1). Errs only when out of memory.
+/// Adds what is found where two of the element, the field and `encoding` of a member say two
+/// (docs/FORMAT.md, 5.1). Errs only when out of memory.
 pub(crate) fn add_encoding_contradicts(
     alloc: Global,
     findings: &mut Vec<GeoFinding>,
     version: Version,
     key: &str,
     column: Option<&SchemaColumn>,
+    element: Option<&ElementClaim>,
     member: &Value<'_>,
 ) -> Result<(), AllocError>
     requires { IsReadable (value_view member.now) }
     ensures { OnOk result (map finding findings.new.items ≡ map finding findings.old.items
-        ++ encoding_contradicts_findings version key.now (option_map (λ c. column_tree c.now) column.entry) (value_view member.now)) }
+        ++ encoding_contradicts_findings version key.now (option_map (λ c. column_tree c.now) column.entry) (option_map (λ e. element_view e.now) element.entry) (value_view member.now)) }
 {
-    if stored_layout(version, column, member).is_none() {
-        return Ok(());
-    }
-    let said = encoding_of(version, member);
-    add_encodings(alloc, findings, key, member, said, named_encoding(column))
+    let said = layout_encoding(version, column, member);
+    let found = member_of(member, "encoding");
+    add_encodings(alloc, findings, key, found, column, element, said)
 }
 
 /// Returns the edges that a member says.
@@ -320,7 +365,7 @@ fn edges_at(found: Option<&serde_json::Value>) -> Option<&str>
 }
 
 /// Returns the edges that extension metadata say.
-pub(crate) fn own_edges(own: &serde_json::Value) -> Option<&str>
+fn own_edges(own: &serde_json::Value) -> Option<&str>
     ensures { text_of result ≡ own_edges (view own.now) }
 {
     if !own.is_object() {
@@ -329,55 +374,116 @@ pub(crate) fn own_edges(own: &serde_json::Value) -> Option<&str>
     edges_at(own.get("edges"))
 }
 
-/// Adds what is found where both edges are there, and are not one. Errs only when out of memory.
-fn add_two_edges(
+/// Returns the metadata of an element, as JSON; null where there are none. Errs only when out of
+/// memory.
+pub(crate) fn element_metadata(
+    alloc: Global,
+    element: Option<&ElementClaim>,
+    column: Option<&SchemaColumn>,
+) -> Result<serde_json::Value, AllocError>
+    ensures { IfOk result (λ value. view value ≡ element_metadata (option_map (λ e. element_view e.now) element.entry) (option_map (λ c. column_tree c.now) column.entry)) }
+{
+    let Some(element) = element else {
+        return Ok(serde_json::Value::Null);
+    };
+    match element {
+        ElementClaim::Silent => Ok(serde_json::Value::Null),
+        ElementClaim::Given { .. } => own_metadata(alloc, column),
+        ElementClaim::Beside(text) => geo_value(alloc, text.as_str()),
+    }
+}
+
+/// Returns the edges in the metadata of an element.
+fn edges_in(metadata: &serde_json::Value) -> Option<&str>
+    ensures { text_of result ≡ edges_in (view metadata.now) }
+{
+    match metadata {
+        serde_json::Value::Null => edges_at(None),
+        serde_json::Value::Object(_) => own_edges(metadata),
+        _ => None,
+    }
+}
+
+/// Returns the edges that an element says.
+pub(crate) fn element_edges<'v>(
+    element: Option<&ElementClaim>,
+    metadata: &'v serde_json::Value,
+) -> Option<&'v str>
+    ensures { text_of result ≡ element_edges (option_map (λ e. element_view e.now) element.entry) (view metadata.now) }
+{
+    let Some(element) = element else {
+        return None;
+    };
+    match element {
+        ElementClaim::Silent => None,
+        ElementClaim::Given { .. } => edges_in(metadata),
+        ElementClaim::Beside(_) => edges_in(metadata),
+    }
+}
+
+/// Returns the edges that a field says.
+pub(crate) fn field_edges<'v>(
+    element: Option<&ElementClaim>,
+    metadata: &'v serde_json::Value,
+) -> Option<&'v str>
+    ensures { text_of result ≡ field_edges (option_map (λ e. element_view e.now) element.entry) (view metadata.now) }
+{
+    let Some(element) = element else {
+        return own_edges(metadata);
+    };
+    match element {
+        ElementClaim::Silent => own_edges(metadata),
+        ElementClaim::Given { .. } => None,
+        ElementClaim::Beside(_) => own_edges(metadata),
+    }
+}
+
+/// Adds what is found where two of the element, the field and `edges` say two. Errs only when out of
+/// memory.
+pub(crate) fn add_edges_claims(
     alloc: Global,
     findings: &mut Vec<GeoFinding>,
     key: &str,
     found: Option<&Value<'_>>,
+    column: Option<&SchemaColumn>,
+    element: Option<&ElementClaim>,
     said: Option<&str>,
-    own: Option<&str>,
 ) -> Result<(), AllocError>
     requires { IfSome found (λ v. IsReadable (value_view v.now)) }
     ensures { OnOk result (map finding findings.new.items ≡ map finding findings.old.items
-        ++ two_edges_findings key.now (option_map (λ v. value_view v.now) found.entry) (text_of said.entry) (text_of own.entry)) }
+        ++ edges_claims_findings key.now (option_map (λ v. value_view v.now) found.entry) (option_map (λ c. column_tree c.now) column.entry) (option_map (λ e. element_view e.now) element.entry) (text_of said.entry)) }
 {
-    let Some(said) = said else {
-        return Ok(());
-    };
-    let Some(own) = own else {
-        return Ok(());
-    };
-    if said == own {
-        return Ok(());
-    }
-    add_part(
+    let metadata = element_metadata(alloc, element, column)?;
+    let own = own_metadata(alloc, column)?;
+    add_texts(
         alloc,
         findings,
         GeoCode::EdgesContradict,
         key,
         "edges",
         found,
-        Some(own),
+        element_edges(element, &metadata),
+        field_edges(element, &own),
+        said,
     )
 }
 
-/// Adds what is found where `edges` and the column's own metadata say two (docs/FORMAT.md, 5.1). Errs
-/// only when out of memory.
+/// Adds what is found where two of the element, the field and `edges` of a member say two
+/// (docs/FORMAT.md, 5.1). Errs only when out of memory.
 pub(crate) fn add_edges_contradict(
     alloc: Global,
     findings: &mut Vec<GeoFinding>,
     version: Version,
     key: &str,
     column: Option<&SchemaColumn>,
+    element: Option<&ElementClaim>,
     member: &Value<'_>,
 ) -> Result<(), AllocError>
     requires { IsReadable (value_view member.now) }
     ensures { OnOk result (map finding findings.new.items ≡ map finding findings.old.items
-        ++ edges_contradict_findings version key.now (option_map (λ c. column_tree c.now) column.entry) (value_view member.now)) }
+        ++ edges_contradict_findings version key.now (option_map (λ c. column_tree c.now) column.entry) (option_map (λ e. element_view e.now) element.entry) (value_view member.now)) }
 {
-    let own = own_metadata(alloc, column)?;
     let found = member_of(member, "edges");
     let said = said_edges(version, found);
-    add_two_edges(alloc, findings, key, found, said, own_edges(&own))
+    add_edges_claims(alloc, findings, key, found, column, element, said)
 }

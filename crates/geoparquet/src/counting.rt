@@ -7,18 +7,24 @@ ghost use Rattle.arrow_values.specs.Texts.{text_of};
 ghost use Rattle.arrow_columns.specs.Column.{column_tree};
 ghost use Rattle.crs_identity.specs.Verdicts.{claim};
 ghost use Rattle.geoparquet.specs.Findings.{finding};
-ghost use Rattle.geoparquet.specs.CrsClaims.{own_crs_in, said_crs};
-ghost use Rattle.geoparquet.specs.Counting.{counting, crs_that_counts, is_projected_class, is_projected, is_paired, is_said_paired, is_crs_paired, member_edges, is_planar, are_planar, edges_on_projected_findings};
+ghost use Rattle.geoparquet.specs.CrsClaims.{said_crs};
+ghost use Rattle.geoparquet.specs.Counting.{counting, crs_counting, crs_that_counts, is_projected_class, is_projected, is_asked, is_paired_by, is_crs_paired, member_edges, edges_that_count, is_planar, are_planar, edges_on_projected_findings};
+ghost use Rattle.geoparquet.specs.Identifiers.{default_identifier};
+ghost use Rattle.geoparquet.specs.Sources.{element_view};
+ghost use Rattle.json.specs.Json.{string};
 
 use crate::adding::add_part;
 use crate::code::GeoCode;
-use crate::contradictions::{own_edges, own_metadata, said_edges};
-use crate::crs_claims::{DEFAULT_CRS, own_crs_in, own_json, said_crs};
+use crate::contradictions::{
+    element_edges, element_metadata, field_edges, own_metadata, said_edges,
+};
+use crate::crs_claims::{DEFAULT_CRS, element_crs, element_json, field_json, own_crs_in, said_crs};
 use crate::finding::{GeoFinding, Version};
 use crate::version::is_judged;
 use arrow_columns::SchemaColumn;
 use crs_identity::{Claim, Class, class_of, has_paired_identifier};
 use json::{Scratch, Value};
+use parquet_columns::ElementClaim;
 use std::alloc::{AllocError, Global};
 use value_tokens::member_of;
 
@@ -29,59 +35,95 @@ fn is_projected_class(class: Option<Class>) -> bool
     matches!(class, Some(Class::Projected))
 }
 
-/// Returns whether a CRS is known to be projected. Errs only when out of memory.
-fn is_projected(alloc: Global, crs: Option<Claim<'_, '_>>) -> Result<bool, AllocError>
-    ensures { IfOk result (λ is. is ≡ is_projected (option_map claim crs.entry)) }
+/// What is asked of a CRS.
+#[derive(Clone, Copy, Debug, PartialEq, Eq)]
+enum Asked {
+    /// Whether it is known to be projected.
+    Projected,
+    /// Whether it has an identifier of the table of pairs.
+    Paired,
+}
+
+/// Returns what is asked of a CRS, and false where there is none. Errs only when out of memory.
+fn is_asked(alloc: Global, asked: Asked, crs: Option<Claim<'_, '_>>) -> Result<bool, AllocError>
+    ensures { IfOk result (λ is. is ≡ is_asked asked (option_map claim crs.entry)) }
 {
     let Some(said) = crs else {
         return Ok(false);
     };
-    Ok(is_projected_class(class_of(alloc, &said.crs)?))
+    match asked {
+        Asked::Projected => Ok(is_projected_class(class_of(alloc, &said.crs)?)),
+        Asked::Paired => has_paired_identifier(alloc, &said.crs),
+    }
 }
 
-/// Returns whether a CRS has an identifier of the table of pairs. Errs only when out of memory.
-fn is_paired(alloc: Global, crs: Option<Claim<'_, '_>>) -> Result<bool, AllocError>
-    ensures { IfOk result (λ is. is ≡ is_paired (option_map claim crs.entry)) }
-{
-    let Some(said) = crs else {
-        return Ok(false);
-    };
-    has_paired_identifier(alloc, &said.crs)
-}
-
-/// Returns whether the one of two CRSs that counts is projected. Errs only when out of memory.
-fn is_either_projected(
+/// Returns what is asked of the one of two CRSs that counts. Errs only when out of memory.
+fn is_asked_of_two(
     alloc: Global,
+    asked: Asked,
+    said: Option<Claim<'_, '_>>,
+    other: Option<Claim<'_, '_>>,
+) -> Result<bool, AllocError>
+    ensures { IfOk result (λ is. is ≡ is_asked asked (counting (option_map claim said.entry) (option_map claim other.entry))) }
+{
+    let Some(first) = said else {
+        return is_asked(alloc, asked, other);
+    };
+    let Some(second) = other else {
+        return is_asked(alloc, asked, Some(first));
+    };
+    if !first.is_default {
+        return is_asked(alloc, asked, Some(first));
+    }
+    if second.is_default {
+        return is_asked(alloc, asked, Some(first));
+    }
+    is_asked(alloc, asked, Some(second))
+}
+
+/// Returns what is asked of the one of three CRSs that counts. Errs only when out of memory.
+fn is_asked_of_three(
+    alloc: Global,
+    asked: Asked,
+    claimed: Option<Claim<'_, '_>>,
     said: Option<Claim<'_, '_>>,
     own: Option<Claim<'_, '_>>,
 ) -> Result<bool, AllocError>
-    ensures { IfOk result (λ is. is ≡ is_projected (counting (option_map claim said.entry) (option_map claim own.entry))) }
+    ensures { IfOk result (λ is. is ≡ is_asked asked (counting (counting (option_map claim claimed.entry) (option_map claim said.entry)) (option_map claim own.entry))) }
 {
-    let Some(said) = said else {
-        return is_projected(alloc, own);
+    let Some(first) = claimed else {
+        return is_asked_of_two(alloc, asked, said, own);
     };
-    let Some(own) = own else {
-        return is_projected(alloc, Some(said));
+    let Some(second) = said else {
+        return is_asked_of_two(alloc, asked, Some(first), own);
     };
-    if said.is_default {
-        return is_projected(alloc, Some(own));
+    if !first.is_default {
+        return is_asked_of_two(alloc, asked, Some(first), own);
     }
-    is_projected(alloc, Some(said))
+    if second.is_default {
+        return is_asked_of_two(alloc, asked, Some(first), own);
+    }
+    is_asked_of_two(alloc, asked, Some(second), own)
 }
 
-/// Returns whether the CRS that counts beside extension metadata is projected. Errs only when out
-/// of memory.
+/// Returns whether the CRS that counts is projected, by the metadata of the element and of the field.
+/// Errs only when out of memory.
 fn is_projected_beside(
     alloc: Global,
     version: Version,
+    element: Option<&ElementClaim>,
+    metadata: Option<&Value<'_>>,
     own: Option<&Value<'_>>,
     member: &Value<'_>,
 ) -> Result<bool, AllocError>
-    ensures { IfOk result (λ is. is ≡ is_projected (counting (said_crs version (get (codes "crs") (value_view member.now))) (own_crs_in (option_map (λ v. value_view v.now) own.entry)))) }
+    ensures { IfOk result (λ is. is ≡ is_projected (crs_counting (option_map (λ e. element_view e.now) element.entry) (option_map (λ v. value_view v.now) metadata.entry) (option_map (λ v. value_view v.now) own.entry) (said_crs version (get (codes "crs") (value_view member.now))))) }
 {
     let default = Value::String(DEFAULT_CRS);
     let said = said_crs(alloc, version, member.get("crs"), &default)?;
-    is_either_projected(alloc, said, own_crs_in(own))
+    let other = Value::String(DEFAULT_CRS);
+    let claimed = element_crs(element, metadata, &other);
+    let asked = Asked::Projected;
+    is_asked_of_three(alloc, asked, claimed, said, own_crs_in(own))
 }
 
 /// Returns whether the CRS that counts is projected. Errs only when out of memory.
@@ -89,49 +131,45 @@ pub(crate) fn counts_projected(
     alloc: Global,
     version: Version,
     column: Option<&SchemaColumn>,
+    element: Option<&ElementClaim>,
     member: &Value<'_>,
 ) -> Result<bool, AllocError>
-    ensures { IfOk result (λ is. is ≡ is_projected (crs_that_counts version (option_map (λ c. column_tree c.now) column.entry) (value_view member.now))) }
+    ensures { IfOk result (λ is. is ≡ is_projected (crs_that_counts version (option_map (λ c. column_tree c.now) column.entry) (option_map (λ e. element_view e.now) element.entry) (value_view member.now))) }
 {
     let mut scratch = Scratch::new(alloc);
-    let own = own_json(alloc, column, &mut scratch)?;
-    is_projected_beside(alloc, version, own.as_ref(), member)
+    let mut other = Scratch::new(alloc);
+    let metadata = element_json(alloc, element, column, &mut scratch)?;
+    let own = field_json(alloc, element, column, &mut other)?;
+    is_projected_beside(
+        alloc,
+        version,
+        element,
+        metadata.as_ref(),
+        own.as_ref(),
+        member,
+    )
 }
 
-/// Returns whether the one of two CRSs that counts has an identifier of the table of pairs, where the
-/// first is said. Errs only when out of memory.
-fn is_either_paired(
-    alloc: Global,
-    said: Option<Claim<'_, '_>>,
-    own: Option<Claim<'_, '_>>,
-) -> Result<bool, AllocError>
-    ensures { IfOk result (λ is. is ≡ is_said_paired (option_map claim said.entry) (option_map claim own.entry)) }
-{
-    let Some(said) = said else {
-        return Ok(false);
-    };
-    let Some(own) = own else {
-        return is_paired(alloc, Some(said));
-    };
-    if said.is_default {
-        return is_paired(alloc, Some(own));
-    }
-    is_paired(alloc, Some(said))
-}
-
-/// Returns whether the CRS that counts beside extension metadata has an identifier of the table of
-/// pairs, where the member says one. Errs only when out of memory.
+/// Returns whether the CRS that counts has an identifier of the table of pairs, where the member says
+/// one, by the metadata of the element and of the field. Errs only when out of memory.
 fn is_paired_beside(
     alloc: Global,
     version: Version,
+    element: Option<&ElementClaim>,
+    metadata: Option<&Value<'_>>,
     own: Option<&Value<'_>>,
     member: &Value<'_>,
 ) -> Result<bool, AllocError>
-    ensures { IfOk result (λ is. is ≡ is_said_paired (said_crs version (get (codes "crs") (value_view member.now))) (own_crs_in (option_map (λ v. value_view v.now) own.entry))) }
+    ensures { IfOk result (λ is. is ≡ is_paired_by (option_map (λ e. element_view e.now) element.entry) (option_map (λ v. value_view v.now) metadata.entry) (option_map (λ v. value_view v.now) own.entry) (said_crs version (get (codes "crs") (value_view member.now)))) }
 {
     let default = Value::String(DEFAULT_CRS);
-    let said = said_crs(alloc, version, member.get("crs"), &default)?;
-    is_either_paired(alloc, said, own_crs_in(own))
+    let Some(said) = said_crs(alloc, version, member.get("crs"), &default)? else {
+        return Ok(false);
+    };
+    let other = Value::String(DEFAULT_CRS);
+    let claimed = element_crs(element, metadata, &other);
+    let asked = Asked::Paired;
+    is_asked_of_three(alloc, asked, claimed, Some(said), own_crs_in(own))
 }
 
 /// Returns whether the CRS that counts has an identifier of the table of pairs, where the member says
@@ -140,13 +178,23 @@ pub(crate) fn counts_paired(
     alloc: Global,
     version: Version,
     column: Option<&SchemaColumn>,
+    element: Option<&ElementClaim>,
     member: &Value<'_>,
 ) -> Result<bool, AllocError>
-    ensures { IfOk result (λ is. is ≡ is_crs_paired version (option_map (λ c. column_tree c.now) column.entry) (value_view member.now)) }
+    ensures { IfOk result (λ is. is ≡ is_crs_paired version (option_map (λ c. column_tree c.now) column.entry) (option_map (λ e. element_view e.now) element.entry) (value_view member.now)) }
 {
     let mut scratch = Scratch::new(alloc);
-    let own = own_json(alloc, column, &mut scratch)?;
-    is_paired_beside(alloc, version, own.as_ref(), member)
+    let mut other = Scratch::new(alloc);
+    let metadata = element_json(alloc, element, column, &mut scratch)?;
+    let own = field_json(alloc, element, column, &mut other)?;
+    is_paired_beside(
+        alloc,
+        version,
+        element,
+        metadata.as_ref(),
+        own.as_ref(),
+        member,
+    )
 }
 
 /// Returns the edges that a member says, where it says some of the version's.
@@ -169,20 +217,32 @@ fn is_planar(edges: Option<&str>) -> bool
     }
 }
 
+/// Returns the first edges of two that are said.
+fn edges_that_count<'a>(said: Option<&'a str>, other: Option<&'a str>) -> Option<&'a str>
+    ensures { text_of result ≡ edges_that_count (text_of said.entry) (text_of other.entry) }
+{
+    match said {
+        Some(said) => Some(said),
+        None => other,
+    }
+}
+
 /// Returns whether the edges that count are planar. Errs only when out of memory.
 fn are_planar(
     alloc: Global,
     version: Version,
     column: Option<&SchemaColumn>,
+    element: Option<&ElementClaim>,
     found: Option<&Value<'_>>,
 ) -> Result<bool, AllocError>
-    ensures { IfOk result (λ are. are ≡ are_planar version (option_map (λ c. column_tree c.now) column.entry) (option_map (λ v. value_view v.now) found.entry)) }
+    ensures { IfOk result (λ are. are ≡ are_planar version (option_map (λ c. column_tree c.now) column.entry) (option_map (λ e. element_view e.now) element.entry) (option_map (λ v. value_view v.now) found.entry)) }
 {
-    if let Some(said) = member_edges(version, found) {
-        return Ok(is_planar(Some(said)));
-    }
+    let metadata = element_metadata(alloc, element, column)?;
     let own = own_metadata(alloc, column)?;
-    Ok(is_planar(own_edges(&own)))
+    let claimed = element_edges(element, &metadata);
+    let said = member_edges(version, found);
+    let below = edges_that_count(said, field_edges(element, &own));
+    Ok(is_planar(edges_that_count(claimed, below)))
 }
 
 /// Adds what is found where the edges that count are not planar, and the CRS that counts is projected
@@ -193,20 +253,21 @@ pub(crate) fn add_edges_on_projected(
     version: Version,
     key: &str,
     column: Option<&SchemaColumn>,
+    element: Option<&ElementClaim>,
     member: &Value<'_>,
 ) -> Result<(), AllocError>
     requires { IsReadable (value_view member.now) }
     ensures { OnOk result (map finding findings.new.items ≡ map finding findings.old.items
-        ++ edges_on_projected_findings version key.now (option_map (λ c. column_tree c.now) column.entry) (value_view member.now)) }
+        ++ edges_on_projected_findings version key.now (option_map (λ c. column_tree c.now) column.entry) (option_map (λ e. element_view e.now) element.entry) (value_view member.now)) }
 {
     if !is_judged(version) {
         return Ok(());
     }
     let found = member_of(member, "edges");
-    if are_planar(alloc, version, column, found)? {
+    if are_planar(alloc, version, column, element, found)? {
         return Ok(());
     }
-    if !counts_projected(alloc, version, column, member)? {
+    if !counts_projected(alloc, version, column, element, member)? {
         return Ok(());
     }
     let code = GeoCode::EdgesOnProjected;

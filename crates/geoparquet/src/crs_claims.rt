@@ -1,4 +1,4 @@
-//! What `crs` says against the column's own metadata.
+//! What the element, the field and `crs` say of the CRS.
 ghost use Rattle.std.specs.Prelude.{◌≡◌, ◌++◌, IfOk, IfSome, OnOk, map, option_map, option_and_then, string_bytes};
 ghost use Rattle.json.specs.Json.{string};
 ghost use Rattle.json.specs.Find.{as_str, get};
@@ -10,17 +10,19 @@ ghost use Rattle.crs_identity.specs.Forms.{json_in, said};
 ghost use Rattle.crs_identity.specs.Verdicts.{claim};
 ghost use Rattle.geoparquet.specs.Identifiers.{default_identifier};
 ghost use Rattle.geoparquet.specs.Findings.{finding};
-ghost use Rattle.geoparquet.specs.CrsClaims.{own_json, is_srid, typed_crs, crs_under, own_crs, own_crs_in, absent_crs, text_crs, projjson_crs, object_crs, said_crs, claimed, own_shown, verdict_findings, two_crs_findings, crs_own_findings, crs_contradicts_findings};
+ghost use Rattle.geoparquet.specs.CrsClaims.{own_json, is_srid, typed_crs, crs_under, own_crs_in, absent_crs, text_crs, projjson_crs, object_crs, said_crs, claimed, default_claim, element_json, field_json, or_default, element_crs, crs_at, own_shown, claim_shown, pair_verdict, is_contradict, is_not_compared, verdict_findings, verdicts_findings, three_findings, crs_json_findings, crs_claims_findings, crs_contradicts_findings};
+ghost use Rattle.geoparquet.specs.Sources.{element_view};
 
-use crate::adding::add_part;
 use crate::code::GeoCode;
 use crate::finding::{GeoFinding, Version};
 use crate::malformed::is_projjson;
+use crate::pairs::{Pair, add_pair, first_pair};
 use crate::place::shown_value;
 use crate::version::is_judged;
 use arrow_columns::SchemaColumn;
 use crs_identity::{Claim, Crs, Verdict, crs_verdict};
 use json::{Scratch, Value};
+use parquet_columns::ElementClaim;
 use std::alloc::{AllocError, Global};
 use value_tokens::{Refusal, member_of, read_json};
 
@@ -44,7 +46,7 @@ fn json_in<'t>(
 }
 
 /// Returns the extension metadata of a column, where they are JSON. Errs only when out of memory.
-pub(crate) fn own_json<'t>(
+fn own_json<'t>(
     alloc: Global,
     column: Option<&'t SchemaColumn>,
     scratch: &'t mut Scratch,
@@ -61,6 +63,17 @@ pub(crate) fn own_json<'t>(
     json_in(alloc, text, scratch)
 }
 
+/// The CRS that is the format's default.
+fn default_claim<'v, 'a>(default: &'v Value<'a>) -> Claim<'v, 'a>
+    requires { value_view default.now ≡ string default_identifier }
+    ensures { claim result ≡ default_claim }
+{
+    Claim {
+        crs: Crs::Value(default),
+        is_default: true,
+    }
+}
+
 /// Returns the CRS where `crs` is absent.
 fn absent_crs<'v, 'a>(version: Version, default: &'v Value<'a>) -> Option<Claim<'v, 'a>>
     requires { value_view default.now ≡ string default_identifier }
@@ -69,10 +82,7 @@ fn absent_crs<'v, 'a>(version: Version, default: &'v Value<'a>) -> Option<Claim<
     if !is_judged(version) {
         return None;
     }
-    Some(Claim {
-        crs: Crs::Value(default),
-        is_default: true,
-    })
+    Some(default_claim(default))
 }
 
 /// A CRS that is said.
@@ -193,129 +203,355 @@ pub(crate) fn own_crs_in<'v, 'a>(own: Option<&'v Value<'a>>) -> Option<Claim<'v,
     crs_under(opaque, own.get("crs"))
 }
 
+/// Returns the extension metadata of an element, where they are JSON. Errs only when out of memory.
+pub(crate) fn element_json<'t>(
+    alloc: Global,
+    element: Option<&'t ElementClaim>,
+    column: Option<&'t SchemaColumn>,
+    scratch: &'t mut Scratch,
+) -> Result<Option<Value<'t>>, AllocError>
+    ensures value { IfOk result (λ o. option_map value_view o ≡ element_json (option_map (λ e. element_view e.now) element.entry) (option_map (λ c. column_tree c.now) column.entry)) }
+    ensures read { IfOk result (λ o. IfSome o (λ v. IsReadable (value_view v))) }
+{
+    let Some(element) = element else {
+        return Ok(None);
+    };
+    match element {
+        ElementClaim::Silent => Ok(None),
+        ElementClaim::Given { .. } => own_json(alloc, column, scratch),
+        ElementClaim::Beside(text) => json_in(alloc, text.as_str(), scratch),
+    }
+}
+
+/// Returns the extension metadata of a field, where they are JSON: none where its column has them from
+/// the element. Errs only when out of memory.
+pub(crate) fn field_json<'t>(
+    alloc: Global,
+    element: Option<&ElementClaim>,
+    column: Option<&'t SchemaColumn>,
+    scratch: &'t mut Scratch,
+) -> Result<Option<Value<'t>>, AllocError>
+    ensures value { IfOk result (λ o. option_map value_view o ≡ field_json (option_map (λ e. element_view e.now) element.entry) (option_map (λ c. column_tree c.now) column.entry)) }
+    ensures read { IfOk result (λ o. IfSome o (λ v. IsReadable (value_view v))) }
+{
+    let Some(element) = element else {
+        return own_json(alloc, column, scratch);
+    };
+    match element {
+        ElementClaim::Silent => own_json(alloc, column, scratch),
+        ElementClaim::Given { .. } => Ok(None),
+        ElementClaim::Beside(_) => own_json(alloc, column, scratch),
+    }
+}
+
+/// Returns a CRS, and the default where there is none.
+fn or_default<'v, 'a>(said: Option<Claim<'v, 'a>>, default: &'v Value<'a>) -> Option<Claim<'v, 'a>>
+    requires { value_view default.now ≡ string default_identifier }
+    ensures { option_map claim result ≡ or_default (option_map claim said.entry) }
+{
+    match said {
+        Some(said) => Some(said),
+        None => Some(default_claim(default)),
+    }
+}
+
+/// Returns the CRS that an element says, by its metadata.
+pub(crate) fn element_crs<'v, 'a>(
+    element: Option<&ElementClaim>,
+    own: Option<&'v Value<'a>>,
+    default: &'v Value<'a>,
+) -> Option<Claim<'v, 'a>>
+    requires { value_view default.now ≡ string default_identifier }
+    ensures { option_map claim result ≡ element_crs (option_map (λ e. element_view e.now) element.entry) (option_map (λ v. value_view v.now) own.entry) }
+{
+    let Some(element) = element else {
+        return None;
+    };
+    match element {
+        ElementClaim::Silent => None,
+        ElementClaim::Given { names_crs: true } => or_default(own_crs_in(own), default),
+        ElementClaim::Given { names_crs: false } => Some(default_claim(default)),
+        ElementClaim::Beside(_) => or_default(own_crs_in(own), default),
+    }
+}
+
+/// Returns the value at `crs` of extension metadata.
+fn crs_at<'v, 'a>(own: Option<&'v Value<'a>>) -> Option<&'v Value<'a>>
+    requires { IfSome own (λ v. IsReadable (value_view v.now)) }
+    ensures value { option_map (λ v. value_view v.now) result ≡ crs_at (option_map (λ v. value_view v.now) own.entry) }
+    ensures read { IfSome result (λ v. IsReadable (value_view v.now)) }
+{
+    match own {
+        Some(own) => member_of(own, "crs"),
+        None => None,
+    }
+}
+
 /// Returns the value at `crs` of extension metadata as a finding shows it. Errs only when out of
 /// memory.
 fn own_shown(alloc: Global, own: Option<&Value<'_>>) -> Result<Option<String>, AllocError>
     requires { IfSome own (λ v. IsReadable (value_view v.now)) }
     ensures { IfOk result (λ text. option_map string_bytes text ≡ own_shown (option_map (λ v. value_view v.now) own.entry)) }
 {
-    let Some(own) = own else {
-        return Ok(None);
-    };
-    match member_of(own, "crs") {
+    match crs_at(own) {
         Some(crs) => Ok(Some(shown_value(alloc, crs)?)),
         None => Ok(None),
     }
 }
 
-/// Adds what is found by a verdict. Errs only when out of memory.
+/// Returns the CRS of an element as a finding shows it. Errs only when out of memory.
+fn claim_shown(
+    alloc: Global,
+    said: Option<Claim<'_, '_>>,
+    own: Option<&Value<'_>>,
+) -> Result<Option<String>, AllocError>
+    requires { IfSome own (λ v. IsReadable (value_view v.now)) }
+    ensures { IfOk result (λ text. option_map string_bytes text ≡ claim_shown (option_map claim said.entry) (option_map (λ v. value_view v.now) own.entry)) }
+{
+    let Some(said) = said else {
+        return Ok(None);
+    };
+    if said.is_default {
+        return Ok(Some(String::from_str(alloc, "\"OGC:CRS84\"")?));
+    }
+    own_shown(alloc, own)
+}
+
+/// Returns what is said of two sources. Errs only when out of memory.
+fn pair_verdict(
+    alloc: Global,
+    one: Option<Claim<'_, '_>>,
+    other: Option<Claim<'_, '_>>,
+) -> Result<Verdict, AllocError>
+    ensures { IfOk result (λ v. v ≡ pair_verdict (option_map claim one.entry) (option_map claim other.entry)) }
+{
+    let Some(one) = one else {
+        return Ok(Verdict::Agree);
+    };
+    let Some(other) = other else {
+        return Ok(Verdict::Agree);
+    };
+    crs_verdict(alloc, &one, &other)
+}
+
+/// Whether two CRSs are not one.
+fn is_contradict(verdict: Verdict) -> bool
+    ensures { result ≡ is_contradict verdict }
+{
+    matches!(verdict, Verdict::Contradict)
+}
+
+/// Whether nothing decides.
+fn is_not_compared(verdict: Verdict) -> bool
+    ensures { result ≡ is_not_compared verdict }
+{
+    matches!(verdict, Verdict::NotCompared)
+}
+
+/// Adds what is found of the first pair that contradicts; and if none does, of the first that is not
+/// compared. Errs only when out of memory.
 fn add_verdict(
     alloc: Global,
     findings: &mut Vec<GeoFinding>,
     key: &str,
     found: Option<&Value<'_>>,
-    wanted: Option<&str>,
-    verdict: Verdict,
+    element: Option<&str>,
+    field: Option<&Value<'_>>,
+    own: Option<&str>,
+    contradicts: Option<Pair>,
+    not_compared: Option<Pair>,
 ) -> Result<(), AllocError>
-    requires { IfSome found (λ v. IsReadable (value_view v.now)) }
+    requires found { IfSome found (λ v. IsReadable (value_view v.now)) }
+    requires field { IfSome field (λ v. IsReadable (value_view v.now)) }
     ensures { OnOk result (map finding findings.new.items ≡ map finding findings.old.items
-        ++ verdict_findings key.now (option_map (λ v. value_view v.now) found.entry) (text_of wanted.entry) verdict) }
+        ++ verdict_findings key.now (option_map (λ v. value_view v.now) found.entry) (text_of element.entry) (option_map (λ v. value_view v.now) field.entry) (text_of own.entry) contradicts not_compared) }
 {
-    match verdict {
-        Verdict::Agree => Ok(()),
-        Verdict::Contradict => {
-            add_part(
-                alloc,
-                findings,
-                GeoCode::CrsContradicts,
-                key,
-                "crs",
-                found,
-                wanted,
-            )
-        }
-        Verdict::NotCompared => {
-            add_part(
-                alloc,
-                findings,
-                GeoCode::CrsNotCompared,
-                key,
-                "crs",
-                found,
-                wanted,
-            )
-        }
+    match contradicts {
+        Some(pair) => add_pair(
+            alloc,
+            findings,
+            GeoCode::CrsContradicts,
+            key,
+            "crs",
+            found,
+            element,
+            field,
+            own,
+            Some(pair),
+        ),
+        None => add_pair(
+            alloc,
+            findings,
+            GeoCode::CrsNotCompared,
+            key,
+            "crs",
+            found,
+            element,
+            field,
+            own,
+            not_compared,
+        ),
     }
 }
 
-/// Adds what is found where both say a CRS. Errs only when out of memory.
-fn add_two(
+/// Adds what is found by the verdicts of three pairs. Errs only when out of memory.
+fn add_verdicts(
     alloc: Global,
     findings: &mut Vec<GeoFinding>,
     key: &str,
     found: Option<&Value<'_>>,
-    wanted: Option<&str>,
-    said: Option<Claim<'_, '_>>,
-    own: Option<Claim<'_, '_>>,
+    element: Option<&str>,
+    field: Option<&Value<'_>>,
+    own: Option<&str>,
+    element_geo: Verdict,
+    element_field: Verdict,
+    field_geo: Verdict,
 ) -> Result<(), AllocError>
-    requires { IfSome found (λ v. IsReadable (value_view v.now)) }
+    requires found { IfSome found (λ v. IsReadable (value_view v.now)) }
+    requires field { IfSome field (λ v. IsReadable (value_view v.now)) }
     ensures { OnOk result (map finding findings.new.items ≡ map finding findings.old.items
-        ++ two_crs_findings key.now (option_map (λ v. value_view v.now) found.entry) (text_of wanted.entry) (option_map claim said.entry) (option_map claim own.entry)) }
+        ++ verdicts_findings key.now (option_map (λ v. value_view v.now) found.entry) (text_of element.entry) (option_map (λ v. value_view v.now) field.entry) (text_of own.entry) element_geo element_field field_geo) }
 {
-    let Some(said) = said else {
-        return Ok(());
-    };
-    let Some(own) = own else {
-        return Ok(());
-    };
-    let verdict = crs_verdict(alloc, &said, &own)?;
-    add_verdict(alloc, findings, key, found, wanted, verdict)
+    let contradicts = first_pair(
+        is_contradict(element_geo),
+        is_contradict(element_field),
+        is_contradict(field_geo),
+    );
+    let not_compared = first_pair(
+        is_not_compared(element_geo),
+        is_not_compared(element_field),
+        is_not_compared(field_geo),
+    );
+    add_verdict(
+        alloc,
+        findings,
+        key,
+        found,
+        element,
+        field,
+        own,
+        contradicts,
+        not_compared,
+    )
 }
 
-/// Adds what is found against extension metadata. Errs only when out of memory.
-fn add_against(
+/// Adds what is found of the CRSs of the element, of the field and of `geo`. Errs only when out of
+/// memory.
+fn add_three(
     alloc: Global,
     findings: &mut Vec<GeoFinding>,
-    version: Version,
     key: &str,
+    found: Option<&Value<'_>>,
+    shown: Option<&str>,
     own: Option<&Value<'_>>,
-    member: &Value<'_>,
+    element: Option<Claim<'_, '_>>,
+    field: Option<Claim<'_, '_>>,
+    said: Option<Claim<'_, '_>>,
 ) -> Result<(), AllocError>
+    requires found { IfSome found (λ v. IsReadable (value_view v.now)) }
     requires own { IfSome own (λ v. IsReadable (value_view v.now)) }
-    requires read { IsReadable (value_view member.now) }
     ensures { OnOk result (map finding findings.new.items ≡ map finding findings.old.items
-        ++ crs_own_findings version key.now (option_map (λ v. value_view v.now) own.entry) (value_view member.now)) }
+        ++ three_findings key.now (option_map (λ v. value_view v.now) found.entry) (text_of shown.entry) (option_map (λ v. value_view v.now) own.entry) (option_map claim element.entry) (option_map claim field.entry) (option_map claim said.entry)) }
+{
+    let element_geo = pair_verdict(alloc, element, said)?;
+    let element_field = pair_verdict(alloc, element, field)?;
+    let field_geo = pair_verdict(alloc, field, said)?;
+    let text = own_shown(alloc, own)?;
+    add_verdicts(
+        alloc,
+        findings,
+        key,
+        found,
+        shown,
+        crs_at(own),
+        text.as_deref(),
+        element_geo,
+        element_field,
+        field_geo,
+    )
+}
+
+/// Adds what is found by the metadata of the element and of the field. Errs only when out of memory.
+fn add_json(
+    alloc: Global,
+    findings: &mut Vec<GeoFinding>,
+    key: &str,
+    found: Option<&Value<'_>>,
+    element: Option<&ElementClaim>,
+    metadata: Option<&Value<'_>>,
+    own: Option<&Value<'_>>,
+    said: Option<Claim<'_, '_>>,
+) -> Result<(), AllocError>
+    requires found { IfSome found (λ v. IsReadable (value_view v.now)) }
+    requires metadata { IfSome metadata (λ v. IsReadable (value_view v.now)) }
+    requires own { IfSome own (λ v. IsReadable (value_view v.now)) }
+    ensures { OnOk result (map finding findings.new.items ≡ map finding findings.old.items
+        ++ crs_json_findings key.now (option_map (λ v. value_view v.now) found.entry) (option_map (λ e. element_view e.now) element.entry) (option_map (λ v. value_view v.now) metadata.entry) (option_map (λ v. value_view v.now) own.entry) (option_map claim said.entry)) }
 {
     let default = Value::String(DEFAULT_CRS);
-    let found = member_of(member, "crs");
-    let shown = own_shown(alloc, own)?;
-    let said = said_crs(alloc, version, found, &default)?;
-    add_two(
+    let claimed = element_crs(element, metadata, &default);
+    let shown = claim_shown(alloc, claimed, metadata)?;
+    add_three(
         alloc,
         findings,
         key,
         found,
         shown.as_deref(),
-        said,
+        own,
+        claimed,
         own_crs_in(own),
+        said,
     )
 }
 
-/// Adds what is found where `crs` and the column's own metadata say two CRSs, or where it is not known
-/// whether they are one (docs/FORMAT.md, 5.1). Errs only when out of memory.
+/// Adds what is found where two of the element, the field and `crs` say two CRSs, or where it is not
+/// known whether they are one. Errs only when out of memory.
+pub(crate) fn add_crs_claims(
+    alloc: Global,
+    findings: &mut Vec<GeoFinding>,
+    key: &str,
+    found: Option<&Value<'_>>,
+    column: Option<&SchemaColumn>,
+    element: Option<&ElementClaim>,
+    said: Option<Claim<'_, '_>>,
+) -> Result<(), AllocError>
+    requires { IfSome found (λ v. IsReadable (value_view v.now)) }
+    ensures { OnOk result (map finding findings.new.items ≡ map finding findings.old.items
+        ++ crs_claims_findings key.now (option_map (λ v. value_view v.now) found.entry) (option_map (λ c. column_tree c.now) column.entry) (option_map (λ e. element_view e.now) element.entry) (option_map claim said.entry)) }
+{
+    let mut scratch = Scratch::new(alloc);
+    let mut other = Scratch::new(alloc);
+    let metadata = element_json(alloc, element, column, &mut scratch)?;
+    let own = field_json(alloc, element, column, &mut other)?;
+    add_json(
+        alloc,
+        findings,
+        key,
+        found,
+        element,
+        metadata.as_ref(),
+        own.as_ref(),
+        said,
+    )
+}
+
+/// Adds what is found where two of the element, the field and `crs` of a member say two CRSs, or where
+/// it is not known whether they are one (docs/FORMAT.md, 5.1). Errs only when out of memory.
 pub(crate) fn add_crs_contradicts(
     alloc: Global,
     findings: &mut Vec<GeoFinding>,
     version: Version,
     key: &str,
     column: Option<&SchemaColumn>,
+    element: Option<&ElementClaim>,
     member: &Value<'_>,
 ) -> Result<(), AllocError>
     requires { IsReadable (value_view member.now) }
     ensures { OnOk result (map finding findings.new.items ≡ map finding findings.old.items
-        ++ crs_contradicts_findings version key.now (option_map (λ c. column_tree c.now) column.entry) (value_view member.now)) }
+        ++ crs_contradicts_findings version key.now (option_map (λ c. column_tree c.now) column.entry) (option_map (λ e. element_view e.now) element.entry) (value_view member.now)) }
 {
-    let mut scratch = Scratch::new(alloc);
-    let own = own_json(alloc, column, &mut scratch)?;
-    add_against(alloc, findings, version, key, own.as_ref(), member)
+    let default = Value::String(DEFAULT_CRS);
+    let found = member_of(member, "crs");
+    let said = said_crs(alloc, version, found, &default)?;
+    add_crs_claims(alloc, findings, key, found, column, element, said)
 }

@@ -66,6 +66,7 @@ impl GeoCode {
         ensures { result.now ≡ expected_of version self }
     {
         match self {
+            Self::NoMetadata => "metadata of GeoParquet at the key geo",
             Self::NotJson => "JSON",
             Self::NotObject => "an object",
             Self::Version => "1.1.0",
@@ -102,10 +103,10 @@ impl GeoCode {
             Self::CoveringType => "float or double, the same for all bounds",
             Self::CoveringShape => "a group of the bounds alone, there as often as the geometry",
             Self::CoveringAbsent => "a covering that names the group",
-            Self::EncodingContradicts => "the encoding of the column's extension name",
-            Self::CrsContradicts => "the CRS of the column's own metadata",
-            Self::CrsNotCompared => "the CRS of the column's own metadata",
-            Self::EdgesContradict => "the edges of the column's own metadata",
+            Self::EncodingContradicts => "the encoding of the other source",
+            Self::CrsContradicts => "the CRS of the other source",
+            Self::CrsNotCompared => "the CRS of the other source",
+            Self::EdgesContradict => "the edges of the other source",
             Self::EdgesOnProjected => "planar edges, or a CRS that is not projected",
         }
     }

@@ -60,13 +60,12 @@ impl GeoCode {
                  \"ymax\":[NAME,\"ymax\"]}}, where NAME is the name found.",
             ),
             Self::CrsContradicts => {
-                Some("The report of the column shows that of its own metadata.")
-            }
-            Self::CrsNotCompared => {
-                Some("The report of the column shows that of its own metadata.")
+                Some("That of the element counts first, then that of geo, then that of the field.")
             }
             Self::EdgesContradict => {
-                Some("The report of the column shows those of its own metadata.")
+                Some(
+                    "Those of the element count first, then those of geo, then those of the field.",
+                )
             }
             _ => None,
         }

@@ -1,5 +1,5 @@
 //! The metadata of GeoParquet, which a Parquet file has at the key `geo`: [`check_geo`] says by which version they are judged, and which of its rules they do
-//! not keep, against the columns of the file, and where; and [`geo_columns`] gives each column that the metadata name, and that has no extension name, the
+//! not keep, against the columns and the elements of the file, and where; and [`geo_columns`] gives each column that the metadata name, and that has no extension name, the
 //! extension name of GeoArrow of its encoding, and the CRS and the edges that the metadata say.
 #![tactic(auto)]
 
@@ -28,7 +28,11 @@ mod malformed;
 mod members;
 mod nearest;
 mod ordered;
+mod pairs;
 mod place;
+mod source;
+mod sources;
+mod spelled;
 mod types;
 mod undeclared;
 mod values;
@@ -37,9 +41,11 @@ mod weight;
 mod words;
 
 pub use check::check_geo;
-pub use code::{GeoCode, Severity};
+pub use code::GeoCode;
+pub use column_check::Severity;
 pub use encoding::encoded_as;
 pub use equality_laws::geo_code_equality_is_exact;
 pub use extended::geo_columns;
 pub use finding::{GeoFinding, GeoReport, Version};
+pub use source::GeoSource;
 pub use values::{geo_value, member_of_column, text_in};

@@ -1,26 +1,9 @@
 //! What findings weigh.
 ghost use Rattle.std.specs.Prelude.{◌≡◌};
 ghost use Rattle.std.specs.List.{list_any};
-ghost use Rattle.geoparquet.specs.Weights.{is_error_of, is_note_of, is_error, is_shown};
+ghost use Rattle.geoparquet.specs.Weights.{is_error, is_shown};
 
-use crate::code::Severity;
 use crate::finding::{GeoFinding, GeoReport};
-
-impl Severity {
-    /// Whether a finding is an error.
-    fn is_error(self) -> bool
-        ensures { result ≡ is_error_of self }
-    {
-        matches!(self, Self::Error)
-    }
-
-    /// Whether a finding is a note.
-    fn is_note(self) -> bool
-        ensures { result ≡ is_note_of self }
-    {
-        matches!(self, Self::Note)
-    }
-}
 
 impl GeoFinding {
     /// Returns whether the finding is an error: the file breaks a rule of its format, or

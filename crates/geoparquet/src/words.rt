@@ -1,29 +1,13 @@
-//! Severities as words, and when a code is found.
+//! When a code is found.
 ghost use Rattle.std.specs.Prelude.{◌≡◌};
-ghost use Rattle.geoparquet.specs.Words.{severity_text, rule_of};
+ghost use Rattle.geoparquet.specs.Words.{rule_of};
 
-use crate::code::{GeoCode, Severity};
-
-impl Severity {
-    /// Returns the severity as a word: `error`, `warning` or `note`.
-    ///
-    /// ```rust
-    /// assert_eq!(rt; Severity::Note.word(), "note");
-    /// ```
-    pub fn word(self) -> &'static str
-        ensures { result.now ≡ severity_text self }
-    {
-        match self {
-            Self::Error => "error",
-            Self::Warning => "warning",
-            Self::Note => "note",
-        }
-    }
-}
+use crate::code::GeoCode;
 
 impl GeoCode {
     /// Each code, in the order of docs/FORMAT.md, 5.
-    pub const ALL: [GeoCode; 36] = [
+    pub const ALL: [GeoCode; 37] = [
+        GeoCode::NoMetadata,
         GeoCode::NotJson,
         GeoCode::NotObject,
         GeoCode::Version,
@@ -71,6 +55,7 @@ impl GeoCode {
         ensures { result.now ≡ rule_of self }
     {
         match self {
+            Self::NoMetadata => "the file has columns of geometries, and no value at the key geo",
             Self::NotJson => "the value of geo is absent, no UTF-8, or no JSON within 127 levels",
             Self::NotObject => "the value of geo is JSON, and no object",
             Self::Version => "version is absent, no text, or no version of the format",
@@ -115,14 +100,12 @@ impl GeoCode {
             Self::CoveringAbsent => {
                 "a group has the children of a covering, and no covering names it"
             }
-            Self::EncodingContradicts => {
-                "encoding is another than the extension name of the column says"
-            }
-            Self::CrsContradicts => "crs is another than the column's own metadata say",
+            Self::EncodingContradicts => "two of the element, the field and geo say two encodings",
+            Self::CrsContradicts => "two of the element, the field and geo say two CRSs",
             Self::CrsNotCompared => {
-                "it is not known whether crs and that of the column's own metadata are one"
+                "two of the element, the field and geo say CRSs that nothing tells to be one or two"
             }
-            Self::EdgesContradict => "edges are others than the column's own metadata say",
+            Self::EdgesContradict => "two of the element, the field and geo say two kinds of edges",
             Self::EdgesOnProjected => "the edges are not planar, and the CRS is projected",
         }
     }

@@ -10,7 +10,9 @@ use Rattle.arrow_columns.specs.declared.column.SchemaColumn.{SchemaColumn}
 use Rattle.parquet_footer.specs.declared.element.SchemaElement.{SchemaElement}
 use Rattle.parquet_footer.specs.Element.{Element, element}
 use Rattle.parquet_footer.specs.Footer.{Pairing}
+use Rattle.parquet_columns.specs.declared.claim.ElementClaim.{ElementClaim}
 use Rattle.parquet_columns.specs.Geometry.{count_of, children_in, marked, marked_columns}
+use Rattle.parquet_columns.specs.Claims.{claim, claim_of, claims}
 
 child_first : (e : Element) (es : List Element) → children_in 0 (e ∷ es) ≡ e ∷ children_in (count_of e) es
 unfolding children_in
@@ -80,6 +82,23 @@ one_more pairs es made after yielded m c child at so_far place found marks is =
     ap (map column_tree) is ∙ map-append column_tree made (m ∷ []) ∙ ap (λ xs. xs ++ column_tree m ∷ []) so_far
     ∙ ap (λ x. marked_columns pairs es ys ++ x ∷ []) (marks ∙ ap (λ o. marked pairs o (column_tree c)) (found ∙ ap (slice_get es) k))
     ∙ sym (marked_more pairs es ys (column_tree c)) ∙ ap (marked_columns pairs es) (sym (map-append column_tree yielded (c ∷ [])))
+
+-- one more column has a claim
+claims_more : (pairs : List Pairing) (es : List Element) (cs : List ColumnTree) (c : ColumnTree)
+    → claims pairs es (cs ++ c ∷ []) ≡ claims pairs es cs ++ claim_of pairs (slice_get es (length cs)) c ∷ []
+claims_more pairs [] [] c = refl
+claims_more pairs (e ∷ es) [] c = refl
+claims_more pairs [] (d ∷ cs) c = ap (λ xs. claim_of pairs None d ∷ xs) (claims_more pairs [] cs c)
+claims_more pairs (e ∷ es) (d ∷ cs) c = ap (λ xs. claim_of pairs (Some e) d ∷ xs) (claims_more pairs es cs c)
+
+pub one_said : (pairs : List Pairing) (es : List Element) (made after : List ElementClaim) (yielded : List SchemaColumn) (m : ElementClaim) (c : SchemaColumn) (child : Option Element) (at : ℕ)
+    → map claim made ≡ claims pairs es (map column_tree yielded) → at ≡ length (map column_tree yielded) → child ≡ slice_get es at → claim m ≡ claim_of pairs child (column_tree c) → after ≡ made ++ m ∷ []
+    → map claim after ≡ claims pairs es (map column_tree (yielded ++ c ∷ []))
+one_said pairs es made after yielded m c child at so_far k found says is =
+    let ys = map column_tree yielded in
+    ap (map claim) is ∙ map-append claim made (m ∷ []) ∙ ap (λ xs. xs ++ claim m ∷ []) so_far
+    ∙ ap (λ x. claims pairs es ys ++ x ∷ []) (says ∙ ap (λ o. claim_of pairs o (column_tree c)) (found ∙ ap (slice_get es) k))
+    ∙ sym (claims_more pairs es ys (column_tree c)) ∙ ap (claims pairs es) (sym (map-append column_tree yielded (c ∷ [])))
 
 pub child_is : (es : List SchemaElement) (k : ℕ) (r : Option (Bor SchemaElement)) → IsItemAt es k r → option_map (λ e. element e.now) r ≡ option_map element (slice_get es k)
 child_is es k None item = sym (ap (option_map element) (slice_get_past es k item.3))

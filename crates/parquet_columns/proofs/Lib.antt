@@ -10,3 +10,4 @@ mod Names
 mod Parts
 mod Spending
 mod Steps
+mod Utf8

@@ -12,35 +12,29 @@ use Rattle.arrow_values.specs.Tree.{Text}
 use Rattle.arrow_values.specs.Texts.{text_of}
 use Rattle.parquet_footer.specs.declared.footer.KeyValue.{KeyValue}
 use Rattle.parquet_footer.specs.Footer.{pairing}
-use Rattle.parquet_columns.specs.Keys.{later, value_under, value_of}
+use Rattle.parquet_columns.specs.Keys.{later, text_pair, under, text_at}
 use Rattle.parquet_columns.specs.Values.{at, AreValues, AreJudged, compact_of}
-use Rattle.parquet_columns.proofs.Laters.{value_of-push}
+use Rattle.parquet_columns.proofs.Laters.{text_at-push}
 
 -- ---- the last values
 
-behind : (key : Text) (ps : List KeyValue) (p : KeyValue) → value_of key (map pairing (ps ++ p ∷ [])) ≡ later (value_under key (pairing p)) (value_of key (map pairing ps))
-behind key ps p = ap (value_of key) (map-append pairing ps (p ∷ [])) ∙ value_of-push key (map pairing ps) (pairing p)
+behind : (key : Text) (ps : List KeyValue) (p : KeyValue) → text_at key (map pairing (ps ++ p ∷ [])) ≡ later (under key (text_pair (pairing p))) (text_at key (map pairing ps))
+behind key ps p = ap (text_at key) (map-append pairing ps (p ∷ [])) ∙ text_at-push key (map pairing ps) (pairing p)
 
-no_value : (b : Bool) (o : Option Text) → o ≡ later (if b then None else None) o
-no_value true o = refl
-no_value false o = refl
-
-pub without_value : (ps : List KeyValue) (p : KeyValue) (m : BTreeMap (Bor Text) (Bor Text)) → p.value ≡ None → AreValues ps m → AreValues (ps ++ p ∷ []) m
+pub without_value : (ps : List KeyValue) (p : KeyValue) (m : BTreeMap (Bor Text) (Bor Text)) → text_pair (pairing p) ≡ None → AreValues ps m → AreValues (ps ++ p ∷ []) m
 without_value ps p m none are key =
-    are key ∙ no_value (bytes_eq p.key.now key) (value_of key (map pairing ps))
-    ∙ ap (λ (v : Option (Bor Text)). later (if bytes_eq p.key.now key then text_of v else None) (value_of key (map pairing ps))) (sym none)
-    ∙ sym (behind key ps p)
+    are key ∙ ap (λ q. later (under key q) (text_at key (map pairing ps))) (sym none) ∙ sym (behind key ps p)
 
 a_value : (b : Bool) (v : Bor Text) (o : Option (Bor Text)) → text_of (cond b (Some v) o) ≡ later (if b then Some v.now else None) (text_of o)
 a_value true v o = refl
 a_value false v o = refl
 
-pub with_value : (ps : List KeyValue) (p : KeyValue) (v : Bor Text) (m n : BTreeMap (Bor Text) (Bor Text)) → p.value ≡ Some v
-    → ((key : Text) → at n key ≡ cond (bytes_eq p.key.now key) (Some v) (at m key)) → AreValues ps m → AreValues (ps ++ p ∷ []) n
-with_value ps p v m n some put are key =
-    ap text_of (put key) ∙ a_value (bytes_eq p.key.now key) v (at m key)
-    ∙ ap (later (if bytes_eq p.key.now key then Some v.now else None)) (are key)
-    ∙ ap (λ (w : Option (Bor Text)). later (if bytes_eq p.key.now key then text_of w else None) (value_of key (map pairing ps))) (sym some)
+pub with_value : (ps : List KeyValue) (p : KeyValue) (k v : Bor Text) (m n : BTreeMap (Bor Text) (Bor Text)) → text_pair (pairing p) ≡ Some (k.now, v.now)
+    → ((key : Text) → at n key ≡ cond (bytes_eq k.now key) (Some v) (at m key)) → AreValues ps m → AreValues (ps ++ p ∷ []) n
+with_value ps p k v m n some put are key =
+    ap text_of (put key) ∙ a_value (bytes_eq k.now key) v (at m key)
+    ∙ ap (later (if bytes_eq k.now key then Some v.now else None)) (are key)
+    ∙ ap (λ q. later (under key q) (text_at key (map pairing ps))) (sym some)
     ∙ sym (behind key ps p)
 
 pub next_value : (ps : List KeyValue) (i : ℕ) (d : KeyValue) (m : BTreeMap (Bor Text) (Bor Text)) → i < length ps → AreValues (take i ps ++ get_or ps i d ∷ []) m → AreValues (take (i + 1) ps) m
@@ -68,10 +62,10 @@ put_by true found o t is old some = ap Some (is refl)
 put_by false found o t is old some = old refl some
 
 pub judged_more : (ps : List KeyValue) (key : Text) (found : Option (String Global)) (m n : Judged)
-    → ((q : Text) → at n q ≡ cond (bytes_eq key q) (Some found) (at m q)) → option_map string_bytes found ≡ compact_of (value_of key (map pairing ps)) → AreJudged ps m → AreJudged ps n
+    → ((q : Text) → at n q ≡ cond (bytes_eq key q) (Some found) (at m q)) → option_map string_bytes found ≡ compact_of (text_at key (map pairing ps)) → AreJudged ps m → AreJudged ps n
 judged_more ps key found m n put is are q some =
-    let t = compact_of (value_of q (map pairing ps)) in
-    let here : bytes_eq key q ≡ true → option_map string_bytes found ≡ t = λ same. is ∙ ap (λ k. compact_of (value_of k (map pairing ps))) ((bytes_eq-Decides key q).0 same) in
+    let t = compact_of (text_at q (map pairing ps)) in
+    let here : bytes_eq key q ≡ true → option_map string_bytes found ≡ t = λ same. is ∙ ap (λ k. compact_of (text_at k (map pairing ps))) ((bytes_eq-Decides key q).0 same) in
     ap (option_map (option_map string_bytes)) (put q)
     ∙ put_by (bytes_eq key q) found (at m q) t here (λ _ had. are q had) (ap is_some (sym (put q)) ∙ some)
 

@@ -4,6 +4,7 @@ use Rattle.std.proofs.lemmas.Bool.{false≢true}
 use Rattle.std.proofs.lemmas.List.{append_cancel_right, map_push, length-map}
 use Rattle.std.proofs.lemmas.Slice.Eq.{bytes_eq-Decides}
 use Rattle.std.specs.Str.{bytes_eq}
+use Rattle.std.specs.Str.Lossy.{utf8_lossy}
 use Rattle.arrow_values.specs.Tree.{Text, Metadata}
 use Rattle.arrow_values.specs.View.{texts_of}
 use Rattle.arrow_columns.specs.Column.{TypeTree, ColumnTree, column_tree}
@@ -70,7 +71,7 @@ module _ (xs same : List Node) (are : same ≡ xs) (not : length same ≢ 1) whe
 
 -- ---- columns and shapes by what was made
 
-pub made_plain : (name text : Text) (nullable : Bool) (t : TypeTree) (entries : List (String Global × String Global)) → text ≡ name → entries ≡ []
+pub made_plain : (name text : Text) (nullable : Bool) (t : TypeTree) (entries : List (String Global × String Global)) → text ≡ utf8_lossy name → entries ≡ []
     → with_parts text nullable t (texts_of entries) ≡ plain_column name nullable t
 made_plain name text nullable t entries same none = rw (same, none) refl
 

@@ -73,7 +73,7 @@ group_by MapGroup at name ns = map_shape at ns
 
 abbrev pub shape_by : Kind → ℕ → Element → List NodeTree → Result ShapeTree ElementFault
 shape_by (Leaf physical) at e ns = leaf_shape at physical e
-shape_by (Group n) at e ns = group_by (annotation_of e) at e.storage.name ns
+shape_by (Group n) at e ns = group_by (annotation_of e) at e.storage.name.bytes ns
 
 abbrev pub shape_at : ℕ → HeadTree → List NodeTree → Result ShapeTree ElementFault
 shape_at at h ns = shape_by h.kind at h.element ns
@@ -81,7 +81,7 @@ shape_at at h ns = shape_by h.kind at h.element ns
 unfoldable pub finished : ℕ → HeadTree → List NodeTree → Result NodeTree ElementFault
 finished at h ns = do
   shape ← shape_at at h ns
-  Ok (record { name = h.element.storage.name; repetition = h.repetition; shape = shape })
+  Ok (record { name = h.element.storage.name.bytes; repetition = h.repetition; shape = shape })
 
 -- so many elements, each with all that is below it, from an index on; and the index behind them
 unfoldable pub nodes_by : (ℕ → Result (NodeTree × ℕ) ElementFault) → ℕ → ℕ → Result (List NodeTree × ℕ) ElementFault

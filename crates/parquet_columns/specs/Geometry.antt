@@ -1,5 +1,5 @@
 -- Which extension metadata the geometry types of Parquet denote (Parquet, "Geospatial Definitions").
-use Rattle.std.specs.Prelude.{ℕ, zero, suc, ◌+◌, ◌==◌, ◌&&◌, nat_lt, Bool, true, false, not, List, [], ◌∷◌, length, codes, Option, None, Some, unwrap_or, if◌then◌else◌}
+use Rattle.std.specs.Prelude.{ℕ, zero, suc, ◌+◌, ◌==◌, ◌&&◌, nat_lt, Bool, true, false, not, List, [], ◌∷◌, length, codes, Option, None, Some, option_map, unwrap_or, if◌then◌else◌}
 use Rattle.std.specs.List.{position_or_len, before_first, after_first}
 use Rattle.std.specs.Str.{bytes_eq}
 use Rattle.json.specs.Token.{Token, string}
@@ -23,8 +23,7 @@ use Rattle.parquet_footer.specs.declared.logical.Algorithm.TheVariants.{Spherica
 use Rattle.parquet_footer.specs.Element.{Element}
 use Rattle.parquet_footer.specs.Footer.{Pairing}
 use Rattle.parquet_footer.specs.Logical.{Logical, geometry, geography}
-use Rattle.parquet_columns.specs.Budget.{size_of}
-use Rattle.parquet_columns.specs.Keys.{value_of}
+use Rattle.parquet_columns.specs.Keys.{text_at}
 
 -- a CRS by the tokens that it is written with, and its type
 pub record TypedCrs : Type 0 where
@@ -55,7 +54,7 @@ abbrev pub coded_crs : List Pairing → Text → Option (Text × Text) → Typed
 coded_crs pairs s None = text_crs s None
 coded_crs pairs s (Some p) =
     if bytes_eq p.0 (codes "srid") then text_crs p.1 (Some Srid) else
-    if bytes_eq p.0 (codes "projjson") then keyed_crs s (value_of p.1 pairs) else
+    if bytes_eq p.0 (codes "projjson") then keyed_crs s (text_at p.1 pairs) else
     text_crs s (Some AuthorityCode)
 
 -- the CRS that is denoted: the format's default where none is named; a text that is PROJJSON itself; or one of those
@@ -76,10 +75,15 @@ edges_of (Some Karney) = edges.Karney
 abbrev pub text_with : TypedCrs → Option Edges → Text
 text_with crs e = print (metadata_tokens crs.tokens crs.crs_type e)
 
-abbrev pub logical_text : List Pairing → Option Logical → Option Text
-logical_text pairs (Some (geometry crs)) = Some (text_with (crs_in pairs crs) None)
-logical_text pairs (Some (geography crs algorithm)) = Some (text_with (crs_in pairs crs) (Some (edges_of algorithm)))
-logical_text pairs _ = None
+-- what a geometry type says: the CRS that it names, and of a GEOGRAPHY the edges
+pub record GeometrySays : Type 0 where
+  pub crs : Option Text
+  pub edges : Option Edges
+
+abbrev pub geometry_type : Option Logical → Option GeometrySays
+geometry_type (Some (geometry crs)) = Some (record { crs = crs; edges = None })
+geometry_type (Some (geography crs algorithm)) = Some (record { crs = crs; edges = Some (edges_of algorithm) })
+geometry_type _ = None
 
 -- whether an element is a leaf of BYTE_ARRAY, and not repeated
 abbrev pub is_byte_array : Option PhysicalType → Bool
@@ -93,9 +97,16 @@ is_repeated _ = false
 abbrev pub is_plain_leaf : Element → Bool
 is_plain_leaf e = is_byte_array e.storage.physical_type && not (is_repeated e.storage.repetition)
 
+-- what an element says by its geometry type, if it is of one
+abbrev pub geometry_of : Element → Option GeometrySays
+geometry_of e = if is_plain_leaf e then geometry_type e.logical_type else None
+
 -- the extension metadata that an element denotes, if it is of a geometry type
+abbrev pub denoted : List Pairing → GeometrySays → Text
+denoted pairs g = text_with (crs_in pairs g.crs) g.edges
+
 abbrev pub extension_text : List Pairing → Element → Option Text
-extension_text pairs e = if is_plain_leaf e then logical_text pairs e.logical_type else None
+extension_text pairs e = option_map (denoted pairs) (geometry_of e)
 
 -- the extension metadata that a column is given: those that its element denotes, if it has no extension name
 abbrev pub given_by : Option Text → Option Text → Option Text
@@ -118,12 +129,6 @@ abbrev pub marked_columns : List Pairing → List Element → List ColumnTree �
 marked_columns pairs es [] = []
 marked_columns pairs [] (c ∷ cs) = marked pairs None c ∷ marked_columns pairs [] cs
 marked_columns pairs (e ∷ es) (c ∷ cs) = marked pairs (Some e) c ∷ marked_columns pairs es cs
-
--- how many bytes the extension metadata have together that columns are given
-abbrev pub given_bytes : List Pairing → List Element → List ColumnTree → ℕ
-given_bytes pairs es [] = 0
-given_bytes pairs [] (c ∷ cs) = 0
-given_bytes pairs (e ∷ es) (c ∷ cs) = size_of (given pairs (Some e) c) + given_bytes pairs es cs
 
 -- the children of the root: behind each stand the elements below it, of which so many are still to come
 abbrev pub count_of : Element → ℕ

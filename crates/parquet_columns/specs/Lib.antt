@@ -7,8 +7,13 @@ pub mod Columns
 pub mod Budget
 pub mod SchemaFault
 pub mod Geometry
+pub mod Says
 pub mod Keys
+pub mod Claims
 pub mod Marks
+pub mod Codes
+pub mod Findings
+pub mod Stored
 pub mod Reads
 pub mod Typed
 pub mod Values

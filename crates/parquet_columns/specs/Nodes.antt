@@ -1,6 +1,7 @@
 -- Elements of a schema with all that is below them, and the columns that they are.
 use Rattle.std.specs.Prelude.{ℕ, Bool, true, false, ◌||◌, ◌&&◌, List, [], ◌∷◌, ◌++◌, map, codes, Result, Ok, if◌then◌else◌}
 use Rattle.std.specs.Str.{bytes_eq}
+use Rattle.std.specs.Str.Lossy.{utf8_lossy}
 use Rattle.arrow_values.specs.Tree.{Text}
 use Rattle.arrow_columns.specs.Column.{TypeTree, other, ColumnTree, type_tree, column_tree}
 use Rattle.arrow_columns.specs.Notation.{nested_text, part_text, type_text}
@@ -48,8 +49,9 @@ abbrev pub is_repeated : Repetition → Bool
 is_repeated Repeated = true
 is_repeated _ = false
 
+-- a column of a name that need not be UTF-8: U+FFFD stands for each part of it that is not
 abbrev pub plain_column : Text → Bool → TypeTree → ColumnTree
-plain_column name nullable t = record { name = name; data_type = t; nullable = nullable; metadata = [] }
+plain_column name nullable t = record { name = utf8_lossy name; data_type = t; nullable = nullable; metadata = [] }
 
 -- a column: a repeated element is a list of values that are not null, under the name of the element
 abbrev pub column_by : Text → Repetition → TypeTree → ColumnTree
@@ -96,7 +98,7 @@ is_group (wrapper c) = true
 is_group (group cs) = true
 
 abbrev pub map_type : Text → TypeTree → TypeTree
-map_type name entries = other (nested_text (codes "map") (part_text name (type_text entries) false ∷ []))
+map_type name entries = other (nested_text (codes "map") (part_text (utf8_lossy name) (type_text entries) false ∷ []))
 
 abbrev pub map_of : ℕ → NodeTree → Result ShapeTree ElementFault
 map_of at n = if is_repeated n.repetition && is_group n.shape then Ok (typed (map_type n.name (shape_type n.shape))) else breaks MapRule at

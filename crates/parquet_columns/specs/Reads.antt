@@ -1,35 +1,33 @@
--- Which columns a footer denotes, and a file; or why they denote none.
-use Rattle.std.specs.Prelude.{◌≡◌, ℕ, ◌+◌, ◌-◌, ◌≤◌, ◌<◌, Bool, true, false, ◌&&◌, List, [], ◌∷◌, length, take, drop, map, Option, Some, Result, Ok, Err, ⊤, nat_lt, if◌then◌else◌}
-use Rattle.std.specs.Str.{bytes_eq}
+-- Which columns a footer denotes, and a file, and what is found in it; or why they denote none.
+use Rattle.std.specs.Prelude.{◌≡◌, ℕ, ◌+◌, ◌-◌, ◌≤◌, ◌<◌, List, [], ◌∷◌, ◌++◌, length, take, drop, map, Option, Some, None, Result, Ok, Err, ⊤, nat_lt, if◌then◌else◌}
+use Rattle.std.specs.Borrow.{Bor}
 use Rattle.std.specs.declared.vec.Vec.{Vec}
 use Rattle.std.specs.declared.alloc.Global.{Global}
-use Rattle.base64.specs.Engines.{standard}
-use Rattle.base64.specs.GeneralPurpose.{decode_of}
-use Rattle.base64.specs.declared.decode.DecodeError.{DecodeError}
+use Rattle.arrow_values.specs.Tree.{Text}
+use Rattle.arrow_values.specs.Texts.{text_of}
 use Rattle.arrow_columns.specs.Column.{ColumnTree, column_tree}
 use Rattle.arrow_columns.specs.declared.column.SchemaColumn.{SchemaColumn}
-use Rattle.arrow_ipc.specs.Schema.{message_in, schema_of_message, Meets}
-use Rattle.arrow_ipc.specs.declared.schema.Schema.{Schema}
+use Rattle.parquet_footer.specs.Spelled.{Spelled}
 use Rattle.parquet_footer.specs.Footer.{Contents, footer_at}
+use Rattle.parquet_footer.specs.Findings as texts
 use Rattle.parquet_footer.specs.Tail.{length_at}
 use Rattle.parquet_footer.specs.declared.fault.Fault as footers
 use Rattle.parquet_footer.specs.declared.fault.FooterError.{FooterError}
 use Rattle.parquet_footer.specs.declared.fault.FooterError.TheVariants.{NotParquet, Invalid}
 use Rattle.parquet_columns.specs.Columns.{columns_of}
 use Rattle.parquet_columns.specs.declared.fault.ElementFault as elements
-use Rattle.arrow_values.specs.Tree.{Text}
 use Rattle.parquet_columns.specs.Keys.{schema_key, value_of}
 use Rattle.parquet_columns.specs.Budget.{budget}
-use Rattle.parquet_columns.specs.Geometry.{root_children, given_bytes, marked_columns}
+use Rattle.parquet_columns.specs.Geometry.{root_children, marked_columns}
+use Rattle.parquet_columns.specs.Claims.{Claim, claim, claims, made_bytes}
+use Rattle.parquet_columns.specs.Findings.{Finding, finding, first_other, other_names, unreadable, repeated_keys}
+use Rattle.parquet_columns.specs.Stored.{AreStored}
+use Rattle.parquet_columns.specs.declared.stored.Stored.{Stored}
+use Rattle.parquet_columns.specs.declared.stored.Stored.TheVariants.{Schema, Unreadable}
+use Rattle.parquet_columns.specs.declared.footer.FooterColumns.{FooterColumns}
+use Rattle.parquet_columns.specs.declared.footer.Unmarked.{Unmarked}
 use Rattle.parquet_columns.specs.declared.error.SchemaError.{SchemaError}
-use Rattle.parquet_columns.specs.declared.error.SchemaError.TheVariants.{Footer, Cut, Elements, Encoding, Ipc, Names, Budget, OutOfMemory}
-
--- columns with the same names in the same order
-abbrev pub same_names : List ColumnTree → List ColumnTree → Bool
-same_names [] [] = true
-same_names [] (d ∷ ds) = false
-same_names (c ∷ cs) [] = false
-same_names (c ∷ cs) (d ∷ ds) = bytes_eq c.name d.name && same_names cs ds
+use Rattle.parquet_columns.specs.declared.error.SchemaError.TheVariants.{Footer, Cut, Elements, Budget, OutOfMemory}
 
 -- what is made of the elements: their columns, or the rule that they break
 abbrev pub IsBuilt : Result (List ColumnTree) elements.ElementFault → Result (Vec SchemaColumn Global) SchemaError → Type 0
@@ -38,51 +36,67 @@ IsBuilt there (Err (Elements fault)) = there ≡ Err fault
 IsBuilt there (Err OutOfMemory) = ⊤
 IsBuilt there (Err _) = ⊥
 
--- what is decoded of a text: its bytes, or why it is not base64
-abbrev pub IsDecoded : Result (List ℕ) DecodeError → Result (Vec ℕ Global) SchemaError → Type 0
-IsDecoded there (Ok bytes) = there ≡ Ok bytes.items
-IsDecoded there (Err (Encoding error)) = there ≡ Err error
-IsDecoded there (Err OutOfMemory) = ⊤
-IsDecoded there (Err _) = ⊥
+-- columns, what the elements say beside them, and what is found
+pub record Read : Type 0 where
+  pub columns : List ColumnTree
+  pub elements : List Claim
+  pub findings : List Finding
 
--- what is read of a message: its schema, or how it is refused
-abbrev pub HoldsSchema : List ℕ → Result Schema SchemaError → Type 0
-HoldsSchema bytes (Ok s) = Meets (message_in bytes) (schema_of_message 61) (Ok s)
-HoldsSchema bytes (Err (Ipc error)) = Meets (message_in bytes) (schema_of_message 61) (Err error)
-HoldsSchema bytes (Err OutOfMemory) = ⊤
-HoldsSchema bytes (Err _) = ⊥
+abbrev pub read_of : FooterColumns → Read
+read_of r = record { columns = map column_tree r.columns.items; elements = map claim r.elements.items; findings = map finding r.findings.items }
 
--- the columns of a schema in base64, beside those of the elements
-abbrev pub IsNamed : List ColumnTree → Schema → Result (Vec SchemaColumn Global) SchemaError → Type 0
-IsNamed cs s (Ok columns) = (columns ≡ s.columns) × (same_names (map column_tree columns.items) cs ≡ true)
-IsNamed cs s (Err Names) = same_names (map column_tree s.columns.items) cs ≡ false
-IsNamed cs s (Err _) = ⊥
+-- columns before the geometry types of their elements are looked at, and what is found
+pub record Choice : Type 0 where
+  pub columns : List ColumnTree
+  pub findings : List Finding
 
-abbrev pub IsStoredRead : List ColumnTree → Text → Result (Vec SchemaColumn Global) SchemaError → Type 0
-IsStoredRead cs text (Err OutOfMemory) = ⊤
-IsStoredRead cs text (Err (Encoding error)) = decode_of standard text ≡ Err error
-IsStoredRead cs text (Err (Ipc error)) = (bytes : List ℕ) × (decode_of standard text ≡ Ok bytes) × HoldsSchema bytes (Err (Ipc error))
-IsStoredRead cs text r = (bytes : List ℕ) × (decode_of standard text ≡ Ok bytes) × (s : Schema) × HoldsSchema bytes (Ok s) × IsNamed cs s r
+abbrev pub choice : Unmarked → Choice
+choice r = record { columns = map column_tree r.columns.items; findings = map finding r.findings.items }
 
--- the columns of a footer: by the elements of its schema and the value of the key
-abbrev pub IsReadBy : Result (List ColumnTree) elements.ElementFault → Option Text → Result (Vec SchemaColumn Global) SchemaError → Type 0
-IsReadBy (Ok cs) (Some text) r = IsStoredRead cs text r
-IsReadBy there value r = IsBuilt there r
+-- two names, without where they lie
+abbrev pub names_seen : Option (Bor Text) × Option (Bor Text) → Option Text × Option Text
+names_seen p = (text_of p.0, text_of p.1)
 
--- the columns that the schema of a footer denotes, or the value of the key
-abbrev pub AreStored : Contents → Result (Vec SchemaColumn Global) SchemaError → Type 0
-AreStored c r = IsReadBy (columns_of c.schema) (value_of schema_key c.key_value_metadata) r
+-- the columns of a stored schema, if their names are those of the elements' columns; else these
+abbrev pub by_names : Option (Option Text × Option Text) → List ColumnTree → List ColumnTree → Choice
+by_names None stored cs = record { columns = stored; findings = [] }
+by_names (Some names) stored cs = record { columns = cs; findings = other_names names ∷ [] }
 
--- how many bytes the extension metadata have that geometry types give the columns
-abbrev pub given_to : Contents → Vec SchemaColumn Global → ℕ
-given_to c stored = given_bytes c.key_value_metadata (root_children c.schema) (map column_tree stored.items)
+-- by what is stored, beside the columns of the elements
+abbrev pub chosen : Option Stored → List ColumnTree → Choice
+chosen None cs = record { columns = cs; findings = [] }
+chosen (Some (Schema s)) cs = by_names (first_other (map column_tree s.columns.items) cs) (map column_tree s.columns.items) cs
+chosen (Some (Unreadable fault)) cs = record { columns = cs; findings = unreadable fault ∷ [] }
 
--- the columns of a footer of so many bytes: those, of which the ones of geometry types have the extension that their elements denote, within the budget
-abbrev pub IsFooterRead : ℕ → Contents → Result (Vec SchemaColumn Global) SchemaError → Type 0
-IsFooterRead n c (Ok columns) = (stored : Vec SchemaColumn Global) × AreStored c (Ok stored) × (given_to c stored ≤ budget n)
-    × (map column_tree columns.items ≡ marked_columns c.key_value_metadata (root_children c.schema) (map column_tree stored.items))
-IsFooterRead n c (Err Budget) = (stored : Vec SchemaColumn Global) × AreStored c (Ok stored) × (budget n < given_to c stored)
-IsFooterRead n c (Err error) = AreStored c (Err error)
+-- how many bytes the extension metadata have that are made of geometry types, those that the columns are given and those beside their own
+abbrev pub made_of : Contents → List ColumnTree → ℕ
+made_of c cs = made_bytes c.key_value_metadata (root_children c.schema) cs
+
+-- columns of geometry types have the extension that their elements denote, or the elements say it beside them; and what is found of repeated keys
+-- comes behind
+abbrev pub read_with : Contents → Choice → Read
+read_with c read = record {
+  columns = marked_columns c.key_value_metadata (root_children c.schema) read.columns;
+  elements = claims c.key_value_metadata (root_children c.schema) read.columns;
+  findings = read.findings ++ repeated_keys c.key_value_metadata;
+}
+
+-- what is read of a footer of so many bytes, by the columns that are chosen, within the budget
+abbrev pub IsReadWith : ℕ → Contents → Choice → Result FooterColumns SchemaError → Type 0
+IsReadWith n c read (Ok r) = (made_of c read.columns ≤ budget n) × (read_of r ≡ read_with c read)
+IsReadWith n c read (Err Budget) = budget n < made_of c read.columns
+IsReadWith n c read (Err OutOfMemory) = ⊤
+IsReadWith n c read (Err _) = ⊥
+
+-- by what is stored
+abbrev pub IsReadBy : ℕ → Contents → List ColumnTree → Result FooterColumns SchemaError → Type 0
+IsReadBy n c cs r = (stored : Option Stored) × AreStored (value_of schema_key c.key_value_metadata) stored × IsReadWith n c (chosen stored cs) r
+
+-- what is read of a footer of so many bytes, by the elements of its schema
+abbrev pub IsFooterRead : ℕ → Contents → Result FooterColumns SchemaError → Type 0
+IsFooterRead n c (Err OutOfMemory) = ⊤
+IsFooterRead n c (Err (Elements fault)) = columns_of c.schema ≡ Err fault
+IsFooterRead n c r = (cs : List ColumnTree) × (columns_of c.schema ≡ Ok cs) × IsReadBy n c cs r
 
 -- the footer at the end of a file: its length and the magic stand behind it, in eight bytes
 abbrev pub footer_before : List ℕ → Result ℕ FooterError → Result (List ℕ) SchemaError
@@ -95,18 +109,23 @@ footer_in bytes =
     footer_before (take (length bytes - 8) bytes) (length_at (drop (length bytes - 8) bytes))
 
 -- what is read of the bytes of a footer: the columns of its contents; or which rule they break, and where
-abbrev pub IsParsed : List ℕ → Result Contents footers.Fault → Result (Vec SchemaColumn Global) SchemaError → Type 0
+abbrev pub IsParsed : List ℕ → Result Contents footers.Fault → Result FooterColumns SchemaError → Type 0
 IsParsed bytes (Ok c) r = IsFooterRead (length bytes) c r
 IsParsed bytes (Err fault) (Err OutOfMemory) = ⊤
 IsParsed bytes (Err fault) (Err (Footer (Invalid rule offset))) = (rule ≡ fault.rule) × (offset + fault.left ≡ length bytes)
 IsParsed bytes (Err fault) r = ⊥
 
 -- what is read of a file, by the footer at its end
-abbrev pub IsFileRead : Result (List ℕ) SchemaError → Result (Vec SchemaColumn Global) SchemaError → Type 0
+abbrev pub IsFileRead : Result (List ℕ) SchemaError → Result FooterColumns SchemaError → Type 0
 IsFileRead (Err error) r = r ≡ Err error
 IsFileRead (Ok footer) r = IsParsed footer (footer_at footer) r
 
 -- the value of a key in that footer, which has contents
-abbrev pub IsValueRead : Text → Result (List ℕ) SchemaError → Option Text → Type 0
+abbrev pub IsValueRead : Text → Result (List ℕ) SchemaError → Option Spelled → Type 0
 IsValueRead key found value =
     (footer : List ℕ) × (c : Contents) × (found ≡ Ok footer) × (footer_at footer ≡ Ok c) × (value ≡ value_of key c.key_value_metadata)
+
+-- what is found of the texts in that footer
+abbrev pub AreTextsRead : Result (List ℕ) SchemaError → List texts.Finding → Type 0
+AreTextsRead found fs =
+    (footer : List ℕ) × (c : Contents) × (found ≡ Ok footer) × (footer_at footer ≡ Ok c) × (fs ≡ texts.findings_of c.schema c.key_value_metadata)

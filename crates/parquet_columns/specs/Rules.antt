@@ -7,7 +7,6 @@ use Rattle.parquet_columns.specs.Budget.{too_large}
 use Rattle.parquet_columns.specs.declared.error.SchemaError.{SchemaError}
 use Rattle.parquet_columns.specs.declared.error.SchemaError.TheVariants as errors
 use Rattle.parquet_footer.specs.Rules as footer
-use Rattle.arrow_ipc.specs.Rules as ipc
 
 -- the code of a rule, as reports have it
 abbrev pub rule_code : SchemaRule → Text
@@ -36,9 +35,6 @@ abbrev pub error_code : SchemaError → Text
 error_code (errors.Footer error) = footer.error_code error
 error_code errors.Cut = codes "FooterCut"
 error_code (errors.Elements fault) = rule_code fault.rule
-error_code (errors.Encoding error) = codes "StoredBase64"
-error_code (errors.Ipc error) = ipc.error_code error
-error_code errors.Names = codes "StoredNames"
 error_code errors.Budget = codes "ReportTooLarge"
 error_code errors.OutOfMemory = codes "OutOfMemory"
 
@@ -46,8 +42,5 @@ abbrev pub error_message : SchemaError → Text
 error_message (errors.Footer error) = footer.error_message error
 error_message errors.Cut = codes "the footer is larger than the file"
 error_message (errors.Elements fault) = rule_message fault.rule
-error_message (errors.Encoding error) = codes "the schema at ARROW:schema is not base64"
-error_message (errors.Ipc error) = ipc.error_message error
-error_message errors.Names = codes "the schema at ARROW:schema has columns of other names"
 error_message errors.Budget = too_large
 error_message errors.OutOfMemory = codes "out of memory"

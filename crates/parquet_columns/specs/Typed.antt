@@ -7,7 +7,7 @@ use Rattle.geoarrow_meta.specs.CrsText.{IsCrs}
 use Rattle.geoarrow_meta.specs.MetadataText.{crs_tokens}
 use Rattle.parquet_footer.specs.Footer.{Pairing}
 use Rattle.parquet_columns.specs.Geometry.{TypedCrs, keyed_crs}
-use Rattle.parquet_columns.specs.Keys.{value_of}
+use Rattle.parquet_columns.specs.Keys.{text_at}
 use Rattle.parquet_columns.specs.declared.geometry.NamedCrs.{NamedCrs}
 use Rattle.parquet_columns.specs.declared.geometry.NamedCrs.TheVariants.{Written, Keyed}
 
@@ -19,4 +19,4 @@ pub record IsTyped (p : WrittenCrs × Option CrsType) (t : TypedCrs) : Type 0 wh
 -- a CRS that is named is that one, or that of a text `projjson:KEY`
 abbrev pub IsNamed : List Pairing → NamedCrs → TypedCrs → Type 0
 IsNamed pairs (Written crs crs_type) t = IsTyped (crs, crs_type) t
-IsNamed pairs (Keyed text key) t = t ≡ keyed_crs text.now (value_of key.now pairs)
+IsNamed pairs (Keyed text key) t = t ≡ keyed_crs text.now (text_at key.now pairs)

@@ -121,7 +121,7 @@ fn shape_at(
         Kind::Leaf(physical) => leaf_shape(alloc, at, physical, element),
         Kind::Group(_) => match annotation_of(element) {
             Annotation::Plain => Ok(group_shape(alloc, below)?),
-            Annotation::List => list_shape(alloc, at, element.storage.name, below),
+            Annotation::List => list_shape(alloc, at, element.storage.name.bytes, below),
             Annotation::Map => map_shape(alloc, at, below),
         },
     }
@@ -146,7 +146,7 @@ fn read_node<'a>(
     let shape = shape_at(alloc, at, &head, below)?;
     let element = head.element;
     let node = Node {
-        name: element.storage.name,
+        name: element.storage.name.bytes,
         repetition: head.repetition,
         shape,
     };

@@ -6,8 +6,6 @@ ghost use Rattle.parquet_columns.specs.declared.error.SchemaError.TheVariants.{O
 
 use crate::budget::TOO_LARGE;
 use crate::fault::ElementFault;
-use arrow_ipc::IpcError;
-use base64::DecodeError;
 use parquet_footer::FooterError;
 use std::alloc::{AllocError, AllocFailed};
 
@@ -20,12 +18,6 @@ pub enum SchemaError {
     Cut,
     /// The elements of the schema break a rule, with the element's index.
     Elements(ElementFault),
-    /// The value of the key `ARROW:schema` is not base64, with the offset.
-    Encoding(DecodeError),
-    /// The value of the key `ARROW:schema` holds no schema, with the rule and the byte.
-    Ipc(IpcError),
-    /// The schema that is stored has other columns than the elements, by their names.
-    Names,
     /// The extension metadata that geometry types give the columns have more bytes than
     /// `report_budget` of the footer's bytes.
     Budget,
@@ -42,9 +34,6 @@ impl SchemaError {
             SchemaError::Footer(error) => error.code(),
             SchemaError::Cut => "FooterCut",
             SchemaError::Elements(fault) => fault.rule.code(),
-            SchemaError::Encoding(_) => "StoredBase64",
-            SchemaError::Ipc(error) => error.code(),
-            SchemaError::Names => "StoredNames",
             SchemaError::Budget => "ReportTooLarge",
             SchemaError::OutOfMemory => "OutOfMemory",
         }
@@ -58,9 +47,6 @@ impl SchemaError {
             SchemaError::Footer(error) => error.message(),
             SchemaError::Cut => "the footer is larger than the file",
             SchemaError::Elements(fault) => fault.rule.message(),
-            SchemaError::Encoding(_) => "the schema at ARROW:schema is not base64",
-            SchemaError::Ipc(error) => error.message(),
-            SchemaError::Names => "the schema at ARROW:schema has columns of other names",
             SchemaError::Budget => TOO_LARGE,
             SchemaError::OutOfMemory => "out of memory",
         }

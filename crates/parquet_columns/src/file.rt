@@ -1,14 +1,17 @@
 //! The columns of a file and the value of a key, from its end.
-ghost use Rattle.std.specs.Prelude.{◌≡◌, Ok, Err, IfOk, IfErr};
+ghost use Rattle.std.specs.Prelude.{◌≡◌, Ok, Err, IfOk, IfErr, map, option_map};
 ghost use Rattle.parquet_columns.specs.SchemaFault.{map_ok};
-ghost use Rattle.arrow_values.specs.Texts.{text_of};
-ghost use Rattle.parquet_columns.specs.Reads.{footer_in, IsFileRead, IsValueRead};
+ghost use Rattle.parquet_footer.specs.Findings.{finding as text_finding};
+ghost use Rattle.parquet_footer.specs.Spelled.{spelled};
+ghost use Rattle.parquet_columns.specs.Reads.{footer_in, IsFileRead, IsValueRead, AreTextsRead};
 
+use crate::claim::ElementClaim;
 use crate::error::{SchemaError, error_of};
-use crate::footer::columns_of_footer;
+use crate::finding::FileFinding;
+use crate::footer::{FooterColumns, columns_of_footer};
 use crate::keys::value_of;
 use arrow_columns::SchemaColumn;
-use parquet_footer::{FooterError, footer_length, read_footer};
+use parquet_footer::{Footer, FooterError, FooterFinding, FooterText, footer_length, read_footer};
 use std::alloc::Global;
 
 /// The bytes of the footer of a Parquet file, from its end: the bytes of the file, or as many of its last ones as the footer, its
@@ -45,9 +48,15 @@ pub fn footer_in(end: &[u8]) -> Result<&[u8], SchemaError>
 pub struct FileColumns<'a> {
     /// Its columns.
     pub columns: Vec<SchemaColumn>,
-    /// The value of a key in its key-value metadata, as [`value_of`] answers it: a part of the
-    /// bytes that were read.
-    pub value: Option<&'a str>,
+    /// What the elements say beside the columns, one claim for each, in their order (`docs/FORMAT.md`, 4.6).
+    pub elements: Vec<ElementClaim>,
+    /// What is found of the schema at `ARROW:schema` and of keys that stand several times (`docs/FORMAT.md`, 4.5).
+    pub findings: Vec<FileFinding>,
+    /// What is found of names, keys and values that are not UTF-8 (`docs/FORMAT.md`, 4.3).
+    pub texts: Vec<FooterFinding<'a>>,
+    /// The value of a key in its key-value metadata, as [`value_of`] answers it, which need not be UTF-8: a part of the
+    /// bytes that were read, and where it begins in the footer.
+    pub value: Option<FooterText<'a>>,
 }
 
 /// Reads the columns of a Parquet file and the value of a key, from its end: the bytes of the file,
@@ -66,8 +75,10 @@ pub fn read_file<'a>(
     end: &'a [u8],
     key: &str,
 ) -> Result<FileColumns<'a>, SchemaError>
-    ensures columns { IfOk result (λ read. IsFileRead (footer_in end.now) (Ok read.columns)) }
-    ensures value { IfOk result (λ read. IsValueRead key.now (footer_in end.now) (text_of read.value)) }
+    ensures columns { IfOk result (λ read. IsFileRead (footer_in end.now)
+        (Ok (record { columns = read.columns; elements = read.elements; findings = read.findings }))) }
+    ensures texts { IfOk result (λ read. AreTextsRead (footer_in end.now) (map text_finding read.texts.items)) }
+    ensures value { IfOk result (λ read. IsValueRead key.now (footer_in end.now) (option_map spelled read.value)) }
     ensures fault { IfErr result (λ error. IsFileRead (footer_in end.now) (Err error)) }
 {
     let bytes = footer_in(end)?;
@@ -75,7 +86,22 @@ pub fn read_file<'a>(
         Ok(footer) => footer,
         Err(error) => return Err(error_of(error)),
     };
-    let columns = columns_of_footer(alloc, &footer, bytes.len())?;
+    let read = columns_of_footer(alloc, &footer, bytes.len())?;
     let value = value_of(&footer, key);
-    Ok(FileColumns { columns, value })
+    let FooterColumns {
+        columns,
+        elements,
+        findings,
+    } = read;
+    let Footer {
+        findings: texts,
+        ..
+    } = footer;
+    Ok(FileColumns {
+        columns,
+        elements,
+        findings,
+        texts,
+        value,
+    })
 }

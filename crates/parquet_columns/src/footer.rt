@@ -1,42 +1,66 @@
-//! The columns of a footer.
-ghost use Rattle.std.specs.Prelude.{◌≡◌, map, Ok, Some};
-ghost use Rattle.base64.specs.Engines.{standard};
-ghost use Rattle.base64.specs.GeneralPurpose.{decode_of};
+//! The columns of a footer, and what is found in it.
+ghost use Rattle.std.specs.Prelude.{◌≡◌, IfOk, Option, Some, List, map, option_map};
 ghost use Rattle.arrow_columns.specs.Column.{column_tree};
-ghost use Rattle.arrow_ipc.specs.Schema.{message_in, schema_of_message, Meets};
 ghost use Rattle.parquet_footer.specs.Element.{element};
 ghost use Rattle.parquet_footer.specs.Footer.{contents};
 ghost use Rattle.parquet_columns.specs.Columns.{columns_of};
-ghost use Rattle.parquet_columns.specs.Reads.{same_names, IsBuilt, IsDecoded, HoldsSchema, IsReadBy, AreStored, IsFooterRead};
+ghost use Rattle.parquet_columns.specs.Findings.{finding, first_other, other_names};
+ghost use Rattle.parquet_columns.specs.Reads.{IsBuilt, names_seen, choice, by_names, chosen, IsReadWith, IsFooterRead};
 
 use crate::budget::report_budget;
+use crate::claim::ElementClaim;
+use crate::code::{FileCode, FilePart};
 use crate::columns::columns_of;
 use crate::error::SchemaError;
 use crate::fault::ColumnsError;
-use crate::keys::ARROW_SCHEMA_KEY;
-use crate::marks::marked_columns;
+use crate::finding::{FileFinding, FilePlace};
+use crate::marks::{Marks, marked_columns};
+use crate::repeated::add_repeated_keys;
+use crate::stored::{Stored, stored_in, unreadable};
 use crate::values::KeyValues;
 use arrow_columns::SchemaColumn;
-use arrow_ipc::{IpcError, Schema, read_schema};
-use base64::DecodeAllocError;
-use base64::engine::general_purpose::STANDARD;
 use parquet_footer::Footer;
-use std::alloc::Global;
+use std::alloc::{AllocError, Global};
 
-/// Whether columns have the same names in the same order.
-fn same_names(columns: &[SchemaColumn], others: &[SchemaColumn]) -> bool
-    ensures { result ≡ same_names (map column_tree columns.now) (map column_tree others.now) }
+/// What is read of a footer.
+#[derive(Debug, Drop)]
+pub struct FooterColumns {
+    /// Its columns.
+    pub columns: Vec<SchemaColumn>,
+    /// What the elements say beside the columns, one claim for each, in their order (`docs/FORMAT.md`, 4.6).
+    pub elements: Vec<ElementClaim>,
+    /// What is found: of the schema at `ARROW:schema`, and of keys that stand several times (`docs/FORMAT.md`, 4.5).
+    pub findings: Vec<FileFinding>,
+}
+
+/// Columns before the geometry types of their elements are looked at, and what is found.
+#[derive(Drop)]
+struct Unmarked {
+    columns: Vec<SchemaColumn>,
+    findings: Vec<FileFinding>,
+}
+
+/// Two names, of which one may be absent.
+type Names<'c> = (Option<&'c str>, Option<&'c str>);
+
+/// The first name of columns that is another than that of others at its place, and the other's.
+fn first_other<'c>(columns: &'c [SchemaColumn], others: &'c [SchemaColumn]) -> Option<Names<'c>>
+    ensures { option_map names_seen result ≡ first_other (map column_tree columns.now) (map column_tree others.now) }
 {
     let mut rest = others.iter();
     for column in columns {
+        let name = column.name.as_str();
         let Some(other) = rest.next() else {
-            return false;
+            return Some((Some(name), None));
         };
-        if column.name.as_str() != other.name.as_str() {
-            return false;
+        if name != other.name.as_str() {
+            return Some((Some(name), Some(other.name.as_str())));
         }
     }
-    rest.next().is_none()
+    match rest.next() {
+        Some(other) => Some((None, Some(other.name.as_str()))),
+        None => None,
+    }
 }
 
 /// The columns of the elements of a footer's schema.
@@ -50,82 +74,108 @@ fn columns_of_elements(alloc: Global, footer: &Footer<'_>) -> Result<Vec<SchemaC
     }
 }
 
-/// The bytes of a text in base64.
-fn decode(alloc: Global, text: &str) -> Result<Vec<u8>, SchemaError>
-    ensures { IsDecoded (decode_of standard text.now) result }
+/// What is found of a stored schema of other columns. Errs only when out of memory.
+fn other_names(alloc: Global, names: Names<'_>) -> Result<FileFinding, AllocError>
+    ensures { IfOk result (λ made. finding made ≡ other_names (names_seen names.entry)) }
 {
-    match STANDARD.decode(alloc, text.as_bytes()) {
-        Ok(bytes) => Ok(bytes),
-        Err(DecodeAllocError::DecodeError(error)) => Err(SchemaError::Encoding(error)),
-        Err(DecodeAllocError::OutOfMemory) => Err(SchemaError::OutOfMemory),
-    }
+    let place = FilePlace {
+        part: FilePart::StoredMessage,
+        byte: None,
+    };
+    FileFinding::new(alloc, FileCode::ArrowSchemaNames, place, names.0, names.1)
 }
 
-/// The schema of a message.
-fn schema_of(alloc: Global, message: &[u8]) -> Result<Schema, SchemaError>
-    ensures { HoldsSchema message.now result }
-{
-    match read_schema(alloc, message) {
-        Ok(schema) => Ok(schema),
-        Err(IpcError::OutOfMemory) => Err(SchemaError::OutOfMemory),
-        Err(error) => Err(SchemaError::Ipc(error)),
-    }
-}
-
-/// The columns of the schema that a text in base64 holds, whose names are those of other columns.
-fn columns_of_text(
+/// The columns of a stored schema, if their names are those of the elements' columns; else these. Errs only when out of memory.
+fn by_names(
     alloc: Global,
-    text: &str,
-    columns: &[SchemaColumn],
-) -> Result<Vec<SchemaColumn>, SchemaError>
-    ensures { IsReadBy (Ok (map column_tree columns.now)) (Some text.now) result }
+    stored: Vec<SchemaColumn>,
+    columns: Vec<SchemaColumn>,
+) -> Result<Unmarked, AllocError>
+    ensures { IfOk result (λ read. choice read
+        ≡ by_names (first_other (map column_tree stored.items) (map column_tree columns.items)) (map column_tree stored.items) (map column_tree columns.items)) }
 {
-    let message = decode(alloc, text)?;
-    let schema = schema_of(alloc, message.as_slice())?;
-    if !same_names(schema.columns.as_slice(), columns) {
-        return Err(SchemaError::Names);
-    }
-    Ok(schema.columns)
+    let found = match first_other(stored.as_slice(), columns.as_slice()) {
+        Some(names) => other_names(alloc, names)?,
+        None => {
+            let findings = Vec::new(alloc);
+            return Ok(Unmarked {
+                columns: stored,
+                findings,
+            });
+        }
+    };
+    let findings = vec![in alloc; found]?;
+    Ok(Unmarked { columns, findings })
 }
 
-/// The columns of a footer before its geometry types are looked at.
-fn stored_columns(
+/// The columns of a footer before its geometry types are looked at, by what is stored and by the elements; and what is found of the
+/// former. Errs only when out of memory.
+fn chosen(
+    alloc: Global,
+    stored: Option<Stored>,
+    columns: Vec<SchemaColumn>,
+) -> Result<Unmarked, AllocError>
+    ensures { IfOk result (λ read. choice read ≡ chosen stored (map column_tree columns.items)) }
+{
+    match stored {
+        Some(Stored::Schema(schema)) => by_names(alloc, schema.columns, columns),
+        Some(Stored::Unreadable(fault)) => {
+            let found = unreadable(alloc, fault)?;
+            let findings = vec![in alloc; found]?;
+            Ok(Unmarked { columns, findings })
+        }
+        None => {
+            let findings = Vec::new(alloc);
+            Ok(Unmarked { columns, findings })
+        }
+    }
+}
+
+/// Columns with the extensions that their geometry types denote, and what is found of them and of repeated keys.
+fn finished(
     alloc: Global,
     footer: &Footer<'_>,
-    values: &KeyValues<'_, '_>,
-) -> Result<Vec<SchemaColumn>, SchemaError>
-    ensures { let schema = map element footer.now.schema.items in
-        AreStored (record { schema = schema; key_value_metadata = values.now }) result }
+    read: Unmarked,
+    bytes: usize,
+) -> Result<FooterColumns, SchemaError>
+    ensures { IsReadWith bytes (contents footer.now) (choice read) result }
 {
-    let columns = columns_of_elements(alloc, footer)?;
-    match values.value_of(ARROW_SCHEMA_KEY) {
-        None => Ok(columns),
-        Some(text) => columns_of_text(alloc, text, columns.as_slice()),
-    }
+    let Unmarked { columns, findings } = read;
+    let mut findings = findings;
+    let mut values = KeyValues::new(alloc, footer.key_value_metadata.as_slice())?;
+    let most = report_budget(bytes);
+    let elements = footer.schema.as_slice();
+    let marked = marked_columns(alloc, &mut values, elements, columns, most)?;
+    add_repeated_keys(alloc, &mut findings, footer)?;
+    let Marks { columns, elements } = marked;
+    Ok(FooterColumns {
+        columns,
+        elements,
+        findings,
+    })
 }
 
-/// Returns the columns of the footer of a Parquet file (`docs/FORMAT.md`, 4.5), which has so many
+/// Reads the columns of the footer of a Parquet file (`docs/FORMAT.md`, 4.5), which has so many
 /// bytes: where its key-value metadata have a value of the key `ARROW:schema`, those of the schema
 /// that it holds, an encapsulated IPC message in base64, if they have the names of the columns of
 /// the elements, in their order; otherwise those of the elements, as `columns_of` of
 /// `parquet_columns` makes them. A column without an extension name whose element is of the type
 /// GEOMETRY or GEOGRAPHY has the extension `geoarrow.wkb`, with the CRS and the edges of that type
-/// (`docs/FORMAT.md`, 4.6).
+/// (`docs/FORMAT.md`, 4.6). A value that holds no schema, or one of other names, is among the findings, as is a key that
+/// stands several times.
 ///
-/// Errs with `Elements` where the elements break a rule, with the rule and the element; with
-/// `Encoding` where the value is not base64, with the offset; with `Ipc` as `read_schema` of
-/// `arrow_ipc`, with the rule and the byte; with `Names` where names differ; with `Budget` where
+/// Errs with `Elements` where the elements break a rule, with the rule and the element; with `Budget` where
 /// the extension metadata that geometry types give the columns have together more bytes than
 /// `report_budget(bytes)`; and when out of memory.
 pub fn columns_of_footer(
     alloc: Global,
     footer: &Footer<'_>,
     bytes: usize,
-) -> Result<Vec<SchemaColumn>, SchemaError>
+) -> Result<FooterColumns, SchemaError>
     ensures { IsFooterRead bytes (contents footer.now) result }
 {
-    let mut values = KeyValues::new(alloc, footer.key_value_metadata.as_slice())?;
-    let stored = stored_columns(alloc, footer, &values)?;
-    let most = report_budget(bytes);
-    marked_columns(alloc, &mut values, footer.schema.as_slice(), stored, most)
+    let columns = columns_of_elements(alloc, footer)?;
+    let stored = stored_in(alloc, footer)?;
+    let read = chosen(alloc, stored, columns)?;
+    finished(alloc, footer, read, bytes)
 }

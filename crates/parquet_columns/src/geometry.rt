@@ -5,7 +5,8 @@ ghost use Rattle.parquet_footer.specs.Element.{element};
 ghost use Rattle.parquet_footer.specs.Footer.{Pairing};
 ghost use Rattle.parquet_footer.specs.Logical.{logical};
 ghost use Rattle.parquet_columns.specs.Typed.{IsNamed};
-ghost use Rattle.parquet_columns.specs.Geometry.{text_crs, colon_parts, coded_crs, crs_in, edges_of, text_with, logical_text, is_plain_leaf, extension_text};
+ghost use Rattle.parquet_columns.specs.Geometry.{text_crs, colon_parts, coded_crs, crs_in, edges_of, text_with, geometry_type, is_plain_leaf, geometry_of, extension_text};
+ghost use Rattle.parquet_columns.specs.Says.{says};
 
 use crate::values::KeyValues;
 use geoarrow_meta::{CrsType, Edges, WrittenCrs, is_projjson_text, metadata_text};
@@ -22,6 +23,15 @@ pub(crate) enum NamedCrs<'a> {
     Written(WrittenCrs<'a>, Option<CrsType>),
     /// The value of a key, where it is PROJJSON, or else the text: the text, and the key.
     Keyed(&'a str, &'a str),
+}
+
+/// What a geometry type says.
+#[derive(Clone, Copy)]
+pub(crate) struct GeometrySays<'a> {
+    /// The CRS that it names.
+    pub crs: Option<&'a str>,
+    /// The edges of a GEOGRAPHY.
+    pub edges: Option<Edges>,
 }
 
 /// A text as a CRS of that type.
@@ -82,7 +92,7 @@ fn edges_of(algorithm: Option<Algorithm>) -> Edges
 }
 
 /// The text of the metadata with the CRS that a geometry type names and those edges.
-fn text_with<'a>(
+pub(crate) fn text_with<'a>(
     alloc: Global,
     values: &mut KeyValues<'_, 'a>,
     crs: Option<&'a str>,
@@ -98,23 +108,17 @@ fn text_with<'a>(
     }
 }
 
-/// The text of the metadata that a logical type denotes, if it is a geometry type.
-fn logical_text<'a>(
-    alloc: Global,
-    values: &mut KeyValues<'_, 'a>,
-    logical_type: Option<LogicalType<'a>>,
-) -> Result<Option<String>, AllocError>
-    ensures text { IfOk result (λ text. option_map string_bytes text
-        ≡ logical_text values.old (option_map logical logical_type.entry)) }
-    ensures same { values.new ≡ values.old }
+/// What a logical type says, if it is a geometry type.
+fn geometry_type<'a>(logical_type: Option<LogicalType<'a>>) -> Option<GeometrySays<'a>>
+    ensures { option_map says result ≡ geometry_type (option_map logical logical_type.entry) }
 {
     match logical_type {
-        Some(LogicalType::Geometry(crs)) => Ok(Some(text_with(alloc, values, crs, None)?)),
-        Some(LogicalType::Geography(crs, algorithm)) => {
-            let edges = Some(edges_of(algorithm));
-            Ok(Some(text_with(alloc, values, crs, edges)?))
-        }
-        _ => Ok(None),
+        Some(LogicalType::Geometry(crs)) => Some(GeometrySays { crs, edges: None }),
+        Some(LogicalType::Geography(crs, algorithm)) => Some(GeometrySays {
+            crs,
+            edges: Some(edges_of(algorithm)),
+        }),
+        _ => None,
     }
 }
 
@@ -126,6 +130,16 @@ fn is_plain_leaf(found: &SchemaElement<'_>) -> bool
         && !matches!(found.storage.repetition, Some(Repetition::Repeated))
 }
 
+/// What an element says by its geometry type, if it is of one.
+pub(crate) fn geometry_of<'a>(found: &SchemaElement<'a>) -> Option<GeometrySays<'a>>
+    ensures { option_map says result ≡ geometry_of (element found.now) }
+{
+    if is_plain_leaf(found) {
+        return geometry_type(found.logical_type);
+    }
+    None
+}
+
 /// The text of the extension metadata that an element denotes, if it is of a geometry type. Errs only when out of memory.
 pub(crate) fn extension_text<'a>(
     alloc: Global,
@@ -135,8 +149,8 @@ pub(crate) fn extension_text<'a>(
     ensures text { IfOk result (λ text. option_map string_bytes text ≡ extension_text values.old (element found.now)) }
     ensures same { values.new ≡ values.old }
 {
-    if is_plain_leaf(found) {
-        return logical_text(alloc, values, found.logical_type);
+    match geometry_of(found) {
+        Some(said) => Ok(Some(text_with(alloc, values, said.crs, said.edges)?)),
+        None => Ok(None),
     }
-    Ok(None)
 }

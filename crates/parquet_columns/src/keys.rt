@@ -1,17 +1,20 @@
 //! The values of keys.
-ghost use Rattle.std.specs.Prelude.{◌≡◌, map};
-ghost use Rattle.arrow_values.specs.Texts.{text_of};
+ghost use Rattle.std.specs.Prelude.{◌≡◌, map, option_map};
+ghost use Rattle.parquet_footer.specs.Spelled.{spelled};
 ghost use Rattle.parquet_footer.specs.Footer.{pairing};
 ghost use Rattle.parquet_columns.specs.Keys.{later, value_under, value_of};
 
-use parquet_footer::{Footer, KeyValue};
+use parquet_footer::{Footer, FooterText, KeyValue};
 
 /// The key under which Arrow's libraries store the schema of the columns that they wrote.
 pub const ARROW_SCHEMA_KEY: &str = "ARROW:schema";
 
 /// The later of two values, where there are some.
-fn later<'a>(value: Option<&'a str>, before: Option<&'a str>) -> Option<&'a str>
-    ensures { text_of result ≡ later (text_of value.entry) (text_of before.entry) }
+fn later<'a>(
+    value: Option<FooterText<'a>>,
+    before: Option<FooterText<'a>>,
+) -> Option<FooterText<'a>>
+    ensures { option_map spelled result ≡ later (option_map spelled value.entry) (option_map spelled before.entry) }
 {
     match value {
         Some(value) => Some(value),
@@ -20,17 +23,21 @@ fn later<'a>(value: Option<&'a str>, before: Option<&'a str>) -> Option<&'a str>
 }
 
 /// The value of a pair, if the key is its own.
-fn value_under<'a>(pair: &KeyValue<'a>, key: &str) -> Option<&'a str>
-    ensures { text_of result ≡ value_under key.now (pairing pair.now) }
+pub(crate) fn value_under<'a>(pair: &KeyValue<'a>, key: &str) -> Option<FooterText<'a>>
+    ensures { option_map spelled result ≡ value_under key.now (pairing pair.now) }
 {
-    if pair.key == key { pair.value } else { None }
+    if pair.key.bytes == key.as_bytes() {
+        pair.value
+    } else {
+        None
+    }
 }
 
-/// The value of a key in the key-value metadata of a footer: the last one, where several pairs of the key have a value.
-/// Allocates nothing.
+/// Returns the value of a key in the key-value metadata of a footer (`docs/FORMAT.md`, 4.5): the last one, where several pairs of the key
+/// have a value. It need not be UTF-8. Allocates nothing.
 #[tactic(auto, using(crate::proofs::Laters::first, crate::proofs::Laters::goes_on, crate::proofs::Laters::ends))]
-pub fn value_of<'a>(footer: &Footer<'a>, key: &str) -> Option<&'a str>
-    ensures { text_of result ≡ value_of key.now (map pairing footer.now.key_value_metadata.items) }
+pub fn value_of<'a>(footer: &Footer<'a>, key: &str) -> Option<FooterText<'a>>
+    ensures { option_map spelled result ≡ value_of key.now (map pairing footer.now.key_value_metadata.items) }
 {
     let mut found = None;
     for pair in footer.key_value_metadata.as_slice() {

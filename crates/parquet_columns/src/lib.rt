@@ -4,11 +4,14 @@
 
 mod annotation;
 mod budget;
+mod claim;
+mod code;
 mod columns;
 mod equality_laws;
 mod error;
 mod fault;
 mod file;
+mod finding;
 mod footer;
 mod geometry;
 mod keys;
@@ -16,13 +19,21 @@ mod leaf;
 mod marks;
 mod meaning;
 mod nodes;
+mod repeated;
+mod stored;
 mod values;
 
 pub use budget::{TOO_LARGE, report_budget};
+pub use claim::ElementClaim;
+pub use code::{FileCode, FilePart};
 pub use columns::{NESTING_LIMIT, columns_of};
-pub use equality_laws::{columns_error_equality_is_exact, rule_equality_is_exact};
+pub use equality_laws::{
+    columns_error_equality_is_exact, file_code_equality_is_exact, file_place_equality_is_exact,
+    rule_equality_is_exact,
+};
 pub use error::SchemaError;
 pub use fault::{ColumnsError, ElementFault, SchemaRule};
 pub use file::{FileColumns, footer_in, read_file};
-pub use footer::columns_of_footer;
+pub use finding::{FileFinding, FilePlace};
+pub use footer::{FooterColumns, columns_of_footer};
 pub use keys::{ARROW_SCHEMA_KEY, value_of};

@@ -7,6 +7,7 @@ ghost use Rattle.parquet_columns.specs.Geometry.{count_of, root_children, childr
 ghost use Rattle.parquet_columns.specs.Marks.{IsMarked, AreMarked};
 
 use crate::budget::size_of;
+use crate::claim::{ElementClaim, claim_of, claim_size};
 use crate::error::SchemaError;
 use crate::geometry::extension_text;
 use crate::values::KeyValues;
@@ -16,6 +17,13 @@ use std::alloc::{AllocError, Global};
 
 /// The extension name of well-known binary.
 const WKB: &str = "geoarrow.wkb";
+
+/// Columns, and what their elements say beside them.
+#[derive(Drop)]
+pub(crate) struct Marks {
+    pub columns: Vec<SchemaColumn>,
+    pub elements: Vec<ElementClaim>,
+}
 
 /// The elements of a schema that are children of its root.
 fn root_children<'a>(
@@ -105,58 +113,64 @@ fn child_at<'c, 'a>(children: &'c [SchemaElement<'a>], at: usize) -> Option<&'c 
 }
 
 /// A column with the extension that its element denotes, if it has no extension name of its own;
-/// and what its extension metadata leave of an amount.
+/// what the element says beside it; and what the extension metadata of both leave of an amount.
 fn marked<'a>(
     alloc: Global,
     values: &mut KeyValues<'_, 'a>,
     child: Option<&SchemaElement<'a>>,
     column: SchemaColumn,
     amount: u128,
-) -> Result<(SchemaColumn, u128), SchemaError>
+) -> Result<(SchemaColumn, ElementClaim, u128), SchemaError>
     ensures made { IsMarked values.old (option_map (λ e. element e.now) child.entry) (column_tree column) amount result }
     ensures same { values.new ≡ values.old }
 {
     let text = given(alloc, values, child, &column)?;
-    let size = size_of(&text);
+    let said = claim_of(alloc, values, child, &column)?;
+    let size = size_of(&text) + claim_size(&said);
     if amount < size {
         return Err(SchemaError::Budget);
     }
     let new = marked_by(alloc, column, text)?;
-    Ok((new, amount - size))
+    Ok((new, said, amount - size))
 }
 
-/// Columns with the extensions that the elements denote, each for the column at its place, whose
-/// extension metadata have at most so many bytes.
+/// Columns with the extensions that the elements denote, each for the column at its place, and what
+/// the elements say beside them, where the extension metadata have at most so many bytes.
 fn marked_within<'a>(
     alloc: Global,
     values: &mut KeyValues<'_, 'a>,
     children: &[SchemaElement<'a>],
     columns: Vec<SchemaColumn>,
     amount: u128,
-) -> Result<Vec<SchemaColumn>, SchemaError>
+) -> Result<Marks, SchemaError>
     ensures { AreMarked values.old (map element children.now) (map column_tree columns.items) amount result }
 {
     let mut made = Vec::new(alloc);
+    let mut elements = Vec::new(alloc);
     let mut left = amount;
     for column in columns {
         let at = made.len();
         let child = child_at(children, at);
-        let (new, rest) = marked(alloc, values, child, column, left)?;
+        let (new, said, rest) = marked(alloc, values, child, column, left)?;
         made.push(new)?;
+        elements.push(said)?;
         left = rest;
     }
-    Ok(made)
+    Ok(Marks {
+        columns: made,
+        elements,
+    })
 }
 
-/// Columns with the extensions that the children of the root denote, whose extension metadata have
-/// at most so many bytes.
+/// Columns with the extensions that the children of the root denote, and what these say beside
+/// them, where the extension metadata have at most so many bytes.
 pub(crate) fn marked_columns<'a>(
     alloc: Global,
     values: &mut KeyValues<'_, 'a>,
     elements: &[SchemaElement<'a>],
     columns: Vec<SchemaColumn>,
     amount: u128,
-) -> Result<Vec<SchemaColumn>, SchemaError>
+) -> Result<Marks, SchemaError>
     ensures { AreMarked values.old (root_children (map element elements.now)) (map column_tree columns.items) amount result }
 {
     let children = root_children(alloc, elements)?;

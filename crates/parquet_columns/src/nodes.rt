@@ -26,7 +26,7 @@ pub(crate) enum Shape {
 /// An element with all that is below it.
 #[derive(Drop)]
 pub(crate) struct Node<'a> {
-    pub(crate) name: &'a str,
+    pub(crate) name: &'a [u8],
     pub(crate) repetition: Repetition,
     pub(crate) shape: Shape,
 }
@@ -45,16 +45,16 @@ fn shape_type(alloc: Global, shape: Shape) -> Result<AnyType, AllocError>
     }
 }
 
-/// A column without metadata.
+/// A column without metadata, of a name that need not be UTF-8.
 fn plain_column(
     alloc: Global,
-    name: &str,
+    name: &[u8],
     nullable: bool,
     data_type: AnyType,
 ) -> Result<SchemaColumn, AllocError>
     ensures { IfOk result (λ made. column_tree made ≡ plain_column name.now nullable (type_tree data_type)) }
 {
-    let Ok(name) = String::from_str(alloc, name) else {
+    let Ok(name) = String::from_utf8_lossy(alloc, name) else {
         drop(data_type);
         return Err(AllocError);
     };
@@ -89,7 +89,7 @@ fn is_repeated(repetition: Repetition) -> bool
 /// A column of a name, a repetition and a type.
 fn column_by(
     alloc: Global,
-    name: &str,
+    name: &[u8],
     repetition: Repetition,
     data_type: AnyType,
 ) -> Result<SchemaColumn, AllocError>
@@ -170,14 +170,14 @@ pub(crate) fn group_shape(alloc: Global, nodes: Vec<Node<'_>>) -> Result<Shape, 
 }
 
 /// Whether the repeated group of a LIST is the item itself, by its name.
-fn is_item_name(list: &str, name: &str) -> bool
+fn is_item_name(list: &[u8], name: &[u8]) -> bool
     ensures { result ≡ is_item_name list.now name.now }
 {
-    if name == "array" {
+    if name == "array".as_bytes() {
         return true;
     }
-    match name.as_bytes().strip_suffix(b"_tuple") {
-        Some(front) => front == list.as_bytes(),
+    match name.strip_suffix(b"_tuple") {
+        Some(front) => front == list,
         None => false,
     }
 }
@@ -185,8 +185,8 @@ fn is_item_name(list: &str, name: &str) -> bool
 /// The item of a LIST of a name, by its repeated element of that name, a group of one element that is not repeated.
 fn wrapped_item(
     alloc: Global,
-    list: &str,
-    name: &str,
+    list: &[u8],
+    name: &[u8],
     column: SchemaColumn,
 ) -> Result<SchemaColumn, AllocError>
     ensures { IfOk result (λ made. column_tree made ≡ item_by list.now name.now (wrapper (column_tree column))) }
@@ -199,7 +199,7 @@ fn wrapped_item(
 }
 
 /// The item of a LIST of a name, by its repeated element.
-fn item_by(alloc: Global, list: &str, node: Node<'_>) -> Result<SchemaColumn, AllocError>
+fn item_by(alloc: Global, list: &[u8], node: Node<'_>) -> Result<SchemaColumn, AllocError>
     ensures { IfOk result (λ made. column_tree made ≡ item_by list.now (node_tree node.entry).name (node_tree node.entry).shape) }
 {
     let Node { name, shape, .. } = node;
@@ -218,7 +218,7 @@ fn item_by(alloc: Global, list: &str, node: Node<'_>) -> Result<SchemaColumn, Al
 pub(crate) fn list_shape(
     alloc: Global,
     at: usize,
-    list: &str,
+    list: &[u8],
     nodes: Vec<Node<'_>>,
 ) -> Result<Shape, ColumnsError>
     ensures { Says shape_tree (list_shape at list.now (map node_tree nodes.entry.items)) result }
@@ -230,7 +230,7 @@ pub(crate) fn list_shape(
 }
 
 /// What a LIST stands for, by the one element below it.
-fn list_of(alloc: Global, at: usize, list: &str, node: Node<'_>) -> Result<Shape, ColumnsError>
+fn list_of(alloc: Global, at: usize, list: &[u8], node: Node<'_>) -> Result<Shape, ColumnsError>
     ensures { Says shape_tree (list_of at list.now (node_tree node.entry)) result }
 {
     if !is_repeated(node.repetition) {
@@ -260,7 +260,8 @@ fn map_type(alloc: Global, node: Node<'_>) -> Result<AnyType, AllocError>
     let text = entries.notation(alloc);
     drop(entries);
     let text = text?;
-    let part = part_notation(alloc, name, text.as_str(), false)?;
+    let name = String::from_utf8_lossy(alloc, name)?;
+    let part = part_notation(alloc, name.as_str(), text.as_str(), false)?;
     nested_notation(alloc, "map", &[part]).map(AnyType::Other)
 }
 

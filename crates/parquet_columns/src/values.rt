@@ -1,20 +1,21 @@
-//! The values of the keys of a footer, each found by a map.
+//! The texts at the keys of a footer, each found by a map.
 ghost use Rattle.std.specs.Prelude.{◌≡◌, [], ◌∷◌, ◌++◌, true, is_some, IfOk, OnOk, List, map, Option, Some, option_map, string_bytes};
 ghost use Rattle.arrow_values.specs.Tree.{Text};
 ghost use Rattle.arrow_values.specs.Texts.{text_of};
+ghost use Rattle.parquet_footer.specs.Spelled.{spelled};
 ghost use Rattle.parquet_footer.specs.Footer.{pairing};
 ghost use Rattle.parquet_footer.specs.declared.footer.KeyValue.{KeyValue};
 ghost use Rattle.parquet_columns.specs.Geometry.{keyed_crs, text_with};
-ghost use Rattle.parquet_columns.specs.Keys.{value_of};
+ghost use Rattle.parquet_columns.specs.Keys.{text_in as text_spelled, value_text, text_pair, text_at};
 ghost use Rattle.parquet_columns.specs.Values.{at, AreValues, AreJudged, compact_of};
 
 use geoarrow_meta::{CrsType, Edges, WrittenCrs, compact_projjson, metadata_text};
-use parquet_footer::KeyValue;
+use parquet_footer::{FooterText, KeyValue};
 use std::alloc::{AllocError, Global};
 use std::collections::BTreeMap;
 use std::marker::Model;
 
-/// The values of the keys of a footer. A value is found in time that grows with the logarithm of
+/// The texts at the keys of a footer. A text is found in time that grows with the logarithm of
 /// the number of pairs, and is read as PROJJSON once, however often it is asked for.
 #[derive(Drop)]
 pub(crate) struct KeyValues<'f, 'a> {
@@ -58,13 +59,6 @@ impl<'f, 'a> KeyValues<'f, 'a> {
         })
     }
 
-    /// Returns the value of a key: the last one, where several pairs of the key have a value.
-    pub(crate) fn value_of(&self, key: &str) -> Option<&'a str>
-        ensures { text_of result ≡ value_of key.now self.now }
-    {
-        value_in(&self.last, key)
-    }
-
     /// Returns the text of the metadata with the CRS `projjson:KEY`, which is that text, and with
     /// those edges. Errs only when out of memory.
     pub(crate) fn keyed_text(
@@ -75,7 +69,7 @@ impl<'f, 'a> KeyValues<'f, 'a> {
         edges: Option<Edges>,
     ) -> Result<String, AllocError>
         ensures text { IfOk result (λ made. string_bytes made
-            ≡ text_with (keyed_crs text.now (value_of key.now self.old)) edges) }
+            ≡ text_with (keyed_crs text.now (text_at key.now self.old)) edges) }
         ensures same { self.new ≡ self.old }
     {
         let value = value_in(&self.last, key);
@@ -85,17 +79,47 @@ impl<'f, 'a> KeyValues<'f, 'a> {
     }
 }
 
-/// Puts the value of a pair, if it has one, at its key.
+/// The text that bytes are, if they are UTF-8.
+fn text_spelled(text: FooterText<'_>) -> Option<&str>
+    ensures { text_of result ≡ text_spelled (spelled text.entry) }
+{
+    match str::from_utf8(text.bytes) {
+        Ok(text) => Some(text),
+        Err(_) => None,
+    }
+}
+
+/// The text that a value is, if there is one, and it is UTF-8.
+fn value_text(value: Option<FooterText<'_>>) -> Option<&str>
+    ensures { text_of result ≡ value_text (option_map spelled value.entry) }
+{
+    match value {
+        Some(value) => text_spelled(value),
+        None => None,
+    }
+}
+
+/// The key and the value of a pair, if both are UTF-8.
+fn text_pair<'a>(pair: &KeyValue<'a>) -> Option<(&'a str, &'a str)>
+    ensures { option_map (λ q. (q.0.now, q.1.now)) result ≡ text_pair (pairing pair.now) }
+{
+    match (text_spelled(pair.key), value_text(pair.value)) {
+        (Some(key), Some(value)) => Some((key, value)),
+        _ => None,
+    }
+}
+
+/// Puts the value of a pair at its key, if both are UTF-8.
 fn put_value<'a>(
     last: &mut BTreeMap<&'a str, &'a str>,
     pair: &KeyValue<'a>,
 ) -> Result<(), AllocError>
     ensures { OnOk result ((ps : List KeyValue) → AreValues ps last.old → AreValues (ps ++ pair.now ∷ []) last.new) }
 {
-    match pair.value {
+    match text_pair(pair) {
         None => Ok(()),
-        Some(value) => {
-            drop(last.insert(pair.key, value)?);
+        Some((key, value)) => {
+            drop(last.insert(key, value)?);
             Ok(())
         }
     }
@@ -119,7 +143,7 @@ fn judge<'a>(
     value: Option<&str>,
 ) -> Result<(), AllocError>
     ensures stay { (ps : List KeyValue) → AreJudged ps judged.old
-        → text_of value.entry ≡ value_of key.now (map pairing ps) → AreJudged ps judged.new }
+        → text_of value.entry ≡ text_at key.now (map pairing ps) → AreJudged ps judged.new }
     ensures known { OnOk result (is_some (at judged.new key.now) ≡ true) }
 {
     if judged.contains_key(key) {

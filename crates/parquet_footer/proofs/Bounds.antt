@@ -4,6 +4,7 @@ use Rattle.parquet_footer.specs.declared.fault.Fault.{Fault}
 use Rattle.parquet_footer.specs.Fault.{needed, ◌>>=◌}
 use Rattle.parquet_footer.specs.Wire.{byte_at, number_at, number_past, count_at, bytes_past, binary_at, text_at, list_at, map_at, field_at}
 use Rattle.parquet_footer.specs.Fields.{Spot, noted, noting, pair_at, value_of, number_in, named, name_in, text_in, flag_in, structs_in}
+use Rattle.parquet_footer.specs.Spelled.{spelled_at, spelled_in}
 use Rattle.parquet_footer.specs.Logical.{algorithms, union_at, unit_of, unit_in, clock_at, width_in, integer_at, geometry_at, geography_at, member_at, logical_at, logical_in}
 use Rattle.parquet_footer.specs.Element.{physical_types, repetitions, storage_at, numbers_at, element_at}
 use Rattle.parquet_footer.specs.Footer.{all_at, key_value_at, footer_at}
@@ -171,6 +172,15 @@ unfolding text_in
 text_in_within n None f = reads _ n _ tt
 text_in_within n (Some p) f = step (λ x. length x ≤ n) _ n _ _ (value_of_within n 8 p f) (λ x k. step (λ x. Unit {0}) _ n _ _ (text_within n x k) (λ x _. reads _ n _ tt))
 
+pub spelled_within : (n size : ℕ) (bytes : List ℕ) → length bytes ≤ n → Within (λ x. Unit {0}) n (spelled_at size bytes)
+unfolding spelled_at
+spelled_within n size bytes h = step (λ x. length x.1 ≤ n) _ n _ _ (number_within n 5 bytes h) (λ x k. checked _ n _ _ _ h (reads _ n _ tt))
+
+pub spelled_in_within : (n size : ℕ) (p : Option Spot) → Found n p → Within (λ x. Unit {0}) n (spelled_in size p)
+unfolding spelled_in
+spelled_in_within n size None f = reads _ n _ tt
+spelled_in_within n size (Some p) f = step (λ x. length x ≤ n) _ n _ _ (value_of_within n 8 p f) (λ x k. step (λ x. Unit {0}) _ n _ _ (spelled_within n size x k) (λ x _. reads _ n _ tt))
+
 pub structs_within : (n : ℕ) (p : Option Spot) → Found n p → Within (λ x. length x.1 ≤ n) n (structs_in p)
 unfolding structs_in
 structs_within n None f = reads _ n _ (omega arith)
@@ -198,14 +208,14 @@ module _ (n : ℕ) (bytes : List ℕ) (h : length bytes ≤ n) where
   abbrev Pair : ((Option Spot × Option Spot) × List ℕ) → Type 0
   Pair x = FoundBoth n x.0 × (length x.1 ≤ n)
 
-  pub storage_within : Within (λ x. Unit {0}) n (storage_at bytes)
+  pub storage_within : (size : ℕ) → Within (λ x. Unit {0}) n (storage_at size bytes)
   unfolding storage_at
-  storage_within = step Pair _ n _ _ (pair_within n 1 2 bytes h) (λ types k.
+  storage_within size = step Pair _ n _ _ (pair_within n 1 2 bytes h) (λ types k.
       step (λ x. Unit {0}) _ n _ _ (name_within physical_types types.0.0 k.0.0) (λ physical_type _.
       step (λ x. Unit {0}) _ n _ _ (number_in_within n types.0.1 k.0.1) (λ type_length _.
       step Pair _ n _ _ (pair_within n 3 4 bytes h) (λ names l.
       step (λ x. Unit {0}) _ n _ _ (name_within repetitions names.0.0 l.0.0) (λ repetition _.
-      step (λ x. Unit {0}) _ n _ _ (text_in_within n names.0.1 l.0.1) (λ text _.
+      step (λ x. Unit {0}) _ n _ _ (spelled_in_within n size names.0.1 l.0.1) (λ text _.
       step (λ x. Unit {0}) _ n _ _ (needed_within n bytes text h) (λ name _. reads _ n _ tt)))))))
 
   pub geometry_within : Within (λ x. Unit {0}) n (geometry_at bytes)
@@ -279,20 +289,20 @@ module _ (n : ℕ) (bytes : List ℕ) (h : length bytes ≤ n) where
       step (λ x. Unit {0}) _ n _ _ (number_in_within n found.0.0 k.0.0) (λ first _.
       step (λ x. Unit {0}) _ n _ _ (number_in_within n found.0.1 k.0.1) (λ second _. reads _ n _ tt)))
 
-  pub element_within : Within (λ x. length x.1 ≤ n) n (element_at bytes)
+  pub element_within : (size : ℕ) → Within (λ x. length x.1 ≤ n) n (element_at size bytes)
   unfolding element_at
-  element_within = step (λ x. Unit {0}) _ n _ _ (storage_within n bytes h) (λ storage _.
+  element_within size = step (λ x. Unit {0}) _ n _ _ (storage_within n bytes h size) (λ storage _.
       step (λ x. Unit {0}) _ n _ _ (numbers_within 5 6) (λ one _.
       step (λ x. Unit {0}) _ n _ _ (numbers_within 7 8) (λ two _.
       step (λ x. FoundBoth n x.0 × (length x.1 ≤ n)) _ n _ _ (pair_within n 10 10 bytes h) (λ last k.
       step (λ x. Unit {0}) _ n _ _ (logical_in_within n last.0.0 k.0.0) (λ logical_type _. reads _ n _ k.1)))))
 
-  pub key_value_within : Within (λ x. length x.1 ≤ n) n (key_value_at bytes)
+  pub key_value_within : (size : ℕ) → Within (λ x. length x.1 ≤ n) n (key_value_at size bytes)
   unfolding key_value_at
-  key_value_within = step (λ x. FoundBoth n x.0 × (length x.1 ≤ n)) _ n _ _ (pair_within n 1 2 bytes h) (λ found k.
-      step (λ x. Unit {0}) _ n _ _ (text_in_within n found.0.0 k.0.0) (λ text _.
+  key_value_within size = step (λ x. FoundBoth n x.0 × (length x.1 ≤ n)) _ n _ _ (pair_within n 1 2 bytes h) (λ found k.
+      step (λ x. Unit {0}) _ n _ _ (spelled_in_within n size found.0.0 k.0.0) (λ text _.
       step (λ x. Unit {0}) _ n _ _ (needed_within n bytes text h) (λ key _.
-      step (λ x. Unit {0}) _ n _ _ (text_in_within n found.0.1 k.0.1) (λ value _. reads _ n _ k.1))))
+      step (λ x. Unit {0}) _ n _ _ (spelled_in_within n size found.0.1 k.0.1) (λ value _. reads _ n _ k.1))))
 
 module _ {A : Type 0} (n : ℕ) (item : List ℕ → Result (A × List ℕ) Fault) (within : (bytes : List ℕ) → length bytes ≤ n → Within (λ x. length x.1 ≤ n) n (item bytes)) where
   pub all_within : (m : ℕ) (bytes : List ℕ) → length bytes ≤ n → Within (λ x. Unit {0}) n (all_at item m bytes)
@@ -310,8 +320,8 @@ footer_within bytes =
     step (λ p. length p.1 ≤ n) _ n _ _ (place_within n bytes found.0.0 h k.0.0) (λ elements l.
     step (λ x. length x.1 ≤ n) _ n _ _ (structs_within n (Some elements) l) (λ one m.
     step (λ x. length x.1 ≤ n) _ n _ _ (structs_within n found.0.1 k.0.1) (λ other o.
-    step (λ x. Unit {0}) _ n _ _ (all_within n element_at (element_within n) one.0 one.1 m) (λ schema _.
-    step (λ x. Unit {0}) _ n _ _ (all_within n key_value_at (key_value_within n) other.0 other.1 o) (λ key_values _. reads _ n _ tt))))))
+    step (λ x. Unit {0}) _ n _ _ (all_within n (element_at n) (λ bs k. element_within n bs k n) one.0 one.1 m) (λ schema _.
+    step (λ x. Unit {0}) _ n _ _ (all_within n (key_value_at n) (λ bs k. key_value_within n bs k n) other.0 other.1 o) (λ key_values _. reads _ n _ tt))))))
 
 -- so a fault of a footer leaves no more bytes than the footer has
 pub fault_within : (bytes : List ℕ) (e : Fault) → footer_at bytes ≡ Err e → e.left ≤ length bytes

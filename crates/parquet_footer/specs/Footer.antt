@@ -1,10 +1,11 @@
 -- A footer, by the ids of its fields.
-use Rattle.std.specs.Prelude.{ℕ, zero, suc, List, [], ◌∷◌, map, Option, Some, option_map, Result, Ok}
+use Rattle.std.specs.Prelude.{ℕ, zero, suc, List, [], ◌∷◌, length, map, Option, Some, option_map, Result, Ok}
 use Rattle.parquet_footer.specs.declared.fault.Fault.{Fault}
 use Rattle.parquet_footer.specs.declared.footer.Footer.{Footer}
 use Rattle.parquet_footer.specs.declared.footer.KeyValue.{KeyValue}
 use Rattle.parquet_footer.specs.Fault.{needed, ◌>>=◌}
-use Rattle.parquet_footer.specs.Fields.{pair_at, text_in, structs_in}
+use Rattle.parquet_footer.specs.Fields.{pair_at, structs_in}
+use Rattle.parquet_footer.specs.Spelled.{Spelled, spelled, spelled_in}
 use Rattle.parquet_footer.specs.Element.{Element, element, element_at}
 
 -- so many structs one after the other
@@ -16,19 +17,19 @@ all_at item (suc n) bytes = do
   Ok (first.0 ∷ others)
 
 pub record Pairing : Type 0 where
-  pub key : List ℕ
-  pub value : Option (List ℕ)
+  pub key : Spelled
+  pub value : Option Spelled
 
 abbrev pub pairing : KeyValue → Pairing
-pairing p = record { key = p.key.now; value = option_map (λ s. s.now) p.value }
+pairing p = record { key = spelled p.key; value = option_map spelled p.value }
 
--- KeyValue: 1 key, 2 value
-unfoldable pub key_value_at : List ℕ → Result (Pairing × List ℕ) Fault
-key_value_at bytes = do
+-- KeyValue: 1 key, 2 value, which need not be UTF-8; the footer has that size
+unfoldable pub key_value_at : ℕ → List ℕ → Result (Pairing × List ℕ) Fault
+key_value_at size bytes = do
   found ← pair_at 1 2 bytes
-  text ← text_in found.0.0
+  text ← spelled_in size found.0.0
   key ← needed bytes text
-  value ← text_in found.0.1
+  value ← spelled_in size found.0.1
   Ok (record { key = key; value = value }, found.1)
 
 pub record Contents : Type 0 where
@@ -45,6 +46,6 @@ footer_at bytes = do
   elements ← needed bytes found.0.0
   one ← structs_in (Some elements)
   other ← structs_in found.0.1
-  schema ← all_at element_at one.0 one.1
-  key_values ← all_at key_value_at other.0 other.1
+  schema ← all_at (element_at (length bytes)) one.0 one.1
+  key_values ← all_at (key_value_at (length bytes)) other.0 other.1
   Ok (record { schema = schema; key_value_metadata = key_values })

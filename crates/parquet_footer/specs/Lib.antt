@@ -2,8 +2,11 @@ pub mod Fault
 pub mod Wire
 pub mod Skip
 pub mod Fields
+pub mod Spelled
 pub mod Logical
 pub mod Element
 pub mod Footer
+pub mod Codes
+pub mod Findings
 pub mod Tail
 pub mod Rules

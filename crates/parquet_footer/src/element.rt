@@ -4,8 +4,9 @@ ghost use Rattle.parquet_footer.specs.Fault.{Returns};
 ghost use Rattle.parquet_footer.specs.Element.{stored, storage_at, numbers_at, element, element_at};
 
 use crate::fault::{Fault, FooterRule, broken};
-use crate::fields::{name_in, number_in, pair_at, text_in};
+use crate::fields::{name_in, number_in, pair_at};
 use crate::logical::{LogicalType, logical_in};
+use crate::text::{FooterText, spelled_in};
 
 /// How the values of a leaf are stored.
 #[derive(Debug, Clone, Copy, PartialEq, Eq)]
@@ -49,12 +50,14 @@ pub struct Storage<'a> {
     /// Absent in the root.
     pub repetition: Option<Repetition>,
     /// The name of the element among those beside it.
-    pub name: &'a str,
+    pub name: FooterText<'a>,
 }
 
 /// An element of the schema: a leaf or a group.
 #[derive(Debug, Clone, Copy)]
 pub struct SchemaElement<'a> {
+    /// Behind how many bytes of the footer it begins.
+    pub byte: usize,
     /// Its name, and how its values are stored.
     pub storage: Storage<'a>,
     /// How many elements are the children of a group.
@@ -88,17 +91,17 @@ const REPETITIONS: [Repetition; 3] = [
     Repetition::Repeated,
 ];
 
-/// The fields 1 to 4 of an element.
+/// The fields 1 to 4 of an element, in a footer of that size.
 #[tactic(auto, unfolding(crate::specs::Element::storage_at))]
-fn storage_at(bytes: &[u8]) -> Result<Storage<'_>, Fault>
-    ensures { Returns stored result (storage_at bytes.now) }
+fn storage_at(size: usize, bytes: &[u8]) -> Result<Storage<'_>, Fault>
+    ensures { Returns stored result (storage_at size bytes.now) }
 {
     let (physical, length, _) = pair_at(bytes, 1, 2)?;
     let physical_type = name_in(&PHYSICAL_TYPES, physical, bytes)?;
     let type_length = number_in(length)?;
     let (repetition, name, _) = pair_at(bytes, 3, 4)?;
     let repetition = name_in(&REPETITIONS, repetition, bytes)?;
-    match text_in(name) {
+    match spelled_in(size, name) {
         Ok(Some(name)) => Ok(Storage {
             physical_type,
             type_length,
@@ -119,16 +122,17 @@ fn numbers_at(bytes: &[u8], one: u16, other: u16) -> Result<(Option<u32>, Option
     Ok((number_in(first)?, number_in(second)?))
 }
 
-/// An element, and the bytes behind it.
+/// An element, in a footer of that size, and the bytes behind it.
 #[tactic(auto, unfolding(crate::specs::Element::element_at))]
-pub fn element_at(bytes: &[u8]) -> Result<(SchemaElement<'_>, &[u8]), Fault>
-    ensures { Returns (λ x. (element x.0, x.1.now)) result (element_at bytes.now) }
+pub fn element_at(size: usize, bytes: &[u8]) -> Result<(SchemaElement<'_>, &[u8]), Fault>
+    ensures { Returns (λ x. (element x.0, x.1.now)) result (element_at size bytes.now) }
 {
-    let storage = storage_at(bytes)?;
+    let storage = storage_at(size, bytes)?;
     let (num_children, converted_type) = numbers_at(bytes, 5, 6)?;
     let (scale, precision) = numbers_at(bytes, 7, 8)?;
     let (logical, _, rest) = pair_at(bytes, 10, 10)?;
     let element = SchemaElement {
+        byte: size.saturating_sub(bytes.len()),
         storage,
         num_children,
         converted_type,

@@ -1,6 +1,7 @@
 //! Laws of `==`: it returns true for two values exactly if they are the same.
 ghost use Rattle.std.specs.Prelude.{◌≡◌, ◌↔◌, IsTrue};
 
+use crate::code::{FooterCode, Severity};
 use crate::element::{PhysicalType, Repetition};
 use crate::fault::{FooterError, FooterRule};
 use crate::logical::{Algorithm, TimeUnit};
@@ -42,6 +43,20 @@ pub fn time_unit_equality_is_exact(one: TimeUnit, other: TimeUnit) -> bool
 
 /// A law: `==` returns true for two algorithms exactly if they are the same.
 pub fn algorithm_equality_is_exact(one: Algorithm, other: Algorithm) -> bool
+    ensures { IsTrue result ↔ (one ≡ other) }
+{
+    one == other
+}
+
+/// A law: `==` returns true for two codes exactly if they are the same.
+pub fn footer_code_equality_is_exact(one: FooterCode, other: FooterCode) -> bool
+    ensures { IsTrue result ↔ (one ≡ other) }
+{
+    one == other
+}
+
+/// A law: `==` returns true for two severities exactly if they are the same.
+pub fn severity_equality_is_exact(one: Severity, other: Severity) -> bool
     ensures { IsTrue result ↔ (one ≡ other) }
 {
     one == other

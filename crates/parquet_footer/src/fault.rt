@@ -4,7 +4,7 @@ ghost use Rattle.parquet_footer.specs.Fault.{broken, kept};
 ghost use Rattle.parquet_footer.specs.Rules.{rule_code, rule_message, error_code, error_message};
 ghost use Rattle.parquet_footer.specs.declared.fault.Stop.TheVariants as stops;
 
-use std::alloc::AllocFailed;
+use std::alloc::{AllocError, AllocFailed};
 
 /// A rule that the bytes break.
 #[derive(Debug, Clone, Copy, PartialEq, Eq)]
@@ -108,6 +108,14 @@ impl From<Fault> for Stop {
 
     fn from(fault: Fault) -> Stop {
         Stop::Fault(fault)
+    }
+}
+
+impl From<AllocError> for Stop {
+    ghost from_gives = { λ _ stop. stop ≡ stops.Memory };
+
+    fn from(_refused: AllocError) -> Stop {
+        Stop::Memory
     }
 }
 

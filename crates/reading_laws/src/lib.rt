@@ -2,6 +2,8 @@
 //! or infers for it.
 #![tactic(auto)]
 
+mod claims;
 mod laws;
 
+pub use claims::is_sound_without_errors;
 pub use laws::{agrees_with_inference, agrees_with_reading};

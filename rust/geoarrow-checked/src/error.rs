@@ -12,6 +12,8 @@ pub enum Error {
     Limit,
     /// The bytes are refused, and why.
     Refused(Fault),
+    /// A line of a report that this crate cannot read.
+    Line(String),
     /// A status that this crate does not know, or 5 with a line that it cannot read.
     Other(u8),
 }
@@ -38,6 +40,7 @@ impl Display for Error {
                 f.write_str("more than 1,000,000 lines, or a line of more than 1,048,576 bytes")
             }
             Error::Refused(fault) => fault.fmt(f),
+            Error::Line(line) => write!(f, "a line that is not read: {line}"),
             Error::Other(status) => write!(f, "status {status}"),
         }
     }
@@ -77,6 +80,7 @@ mod tests {
             ),
             (error_of(5, fault), "line 7: m"),
             (error_of(5, b"{\"error\":\"E\",\"message\":\"m\"}"), "m"),
+            (Error::Line("{}".into()), "a line that is not read: {}"),
             (Error::Other(3), "status 3"),
         ] {
             assert_eq!(error.to_string(), words);

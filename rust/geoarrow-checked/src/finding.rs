@@ -1,5 +1,6 @@
-//! What is found in a file, as its report says it.
-use crate::members::{members, Value};
+//! What is found in a file and in its columns, as its report says it.
+use crate::error::Error;
+use crate::members::{items, members, Value};
 use std::fmt::{self, Display, Formatter};
 
 /// How much a finding weighs.
@@ -35,8 +36,8 @@ impl Display for Severity {
     }
 }
 
-/// What is found in a file: a code with its severity, the place, what stands there, what is expected, and what helps (docs/FORMAT.md, 5.1). It
-/// is shown as `geoarrow_check` shows it behind the name of a file.
+/// What is found in a file or in one of its columns: a code with its severity, the place, what stands there, what is expected, and what helps
+/// (docs/FORMAT.md, 5.1). It is shown as `geoarrow_check` shows it behind the name of a file, or below a column.
 #[derive(Debug, Clone, PartialEq, Eq, Hash)]
 pub struct Finding(Box<Said>);
 
@@ -46,31 +47,49 @@ struct Said {
     severity: Severity,
     code: String,
     expected: String,
-    /// The texts at `KEYS`, in this order.
-    others: [Option<String>; 6],
+    others: Others,
 }
 
-/// The keys that a line may lack.
-const KEYS: [&str; 6] = ["file", "column", "in", "pointer", "found", "help"];
+/// What an object may lack.
+#[derive(Debug, Clone, PartialEq, Eq, Hash, Default)]
+struct Others {
+    file: Option<String>,
+    column: Option<String>,
+    path: Vec<String>,
+    source: Option<String>,
+    pointer: Option<String>,
+    byte: Option<u64>,
+    found: Option<String>,
+    help: Option<String>,
+    more: u64,
+}
+
+/// The keys of an object.
+const KEYS: [&str; 12] = [
+    "severity", "code", "file", "column", "path", "in", "pointer", "byte", "found", "expected",
+    "help", "more",
+];
 
 impl Finding {
-    /// The finding that a line denotes. A key that is unknown is passed over.
+    /// The finding that an object denotes. A key that is unknown is passed over.
     fn read(json: &str) -> Option<Finding> {
         let (mut severity, mut code, mut expected) = (None, None, None);
-        let mut others = [None, None, None, None, None, None];
+        let mut others = Others::default();
         for (key, value) in members(json)? {
-            let of_key = KEYS.iter().position(|it| *it == key);
             match (key.as_str(), value) {
                 ("severity", Value::Text(word)) => severity = Severity::of(&word),
                 ("code", Value::Text(text)) => code = Some(text),
+                ("file", Value::Text(text)) => others.file = Some(text),
+                ("column", Value::Text(text)) => others.column = Some(text),
+                ("path", Value::Array(names)) => others.path = texts(names)?,
+                ("in", Value::Text(text)) => others.source = Some(text),
+                ("pointer", Value::Text(text)) => others.pointer = Some(text),
+                ("byte", Value::Number(number)) => others.byte = Some(number),
+                ("found", Value::Text(text)) => others.found = Some(text),
                 ("expected", Value::Text(text)) => expected = Some(text),
-                ("severity" | "code" | "expected", Value::Number(_)) => return None,
-                (_, Value::Text(text)) => {
-                    if let Some(place) = of_key {
-                        others[place] = Some(text);
-                    }
-                }
-                (_, Value::Number(_)) if of_key.is_some() => return None,
+                ("help", Value::Text(text)) => others.help = Some(text),
+                ("more", Value::Number(number)) => others.more = number,
+                (known, _) if KEYS.contains(&known) => return None,
                 _ => {}
             }
         }
@@ -81,10 +100,6 @@ impl Finding {
             expected: expected?,
             others,
         })))
-    }
-
-    fn other(&self, place: usize) -> Option<&str> {
-        self.0.others[place].as_deref()
     }
 
     /// How much it weighs.
@@ -99,34 +114,46 @@ impl Finding {
         &self.0.code
     }
 
-    /// The name of the file, where one was given.
+    /// The name of the file, where one was given; none of what is found in a column, whose line has it.
     #[must_use]
     pub fn file(&self) -> Option<&str> {
-        self.other(0)
+        self.0.others.file.as_deref()
     }
 
-    /// The name of the column, where it is of one.
+    /// The name of the column, where something of the file is of one; none of what [`column_findings`] gives, whose line has it.
     #[must_use]
     pub fn column(&self) -> Option<&str> {
-        self.other(1)
+        self.0.others.column.as_deref()
     }
 
-    /// Where in the file it stands: `geo`, where that is in the GeoParquet metadata.
+    /// The names of the child fields down from the column; empty where it is of the column itself, or of none.
+    #[must_use]
+    pub fn path(&self) -> &[String] {
+        &self.0.others.path
+    }
+
+    /// The part of the file in which it stands, as `footer`, `geo` or `extension metadata`, where that is said.
     #[must_use]
     pub fn source(&self) -> Option<&str> {
-        self.other(2)
+        self.0.others.source.as_deref()
     }
 
-    /// The JSON pointer (RFC 6901) into these metadata; empty for all of them.
+    /// The JSON pointer (RFC 6901) into that part; empty for all of it.
     #[must_use]
     pub fn pointer(&self) -> Option<&str> {
-        self.other(3)
+        self.0.others.pointer.as_deref()
     }
 
-    /// What stands there, where something does: a value as JSON, cut behind 120 characters.
+    /// The byte of that part, from 0, where one tells the place.
+    #[must_use]
+    pub fn byte(&self) -> Option<u64> {
+        self.0.others.byte
+    }
+
+    /// What stands there, where something does, as a value in JSON; cut behind 120 characters.
     #[must_use]
     pub fn found(&self) -> Option<&str> {
-        self.other(4)
+        self.0.others.found.as_deref()
     }
 
     /// What is expected there, in words.
@@ -138,10 +165,16 @@ impl Finding {
     /// What helps, in words, where there is something to say.
     #[must_use]
     pub fn help(&self) -> Option<&str> {
-        self.other(5)
+        self.0.others.help.as_deref()
     }
 
-    /// All of this as the line of JSON that `geoarrow_check --json` prints, without its line feed.
+    /// How many more of its code there are that are not told one by one.
+    #[must_use]
+    pub fn more(&self) -> u64 {
+        self.0.others.more
+    }
+
+    /// All of this as the object of JSON that `geoarrow_check --json` prints: a line without its line feed, or of a column a part of its line.
     #[must_use]
     pub fn as_json(&self) -> &str {
         &self.0.json
@@ -156,11 +189,23 @@ impl Display for Finding {
             write!(f, "{between}column {column}")?;
             between = ", ";
         }
+        if !self.path().is_empty() {
+            write!(f, "{between}at {}", self.path().join("."))?;
+            between = ", ";
+        }
         if let Some(source) = self.source() {
             write!(f, "{between}{source}")?;
+            between = ", ";
             if let Some(pointer) = self.pointer().filter(|it| !it.is_empty()) {
                 write!(f, " {pointer}")?;
             }
+        }
+        if let Some(byte) = self.byte() {
+            write!(f, "{between}byte {byte}")?;
+            between = ", ";
+        }
+        if self.more() > 0 {
+            write!(f, "{between}and {} more", self.more())?;
         }
         f.write_str(": ")?;
         if let Some(found) = self.found() {
@@ -174,117 +219,91 @@ impl Display for Finding {
     }
 }
 
-/// The findings of a report that [`check`](crate::check) or [`check_named`](crate::check_named) gave, in their order; its other lines are those
-/// of columns.
+/// The texts of an array.
+fn texts(array: &str) -> Option<Vec<String>> {
+    let of = |value| match value {
+        Value::Text(text) => Some(text),
+        _ => None,
+    };
+    items(array)?.into_iter().map(of).collect()
+}
+
+/// What is found in a file beside its columns: the findings of a report that [`check`](crate::check) or [`check_named`](crate::check_named)
+/// gave, in their order. Its other lines are those of columns, whose own [`column_findings`] reads.
 ///
 /// ```
 /// use geoarrow_checked::{findings, Severity};
 ///
 /// let report = "{\"column\":\"id\",\"index\":0,\"state\":\"plain\",\"type\":\"int64\"}\n\
 ///     {\"severity\":\"error\",\"code\":\"GeoEpoch\",\"column\":\"g\",\"in\":\"geo\",\"pointer\":\"/columns/g/epoch\",\"found\":\"\\\"2020\\\"\",\"expected\":\"a number\"}\n";
-/// let found: Vec<_> = findings(report).collect();
+/// let found = findings(report)?;
 /// assert_eq!(found.len(), 1);
 /// assert_eq!((found[0].severity(), found[0].code()), (Severity::Error, "GeoEpoch"));
 /// assert_eq!(found[0].to_string(), "error[GeoEpoch] column g, geo /columns/g/epoch: found \"2020\"; expected a number");
+/// # Ok::<(), geoarrow_checked::Error>(())
 /// ```
-pub fn findings(report: &str) -> impl Iterator<Item = Finding> + '_ {
-    report
-        .lines()
-        .filter(|line| line.starts_with("{\"severity\":"))
-        .filter_map(Finding::read)
+///
+/// # Errors
+///
+/// [`Error::Line`] with the first line that is neither that of a column nor that of a finding.
+pub fn findings(report: &str) -> Result<Vec<Finding>, Error> {
+    let others = report.lines().filter(|line| !is_of_column(line));
+    others
+        .map(|line| Finding::read(line).ok_or_else(|| unread(line)))
+        .collect()
+}
+
+/// What is found in a column, of which this is the line of a report: its `warnings`, in their order. They do not name the column.
+///
+/// ```
+/// use geoarrow_checked::{check, column_findings, Options};
+///
+/// let line = br#"{"metadata":{"ARROW:extension:metadata":"","ARROW:extension:name":"geoarrow.wkb"},"name":"g","nullable":true,"type":"binary"}"#;
+/// let report = check(line, Options::default())?;
+/// for line in report.lines().filter(|line| line.starts_with(r#"{"column":"#)) {
+///     let found = column_findings(line)?;
+///     assert_eq!(found[0].to_string(), "warning[MetadataEmpty]: found \"\"; expected no metadata, or {}. It is read as no metadata.");
+/// }
+/// # Ok::<(), geoarrow_checked::Error>(())
+/// ```
+///
+/// # Errors
+///
+/// [`Error::Line`] with the line, where it is not that of a column, or one of its findings is not read.
+pub fn column_findings(line: &str) -> Result<Vec<Finding>, Error> {
+    read_column(line).ok_or_else(|| unread(line))
+}
+
+/// The findings of the line of a column.
+fn read_column(line: &str) -> Option<Vec<Finding>> {
+    if !is_of_column(line) {
+        return None;
+    }
+    let (_, value) = match members(line)?
+        .into_iter()
+        .find(|(key, _)| key == "warnings")
+    {
+        Some(found) => found,
+        None => return Some(Vec::new()),
+    };
+    let Value::Array(array) = value else {
+        return None;
+    };
+    let of = |value| match value {
+        Value::Other(object) => Finding::read(object),
+        _ => None,
+    };
+    items(array)?.into_iter().map(of).collect()
+}
+
+/// Whether a line of a report begins as that of a column.
+fn is_of_column(line: &str) -> bool {
+    line.starts_with("{\"column\":")
+}
+
+fn unread(line: &str) -> Error {
+    Error::Line(line.to_owned())
 }
 
 #[cfg(test)]
-mod tests {
-    use super::{findings, Finding, Severity};
-
-    /// With a value of its own at each key.
-    const WHOLE: &str = r#"{"severity":"warning","code":"One","file":"two","column":"three","in":"four","pointer":"/five","found":"six","expected":"seven","help":"eight"}"#;
-    const LEAST: &str = r#"{"severity":"note","code":"One","expected":"two"}"#;
-
-    #[test]
-    fn each_key_is_what_it_says() {
-        let finding = Finding::read(WHOLE).unwrap();
-        assert_eq!(finding.severity(), Severity::Warning);
-        assert_eq!((finding.code(), finding.expected()), ("One", "seven"));
-        assert_eq!(
-            (finding.file(), finding.column()),
-            (Some("two"), Some("three"))
-        );
-        assert_eq!(
-            (finding.source(), finding.pointer()),
-            (Some("four"), Some("/five"))
-        );
-        assert_eq!(
-            (finding.found(), finding.help()),
-            (Some("six"), Some("eight"))
-        );
-        assert_eq!(finding.as_json(), WHOLE);
-        let words = "warning[One] column three, four /five: found six; expected seven. eight";
-        assert_eq!(finding.to_string(), words);
-    }
-
-    #[test]
-    fn what_is_absent_is_none() {
-        let finding = Finding::read(LEAST).unwrap();
-        assert_eq!(finding.severity(), Severity::Note);
-        assert_eq!((finding.file(), finding.column()), (None, None));
-        assert_eq!((finding.source(), finding.pointer()), (None, None));
-        assert_eq!((finding.found(), finding.help()), (None, None));
-        assert_eq!(finding.to_string(), "note[One]: expected two");
-    }
-
-    #[test]
-    fn each_severity_has_its_word() {
-        for (word, severity) in [
-            ("error", Severity::Error),
-            ("warning", Severity::Warning),
-            ("note", Severity::Note),
-        ] {
-            let line = LEAST.replace("note", word);
-            assert_eq!(Finding::read(&line).unwrap().severity(), severity);
-            assert_eq!(severity.to_string(), word);
-        }
-        assert!(Severity::Error > Severity::Warning && Severity::Warning > Severity::Note);
-    }
-
-    #[test]
-    fn a_pointer_to_the_whole_is_not_shown() {
-        let line = r#"{"severity":"error","code":"A","in":"geo","pointer":"","expected":"b"}"#;
-        let finding = Finding::read(line).unwrap();
-        assert_eq!(finding.pointer(), Some(""));
-        assert_eq!(finding.to_string(), "error[A] geo: expected b");
-    }
-
-    #[test]
-    fn lines_of_columns_are_none() {
-        let column = r#"{"column":"{\"severity\":","index":0,"state":"plain","type":"int64"}"#;
-        let report = format!("{column}\n{WHOLE}\n{column}\n{LEAST}\n");
-        let found: Vec<_> = findings(&report).collect();
-        assert_eq!(found, [WHOLE, LEAST].map(|it| Finding::read(it).unwrap()));
-        assert_eq!(findings("").count(), 0);
-    }
-
-    #[test]
-    fn lines_that_are_none() {
-        for line in [
-            "{}",
-            r#"{"severity":"error","code":"A"}"#,
-            r#"{"severity":"error","expected":"b"}"#,
-            r#"{"code":"A","expected":"b"}"#,
-            r#"{"severity":"fault","code":"A","expected":"b"}"#,
-            r#"{"severity":1,"code":"A","expected":"b"}"#,
-            r#"{"severity":"error","code":1,"expected":"b"}"#,
-            r#"{"severity":"error","code":"A","expected":1}"#,
-            r#"{"severity":"error","code":"A","column":1,"expected":"b"}"#,
-            r#"{"severity":"error","code":"A","expected":"b"} "#,
-        ] {
-            assert_eq!(Finding::read(line), None, "{line}");
-        }
-        let more = r#"{"severity":"error","code":"A","byte":7,"expected":"b","row":"c"}"#;
-        assert_eq!(
-            Finding::read(more).unwrap().to_string(),
-            "error[A]: expected b"
-        );
-    }
-}
+mod tests;

@@ -30,7 +30,7 @@ pub mod arrow;
 
 pub use error::Error;
 pub use fault::Fault;
-pub use finding::{findings, Finding, Severity};
+pub use finding::{column_findings, findings, Finding, Severity};
 
 /// What is asked of a line.
 #[derive(Debug, Clone, Copy, PartialEq, Eq, Hash)]
@@ -69,12 +69,13 @@ pub fn run(command: Command, input: &[u8]) -> Result<String, Error> {
 pub struct Options {
     /// A column without an extension name is taken for what is inferred from its data type.
     pub infer: bool,
-    /// What is only worth to know is said: among the warnings of a column, and of GeoParquet metadata.
+    /// What is only worth to know is said: among the findings of a column, and those of the file.
     pub notes: bool,
 }
 
-/// The report of a file, from its bytes: a line of JSON for each of its columns, and for each finding in its GeoParquet metadata, each with
-/// a line feed behind it (docs/FORMAT.md, 2.5 to 2.7, 5.1). An Arrow file (Feather), an Arrow stream, a Parquet file and lines are told apart by their first bytes.
+/// The report of a file, from its bytes: a line of JSON for each of its columns, and behind them one for each finding beside these, as in the
+/// footer and the GeoParquet metadata of a Parquet file, each with a line feed behind it (docs/FORMAT.md, 2.5 to 2.7, 5.1). [`findings`] and
+/// [`column_findings`] read what is found. An Arrow file (Feather), an Arrow stream, a Parquet file and lines are told apart by their first bytes.
 ///
 /// # Errors
 ///

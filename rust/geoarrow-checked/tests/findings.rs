@@ -2,48 +2,72 @@
 mod common;
 
 use common::{from_hex, read};
-use geoarrow_checked::{check, check_named, findings, Finding, Options};
+use geoarrow_checked::{check, check_named, column_findings, findings, Finding, Options};
 
-/// A case of native/findings.rows: the bytes of a file, and each finding, its line and its words.
-type Case = (Vec<u8>, Vec<(String, String)>);
+/// A finding of native/findings.rows: whether it is of a column, its object and its words.
+type Row = (bool, String, String);
 
-fn cases() -> Vec<Case> {
+/// The cases of native/findings.rows: the bytes of a file, and each finding.
+fn cases() -> Vec<(Vec<u8>, Vec<Row>)> {
     let text = String::from_utf8(read("native/findings.rows")).unwrap();
-    let mut cases: Vec<Case> = Vec::new();
+    let mut cases: Vec<(Vec<u8>, Vec<Row>)> = Vec::new();
     let mut lines = text
         .lines()
         .filter(|line| !line.is_empty() && !line.starts_with('#'));
     while let Some(line) = lines.next() {
-        if line.starts_with('{') {
-            let words = lines.next().unwrap().to_owned();
-            cases.last_mut().unwrap().1.push((line.to_owned(), words));
+        let said = line.trim_start();
+        if said.starts_with('{') {
+            let words = lines.next().unwrap().trim_start();
+            let row = (said != line, said.to_owned(), words.to_owned());
+            cases.last_mut().unwrap().1.push(row);
         } else {
             cases.push((from_hex(line.as_bytes()), Vec::new()));
         }
     }
     assert!(cases.len() > 7);
+    for of_column in [false, true] {
+        assert!(cases
+            .iter()
+            .any(|(_, rows)| rows.iter().any(|row| row.0 == of_column)));
+    }
     cases
 }
 
-/// The line that is made of what a finding says.
-fn line_of(finding: &Finding) -> String {
-    let quoted = |text: &str| text.replace('\\', r"\\").replace('"', "\\\"");
-    let severity = finding.severity().to_string();
+/// The findings of a report, those of its columns first.
+fn found_in(report: &str) -> Vec<(bool, Finding)> {
+    let columns = report
+        .lines()
+        .filter(|line| line.starts_with("{\"column\":"));
+    let of_columns = columns.flat_map(|line| column_findings(line).unwrap());
+    let of_file = findings(report).unwrap().into_iter();
+    of_columns
+        .map(|it| (true, it))
+        .chain(of_file.map(|it| (false, it)))
+        .collect()
+}
+
+/// The object that is made of what a finding says.
+fn object_of(finding: &Finding) -> String {
+    let quoted = |text: &str| format!("\"{}\"", text.replace('\\', r"\\").replace('"', "\\\""));
+    let text = |key, text: Option<&str>| text.map(|it| format!("\"{key}\":{}", quoted(it)));
+    let number = |key, number: Option<u64>| number.map(|it| format!("\"{key}\":{it}"));
+    let path: Vec<_> = finding.path().iter().map(|it| quoted(it)).collect();
+    let path = (!path.is_empty()).then(|| format!("\"path\":[{}]", path.join(",")));
     let members = [
-        ("severity", Some(severity.as_str())),
-        ("code", Some(finding.code())),
-        ("file", finding.file()),
-        ("column", finding.column()),
-        ("in", finding.source()),
-        ("pointer", finding.pointer()),
-        ("found", finding.found()),
-        ("expected", Some(finding.expected())),
-        ("help", finding.help()),
+        text("severity", Some(&finding.severity().to_string())),
+        text("code", Some(finding.code())),
+        text("file", finding.file()),
+        text("column", finding.column()),
+        path,
+        text("in", finding.source()),
+        text("pointer", finding.pointer()),
+        number("byte", finding.byte()),
+        text("found", finding.found()),
+        text("expected", Some(finding.expected())),
+        text("help", finding.help()),
+        number("more", Some(finding.more()).filter(|it| *it > 0)),
     ];
-    let members: Vec<_> = members
-        .into_iter()
-        .filter_map(|(key, text)| Some(format!("\"{key}\":\"{}\"", quoted(text?))))
-        .collect();
+    let members: Vec<_> = members.into_iter().flatten().collect();
     format!("{{{}}}", members.join(","))
 }
 
@@ -54,17 +78,17 @@ fn each_case_of_the_table() {
         ..Options::default()
     };
     for (bytes, wanted) in cases() {
-        let report = check(&bytes, options).unwrap();
-        let found: Vec<_> = findings(&report).collect();
+        let found = found_in(&check(&bytes, options).unwrap());
         let said: Vec<_> = found
             .iter()
-            .map(|it| (it.as_json().to_owned(), it.to_string()))
+            .map(|(of, it)| (*of, it.as_json().to_owned(), it.to_string()))
             .collect();
         assert_eq!(said, wanted);
-        assert!(found.iter().all(|it| line_of(it) == it.as_json()));
-        let report = check_named("a.parquet", &bytes, options).unwrap();
-        for (one, named) in found.iter().zip(findings(&report)) {
-            assert_eq!(named.file(), Some("a.parquet"));
+        assert!(found.iter().all(|(_, it)| object_of(it) == it.as_json()));
+        let named = found_in(&check_named("a.parquet", &bytes, options).unwrap());
+        assert_eq!(named.len(), found.len());
+        for ((of_column, one), (_, named)) in found.iter().zip(named) {
+            assert_eq!(named.file(), (!of_column).then_some("a.parquet"));
             assert_eq!(named.to_string(), one.to_string());
             let line = named.as_json().replacen(r#""file":"a.parquet","#, "", 1);
             assert_eq!(line, one.as_json());

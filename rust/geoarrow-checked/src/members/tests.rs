@@ -1,10 +1,10 @@
-use super::{members, Value};
+use super::{items, members, Value};
 
 /// The text that stands so in an object.
 fn text(written: &str) -> Option<String> {
     match members(&format!("{{\"k\":\"{written}\"}}"))?.pop()? {
         (_, Value::Text(text)) => Some(text),
-        (_, Value::Number(_)) => None,
+        _ => None,
     }
 }
 
@@ -88,15 +88,19 @@ fn what_is_no_such_object() {
         r#"{"a":"b}"#,
         r#"{"a":"\"}"#,
         r#"{"a":01}"#,
-        r#"{"a":-1}"#,
         r#"{"a":+1}"#,
-        r#"{"a":1.0}"#,
-        r#"{"a":1e2}"#,
-        r#"{"a":18446744073709551616}"#,
-        r#"{"a":true}"#,
-        r#"{"a":null}"#,
-        r#"{"a":{}}"#,
-        r#"{"a":[1]}"#,
+        r#"{"a":--1}"#,
+        r#"{"a":-}"#,
+        r#"{"a":.5}"#,
+        r#"{"a":00.5}"#,
+        r#"{"a":1e}"#,
+        r#"{"a":inf}"#,
+        r#"{"a":NaN}"#,
+        r#"{"a":truE}"#,
+        r#"{"a":{}"#,
+        r#"{"a":[1}"#,
+        r#"{"a":["}"#,
+        r#"{"a":[]]}"#,
         "{\"a\":\"\n\"}",
         "{\"a\":\"\u{1f}\"}",
         r#"{"a":"\x"}"#,
@@ -106,5 +110,54 @@ fn what_is_no_such_object() {
         r#"{"a":"\u+041"}"#,
     ] {
         assert_eq!(members(other), None, "{other}");
+    }
+}
+
+#[test]
+fn values_that_are_not_read() {
+    for written in [
+        "true",
+        "false",
+        "null",
+        "-1",
+        "1.0",
+        "0.50",
+        "1e2",
+        "0e0",
+        "-0",
+        "18446744073709551616",
+        "{}",
+        r#"{"b":[1,{}],"]}":"\\"}"#,
+    ] {
+        let object = format!(r#"{{"a":{written},"z":1}}"#);
+        let found = members(&object).unwrap();
+        let wanted = [("a", Value::Other(written)), ("z", Value::Number(1))];
+        assert_eq!(found, wanted.map(|(key, value)| (key.to_owned(), value)));
+    }
+}
+
+#[test]
+fn arrays_as_they_are_written_and_their_items() {
+    for written in ["[]", "[1]", r#"["]",[[]],{"a":"}"}]"#] {
+        let object = format!(r#"{{"a":{written}}}"#);
+        assert_eq!(
+            members(&object).unwrap(),
+            [("a".into(), Value::Array(written))]
+        );
+    }
+    let array = r#"["a]",7,[8,[]],{"b":"]"},null]"#;
+    let wanted = [
+        Value::Text("a]".into()),
+        Value::Number(7),
+        Value::Array("[8,[]]"),
+        Value::Other(r#"{"b":"]"}"#),
+        Value::Other("null"),
+    ];
+    assert_eq!(items(array).unwrap(), wanted);
+    assert_eq!(items("[]").unwrap(), []);
+    for other in [
+        "", "[", "]", "{}", "[1", "1]", "[,]", "[1,]", "[1 ]", "[1}", "[[]", "[]]",
+    ] {
+        assert_eq!(items(other), None, "{other}");
     }
 }

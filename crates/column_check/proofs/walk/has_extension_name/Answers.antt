@@ -48,4 +48,5 @@ decided s None is = sym (unlisted s (λ n h. no_name n ((is n).1 h)) extensions)
 pub returns-in-Some : goal.returns-in-Some
 returns-in-Some c =
     let named : Some c.in-Some.text.now ≡ text_at name_key c.args.field.now.metadata = search rules in
-    c.is_some.ensures ∙ decided c.in-Some.text.now c.from_text.result c.from_text.ensures ∙ ap is_extension_name named
+    c.is_some.ensures ∙ decided c.current_name.result.now c.from_text.result c.from_text.ensures
+    ∙ ap (λ s. has_name s (map name_text extensions)) c.current_name.ensures ∙ ap is_extension_name named

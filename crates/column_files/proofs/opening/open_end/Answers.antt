@@ -1,23 +1,36 @@
-use Rattle.std.proofs.Common.{sym, subst, refl}
+use Rattle.std.proofs.Common.{sym, subst}
+use Rattle.arrow_ipc.specs.Schema.{message_in, schema_of_message}
 use Rattle.column_files.specs.Files.{IsEndOpened}
-use Rattle.column_files.specs.declared.form.Form.TheVariants.{ArrowFile, Lines}
+use Rattle.column_files.specs.declared.form.Form.TheVariants.{ArrowFile, ArrowStream, Parquet, Lines}
 use Rattle.column_files.proofs.Footers.{of_end}
-use Rattle.column_files.proofs.Opened.{without}
+use Rattle.column_files.proofs.Opened.{end_opened}
 use Rattle.column_files.proofs.opening.open_end.Goals as goal
 
 pub returns-in-ArrowFile : goal.returns-in-ArrowFile
 returns-in-ArrowFile c =
     let end = c.args.end.now in
-    let read = c.columns_of_footer.result in
-    subst (λ f. IsEndOpened f c.args.start end c.without_geo.result) (sym c.in-ArrowFile.is)
-    (without ArrowFile c.args.start end read c.without_geo.result refl (of_end c.args.start end read c.columns_of_footer.ensures) (rw c.in-ArrowFile.is at c.without_geo.ensures))
+    let r = c.file_of_footer.result in
+    subst (λ f. IsEndOpened f c.args.start end r) (sym c.in-ArrowFile.is)
+    (end_opened ArrowFile c.args.start end r c.file_of_footer.ensures.form (of_end c.args.start end r c.file_of_footer.ensures.is))
+
+pub returns-in-ArrowStream : goal.returns-in-ArrowStream
+returns-in-ArrowStream c =
+    let end = c.args.end.now in
+    let r = c.file_of_message.result in
+    subst (λ f. IsEndOpened f c.args.start end r) (sym c.in-ArrowStream.is)
+    (end_opened ArrowStream c.args.start end r c.file_of_message.ensures.form
+    (c.file_of_message.ensures.is (message_in end) (schema_of_message 61) c.read_schema.ensures))
 
 pub returns-in-Parquet : goal.returns-in-Parquet
-returns-in-Parquet c = subst (λ f. IsEndOpened f c.args.start c.args.end.now c.open_parquet.result) (sym c.in-Parquet.is) (c.open_parquet.ensures c.args.start)
+returns-in-Parquet c =
+    let end = c.args.end.now in
+    let r = c.open_parquet.result in
+    subst (λ f. IsEndOpened f c.args.start end r) (sym c.in-Parquet.is)
+    (end_opened Parquet c.args.start end r c.open_parquet.ensures.form c.open_parquet.ensures.is)
 
 pub returns-in-Lines : goal.returns-in-Lines
 returns-in-Lines c =
     let end = c.args.end.now in
-    let read = c.columns_of_line_file.result in
-    subst (λ f. IsEndOpened f c.args.start end c.without_geo-in-Lines.result) (sym c.in-Lines.is)
-    (without Lines c.args.start end read c.without_geo-in-Lines.result refl (c.columns_of_line_file.ensures end c.columns_of_lines.ensures) (rw c.in-Lines.is at c.without_geo-in-Lines.ensures))
+    let r = c.file_of_lines.result in
+    subst (λ f. IsEndOpened f c.args.start end r) (sym c.in-Lines.is)
+    (end_opened Lines c.args.start end r c.file_of_lines.ensures.form (c.file_of_lines.ensures.is end c.columns_of_lines.ensures))

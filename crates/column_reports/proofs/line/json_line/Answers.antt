@@ -7,8 +7,8 @@ use Rattle.arrow_values.specs.Texts.{text_of}
 use Rattle.arrow_columns.specs.Column.{column_tree}
 use Rattle.value_tokens.specs.Adds.{Adds}
 use Rattle.value_tokens.proofs.Adding.{sent, whole_text}
-use Rattle.column_reports.specs.Objects.{member_if}
-use Rattle.column_reports.specs.Report.{string_if, crs_of, type_word, names_of, found_of, report}
+use Rattle.column_reports.specs.Objects.{member_if, string_if}
+use Rattle.column_reports.specs.Report.{crs_of, type_word, names_of, found_of, report}
 use Rattle.column_reports.proofs.Adding.{then, object, for}
 use Rattle.column_reports.proofs.line.json_line.Goals as goal
 
@@ -23,7 +23,7 @@ returns c =
     let said = c.args.said.now in
     let tree = column_tree said.column in
     let f = said.finding in
-    let ws = said.warnings.items in
+    let ws = said.findings.items in
     let found = c.geometry-geometry.ensures in
     let column = for (λ s. string_if (codes "column") (Some s)) c.in_ok-put_text.ensures c.as_str.ensures.value in
     let crs = for (λ g. member_if (codes "crs") (crs_of g)) c.in_ok-put_crs.ensures found in

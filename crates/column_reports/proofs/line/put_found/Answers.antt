@@ -1,14 +1,13 @@
 use Rattle.std.proofs.Common.{codes, Some}
 use Rattle.std.proofs.lemmas.Result.{on_ok_weaker}
-use Rattle.column_reports.specs.Objects.{member_if}
-use Rattle.column_reports.specs.Report.{string_if}
-use Rattle.column_reports.specs.Warnings.{warnings_in}
+use Rattle.column_reports.specs.FindingLines.{findings_in}
+use Rattle.column_reports.specs.Objects.{member_if, string_if}
 use Rattle.column_reports.proofs.Adding.{then, for}
 use Rattle.column_reports.proofs.line.put_found.Goals as goal
 
 pub returns : goal.returns
 returns c =
     let state = for (λ s. string_if (codes "state") (Some s)) c.in_ok-put_text.ensures c.state_word.ensures in
-    on_ok_weaker c.put_warnings.result
-    (λ warned. then (then (then (then c.in_ok-put_number.ensures c.in_ok-put_reasons.ensures) state) c.in_ok-put_text-2.ensures)
-    (for (λ ws. member_if (codes "warnings") (warnings_in ws)) warned c.as_slice.ensures.value)) c.put_warnings.ensures
+    on_ok_weaker c.put_findings.result
+    (λ found. then (then (then (then c.in_ok-put_number.ensures c.in_ok-put_reasons.ensures) state) c.in_ok-put_text-2.ensures)
+    (for (λ ws. member_if (codes "warnings") (findings_in ws)) found c.as_slice.ensures.value)) c.put_findings.ensures

@@ -1,6 +1,6 @@
 use Rattle.std.proofs.Common.{codes}
 use Rattle.std.proofs.lemmas.Result.{on_ok_weaker}
-use Rattle.column_reports.specs.Report.{string_if}
+use Rattle.column_reports.specs.Objects.{string_if}
 use Rattle.column_reports.proofs.Adding.{then, for}
 use Rattle.column_reports.proofs.line.put_names.Goals as goal
 

@@ -5,6 +5,7 @@ use Rattle.arrow_columns.specs.Column.{column_tree}
 use Rattle.geoparquet.specs.BoxRules.{x_findings}
 use Rattle.geoparquet.specs.Counting.{crs_that_counts, is_projected}
 use Rattle.geoparquet.specs.Findings.{finding}
+use Rattle.geoparquet.specs.Sources.{element_view}
 use Rattle.geoparquet.proofs.Items.{item_got, readable_at}
 use Rattle.geoparquet.proofs.boxes.add_x_axis.Goals as goal
 
@@ -16,7 +17,7 @@ returns c =
     let vs = c.args.numbers.now in
     let now = map finding c.args.findings.now.items in
     let new = map finding c.add_x.new.findings.items in
-    let projected = is_projected (crs_that_counts c.args.version (option_map (λ v. column_tree v.now) c.args.column) (value_view c.args.member.now)) in
+    let projected = is_projected (crs_that_counts c.args.version (option_map (λ v. column_tree v.now) c.args.column) (option_map (λ e. element_view e.now) c.args.element) (value_view c.args.member.now)) in
     let low = value_view c.index-numbers-0.result in
     let least = item_got vs 0 c.index-numbers-0.result (omega (arith, c.requires.high)) c.index-numbers-0.is in
     let greatest = item_got vs c.args.greatest c.index-numbers-greatest.result c.requires.high c.index-numbers-greatest.is in

@@ -9,16 +9,16 @@ pub returns-in_err-item : goal.returns-in_err-item
 returns-in_err-item c =
     let l = c.structs in
     stopped (λ v. map element v.items) _ c.from_residual.result (stops.Fault c.in_err-item.field-0.0) (grind arith)
-    (all_stop element_at (map element l.found.items) c.args.count l.i l.rest.now _ l.invariant _ c.structs-test.true c.in_err-item.ensures)
+    (all_stop (element_at c.args.size) (map element l.found.items) c.args.count l.i l.rest.now _ l.invariant _ c.structs-test.true c.in_err-item.ensures)
 
 pub structs-preserved : goal.structs-preserved
 structs-preserved c =
     let l = c.structs in
     let x = c.in_ok-item.item in
     let e : map element c.push.new.self.items ≡ map element l.found.items ++ element x ∷ [] = rw c.in_ok-push.ensures.items (map_push _ l.found.items x) in
-    rw e (all_go_on element_at (map element l.found.items) c.args.count l.i l.rest.now _ l.invariant (element x) c.in_ok-item.behind.now c.structs-test.true c.in_ok-item.ensures)
+    rw e (all_go_on (element_at c.args.size) (map element l.found.items) c.args.count l.i l.rest.now _ l.invariant (element x) c.in_ok-item.behind.now c.structs-test.true c.in_ok-item.ensures)
 
 pub returns : goal.returns
 returns c =
     let l = c.structs in
-    all_done element_at (map element l.found.items) c.args.count l.i l.rest.now _ l.invariant c.structs-test.false
+    all_done (element_at c.args.size) (map element l.found.items) c.args.count l.i l.rest.now _ l.invariant c.structs-test.false

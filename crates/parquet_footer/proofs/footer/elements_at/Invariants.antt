@@ -5,4 +5,4 @@ use Rattle.parquet_footer.proofs.Lists.{with_front}
 use Rattle.parquet_footer.proofs.footer.elements_at.Given as goal
 
 abbrev pub invariant-structs : goal.invariant-structs
-invariant-structs l = with_front (map element l.found.items) (all_at element_at (l.count - l.i) l.rest) ≡ all_at element_at l.count l.bytes
+invariant-structs l = with_front (map element l.found.items) (all_at (element_at l.size) (l.count - l.i) l.rest) ≡ all_at (element_at l.size) l.count l.bytes

@@ -5,4 +5,4 @@ use Rattle.parquet_footer.proofs.Lists.{with_front}
 use Rattle.parquet_footer.proofs.footer.key_values_at.Given as goal
 
 abbrev pub invariant-structs : goal.invariant-structs
-invariant-structs l = with_front (map pairing l.found.items) (all_at key_value_at (l.count - l.i) l.rest) ≡ all_at key_value_at l.count l.bytes
+invariant-structs l = with_front (map pairing l.found.items) (all_at (key_value_at l.size) (l.count - l.i) l.rest) ≡ all_at (key_value_at l.size) l.count l.bytes

@@ -3,7 +3,7 @@ use Rattle.arrow_values.specs.Tree.{Tree}
 use Rattle.arrow_values.specs.View.{tree}
 use Rattle.geoarrow_layout.specs.declared.native_kinds.Kind.{Kind}
 use Rattle.geoarrow_layout.specs.Inferred.{InferredAs, YieldsInferred}
-use Rattle.reading_laws.proofs.Agreement.{agrees_with_inference, whole_inferred, infers_no_empty_text}
+use Rattle.reading_laws.proofs.Agreement.{agrees_with_inference, whole_inferred, infers_no_odd_text}
 use Rattle.reading_laws.proofs.laws.agrees_with_inference.Goals as goal
 
 one_of : (r : Option Kind) (j k : Kind) → r ≡ Some j → r ≡ Some k → j ≡ k
@@ -21,5 +21,5 @@ returns-clause-types c = agrees_with_inference c.args.field.now c.metadata_is_un
 pub returns-clause-whole : goal.returns-clause-whole
 returns-clause-whole c = λ infer. whole_inferred c.args.field.now infer c.args._finding.now
 
-pub returns-clause-empty : goal.returns-clause-empty
-returns-clause-empty c = infers_no_empty_text c.args.field.now
+pub returns-clause-odd : goal.returns-clause-odd
+returns-clause-odd c = infers_no_odd_text c.args.field.now

@@ -1,0 +1,12 @@
+use Rattle.std.proofs.Common.{ap, ◌∙◌, option_map, string_bytes}
+use Rattle.column_files.specs.Geo.{geo_key, of_schema}
+use Rattle.column_files.proofs.GeoTexts.{text_at-lookup}
+use Rattle.column_files.proofs.geo.take_geo.Goals as goal
+
+pub returns-in-Some : goal.returns-in-Some
+returns-in-Some c =
+    ap of_schema (ap (option_map (λ t. string_bytes t)) c.in-Some.ensures.value ∙ text_at-lookup geo_key c.args.metadata.now.entries)
+
+pub returns-in-None : goal.returns-in-None
+returns-in-None c =
+    ap of_schema (ap (option_map (λ t. string_bytes t)) c.in-None.ensures.value ∙ text_at-lookup geo_key c.args.metadata.now.entries)

@@ -1,0 +1,130 @@
+//! What is found, of whatever source.
+ghost use Rattle.std.specs.Prelude.{◌≡◌, map, option_map, string_bytes};
+ghost use Rattle.arrow_values.specs.Texts.{text_of};
+ghost use Rattle.column_reports.specs.Found.{code_in, column_in, path_in};
+ghost use Rattle.column_reports.specs.Found.{metadata_if, part_in, pointer_in, byte_in, more_in};
+
+use crate::code::Code;
+use column_check::Warning;
+use geoparquet::{GeoFinding, Version};
+use parquet_columns::FileFinding;
+use parquet_footer::FooterFinding;
+
+/// What is found of a column or of a file: a rule that is not kept, where, and what stands there.
+#[derive(Debug, Drop)]
+pub enum Finding<'a> {
+    /// What is doubtful of a column, in the report of that column (docs/FORMAT.md, 2.6).
+    Column(Warning),
+    /// A text of the footer of a Parquet file that is not UTF-8 (docs/FORMAT.md, 4.3).
+    Text(FooterFinding<'a>),
+    /// What is found of the schemas and the keys of a Parquet file (docs/FORMAT.md, 4.5).
+    File(FileFinding),
+    /// What is found in GeoParquet metadata, and the version by which they are judged
+    /// (docs/FORMAT.md, 5).
+    Geo(Version, GeoFinding),
+}
+
+impl<'a> Finding<'a> {
+    /// Returns the code.
+    pub fn code(&self) -> Code
+        ensures { result ≡ code_in self.now }
+    {
+        match self {
+            Finding::Column(warning) => Code::Column(warning.code),
+            Finding::Text(finding) => Code::Text(finding.code),
+            Finding::File(finding) => Code::File(finding.code),
+            Finding::Geo(_, finding) => Code::Geo(finding.code),
+        }
+    }
+
+    /// Returns the name of the column, if the finding is of one. A finding of a column leaves it
+    /// to the report of the column.
+    pub fn column(&self) -> Option<&str>
+        ensures { text_of result ≡ column_in self.now }
+    {
+        match self {
+            Finding::Column(_) | Finding::Text(_) => None,
+            Finding::File(finding) => finding.column.as_deref(),
+            Finding::Geo(_, finding) => finding.column.as_deref(),
+        }
+    }
+
+    /// Returns the names of the child fields from the column down to where the finding is; none
+    /// where it is of the column itself, or of no column.
+    pub fn path(&self) -> &[String]
+        ensures { map string_bytes result.now ≡ path_in self.now }
+    {
+        match self {
+            Finding::Column(warning) => warning.path.as_slice(),
+            Finding::File(finding) => finding.path.as_slice(),
+            Finding::Text(_) | Finding::Geo(_, _) => &[],
+        }
+    }
+
+    /// Returns the part of the file or of the column's metadata, as reports have it: `footer`,
+    /// `ARROW:schema`, `extension metadata` or `geo`, and what else `FilePart::text` of
+    /// `parquet_columns` returns.
+    pub fn part(&self) -> Option<&'static str>
+        ensures { text_of result ≡ part_in self.now }
+    {
+        match self {
+            Finding::Column(warning) => metadata_if(&warning.pointer),
+            Finding::Text(_) => Some("footer"),
+            Finding::File(finding) => Some(finding.place.part.text()),
+            Finding::Geo(_, _) => Some("geo"),
+        }
+    }
+
+    /// Returns where the finding is in that part, as a JSON pointer (RFC 6901), if the part is
+    /// JSON; it is empty for the whole.
+    pub fn pointer(&self) -> Option<&str>
+        ensures { text_of result ≡ pointer_in self.now }
+    {
+        match self {
+            Finding::Column(warning) => warning.pointer.as_deref(),
+            Finding::Text(_) | Finding::File(_) => None,
+            Finding::Geo(_, finding) => Some(finding.pointer.as_str()),
+        }
+    }
+
+    /// Returns the byte of that part at which the finding is, if a byte tells the place.
+    pub fn byte(&self) -> Option<u64>
+        ensures { result ≡ byte_in self.now }
+    {
+        match self {
+            Finding::Text(finding) => Some(finding.text.byte as u64),
+            Finding::File(finding) => wide(finding.place.byte),
+            Finding::Column(_) | Finding::Geo(_, _) => None,
+        }
+    }
+
+    /// Returns how many more the finding stands for, which are not told one by one.
+    pub fn more(&self) -> usize
+        ensures { result ≡ more_in self.now }
+    {
+        match self {
+            Finding::Column(warning) => warning.more,
+            Finding::Text(_) | Finding::File(_) | Finding::Geo(_, _) => 0,
+        }
+    }
+}
+
+/// The extension metadata, where there is a pointer into them.
+fn metadata_if(pointer: &Option<String>) -> Option<&'static str>
+    ensures { text_of result ≡ metadata_if (option_map string_bytes pointer.now) }
+{
+    match pointer {
+        Some(_) => Some("extension metadata"),
+        None => None,
+    }
+}
+
+/// A number of 64 bits, if there is one.
+fn wide(number: Option<usize>) -> Option<u64>
+    ensures { result ≡ number }
+{
+    match number {
+        Some(number) => Some(number as u64),
+        None => None,
+    }
+}

@@ -1,0 +1,15 @@
+use Rattle.std.proofs.Common.{◌≡◌, ◌++◌, length, map}
+use Rattle.geoparquet.specs.Findings.{finding}
+use Rattle.geoparquet.specs.GeoFindings.{alone_findings}
+use Rattle.geoparquet.specs.Ordered.{members_entries}
+use Rattle.geoparquet.specs.Sources.{sourced}
+use Rattle.geoparquet.proofs.check.add_alone.Given as goal
+
+-- what is found so far, and what will be of the columns that are left
+abbrev pub invariant-columns : goal.invariant-columns
+invariant-columns l =
+    map finding l.findings.items ++ alone_findings (members_entries l.members.entries) (map sourced l.left)
+    ≡ map finding l.fn.findings.items ++ alone_findings (members_entries l.members.entries) (map sourced l.all)
+
+abbrev pub decreases-columns : goal.decreases-columns
+decreases-columns l = length l.left

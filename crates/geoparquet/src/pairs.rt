@@ -1,0 +1,165 @@
+//! Of what three sources say of one fact, the first pair that does not go together.
+ghost use Rattle.std.specs.Prelude.{◌≡◌, ◌++◌, IfOk, IfSome, OnOk, map, option_map, string_bytes};
+ghost use Rattle.json.specs.Value.{value_view};
+ghost use Rattle.value_tokens.specs.Values.{IsReadable};
+ghost use Rattle.arrow_values.specs.Texts.{text_of};
+ghost use Rattle.geoparquet.specs.Findings.{finding};
+ghost use Rattle.geoparquet.specs.Pairs.{first_pair, differ, texts_pair, of_element, of_field, pair_findings, text_findings};
+
+use crate::adding::{add_at, add_part};
+use crate::code::GeoCode;
+use crate::finding::GeoFinding;
+use json::Value;
+use std::alloc::{AllocError, Global};
+
+/// Two of the three sources of a column, in the order in which pairs are judged (docs/FORMAT.md, 5.1).
+#[derive(Clone, Copy, Debug, PartialEq, Eq)]
+pub(crate) enum Pair {
+    /// The element and `geo`.
+    ElementGeo,
+    /// The element and the field.
+    ElementField,
+    /// The field and `geo`.
+    FieldGeo,
+}
+
+/// Returns the first pair of which something holds.
+pub(crate) fn first_pair(element_geo: bool, element_field: bool, field_geo: bool) -> Option<Pair>
+    ensures { result ≡ first_pair element_geo element_field field_geo }
+{
+    if element_geo {
+        Some(Pair::ElementGeo)
+    } else if element_field {
+        Some(Pair::ElementField)
+    } else if field_geo {
+        Some(Pair::FieldGeo)
+    } else {
+        None
+    }
+}
+
+/// Whether two texts are both there, and are not one.
+fn differ(one: Option<&str>, other: Option<&str>) -> bool
+    ensures { result ≡ differ (text_of one.entry) (text_of other.entry) }
+{
+    let Some(one) = one else {
+        return false;
+    };
+    let Some(other) = other else {
+        return false;
+    };
+    one != other
+}
+
+/// Returns the first pair of texts that are not one.
+fn texts_pair(element: Option<&str>, field: Option<&str>, said: Option<&str>) -> Option<Pair>
+    ensures { result ≡ texts_pair (text_of element.entry) (text_of field.entry) (text_of said.entry) }
+{
+    let element_geo = differ(element, said);
+    let element_field = differ(element, field);
+    let field_geo = differ(field, said);
+    first_pair(element_geo, element_field, field_geo)
+}
+
+/// Returns what an element says, with its name. Errs only when out of memory.
+fn of_element(alloc: Global, text: Option<&str>) -> Result<Option<String>, AllocError>
+    ensures { IfOk result (λ made. option_map string_bytes made ≡ option_map of_element (text_of text.entry)) }
+{
+    match text {
+        Some(text) => Ok(Some(format!(in alloc; "{text} of the element")?)),
+        None => Ok(None),
+    }
+}
+
+/// Returns what a field says, with its name. Errs only when out of memory.
+fn of_field(alloc: Global, text: Option<&str>) -> Result<Option<String>, AllocError>
+    ensures { IfOk result (λ made. option_map string_bytes made ≡ option_map of_field (text_of text.entry)) }
+{
+    match text {
+        Some(text) => Ok(Some(format!(in alloc; "{text} of the field")?)),
+        None => Ok(None),
+    }
+}
+
+/// Adds what is found of a pair, if there is one: by what stands in `geo` and in the field, and by what
+/// the element and the field say. Errs only when out of memory.
+pub(crate) fn add_pair(
+    alloc: Global,
+    findings: &mut Vec<GeoFinding>,
+    code: GeoCode,
+    key: &str,
+    name: &str,
+    found: Option<&Value<'_>>,
+    element: Option<&str>,
+    field: Option<&Value<'_>>,
+    own: Option<&str>,
+    pair: Option<Pair>,
+) -> Result<(), AllocError>
+    requires found { IfSome found (λ v. IsReadable (value_view v.now)) }
+    requires field { IfSome field (λ v. IsReadable (value_view v.now)) }
+    ensures { OnOk result (map finding findings.new.items ≡ map finding findings.old.items
+        ++ pair_findings code key.now name.now (option_map (λ v. value_view v.now) found.entry) (text_of element.entry) (option_map (λ v. value_view v.now) field.entry) (text_of own.entry) pair) }
+{
+    let Some(pair) = pair else {
+        return Ok(());
+    };
+    match pair {
+        Pair::ElementGeo => {
+            let wanted = of_element(alloc, element)?;
+            add_part(alloc, findings, code, key, name, found, wanted.as_deref())
+        }
+        Pair::ElementField => {
+            let wanted = of_element(alloc, element)?;
+            add_at(
+                alloc,
+                findings,
+                code,
+                Some(key),
+                "",
+                field,
+                wanted.as_deref(),
+            )
+        }
+        Pair::FieldGeo => {
+            let wanted = of_field(alloc, own)?;
+            add_part(alloc, findings, code, key, name, found, wanted.as_deref())
+        }
+    }
+}
+
+/// Adds what is found of three texts. Errs only when out of memory.
+pub(crate) fn add_texts(
+    alloc: Global,
+    findings: &mut Vec<GeoFinding>,
+    code: GeoCode,
+    key: &str,
+    name: &str,
+    found: Option<&Value<'_>>,
+    element: Option<&str>,
+    field: Option<&str>,
+    said: Option<&str>,
+) -> Result<(), AllocError>
+    requires { IfSome found (λ v. IsReadable (value_view v.now)) }
+    ensures { OnOk result (map finding findings.new.items ≡ map finding findings.old.items
+        ++ text_findings code key.now name.now (option_map (λ v. value_view v.now) found.entry) (text_of element.entry) (text_of field.entry) (text_of said.entry)) }
+{
+    let pair = texts_pair(element, field, said);
+    let Some(text) = field else {
+        return add_pair(
+            alloc, findings, code, key, name, found, element, None, field, pair,
+        );
+    };
+    let value = Value::String(text);
+    add_pair(
+        alloc,
+        findings,
+        code,
+        key,
+        name,
+        found,
+        element,
+        Some(&value),
+        field,
+        pair,
+    )
+}

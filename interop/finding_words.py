@@ -1,0 +1,81 @@
+"""What is said of a finding, by the tables of docs/FORMAT.md, 2.6, 4.5 and 5.1: a line of JSON, and words.
+
+A model of its own, which shares no code with the crates. `said` gives the parts of a finding by the
+tables of its code, `line` is a line of JSON of such parts, and `words` what a table says of them.
+"""
+import json
+import pathlib
+import re
+
+FORMAT = pathlib.Path(__file__).resolve().parent.parent / "docs/FORMAT.md"
+# The keys of a line, in order (5.1).
+KEYS = ("severity", "code", "file", "column", "path", "in", "pointer", "byte", "found", "expected",
+        "help", "more")
+SHOWN = 120
+
+
+def tables(head):
+    """The rows below each line of a table that begins so, each as its cells."""
+    lines = FORMAT.read_text(encoding="utf-8").split("\n")
+    rows, is_within = [], False
+    for at, line in enumerate(lines):
+        is_within = line.startswith("|") and (is_within or line.startswith(f"| {head} |"))
+        if is_within and not line.startswith(f"| {head} |") and not re.fullmatch("[|-]+", line):
+            rows.append([cell.strip() for cell in line.strip("|").split(" | ")])
+    return rows
+
+
+def text_in(cell):
+    """The text between backticks with which a cell begins, if it does."""
+    found = re.match("`([^`]*)`", cell)
+    return found and found[1]
+
+
+# How much each code weighs, but for those of `geo`; what is expected, and what helps.
+WEIGHS = {text_in(row[0]): row[1] for head in ("code | weighs", "code | severity")
+          for row in tables(head)}
+WORDS = {text_in(row[0]): [text_in(cell) for cell in row[1:]]
+         for row in tables("code | expected | help")}
+
+
+def said(code, wanted=None, **parts):
+    """A finding by the tables of its code, with what its rule wants there, and the parts that are its
+    own."""
+    expected, advice = WORDS[code]
+    expected = expected if wanted is None else f"{expected} ({wanted})"
+    return {"severity": WEIGHS[code], "code": code, "expected": expected, "help": advice, **parts}
+
+
+def there(parts):
+    """The parts that there are, in the order of their keys."""
+    assert set(parts) <= set(KEYS), parts
+    return {key: parts[key] for key in KEYS
+            if parts.get(key) is not None and parts[key] not in ([], ()) and (key, parts[key]) != ("more", 0)}
+
+
+def line(parts):
+    """The line of JSON of a finding."""
+    return json.dumps(there(parts), ensure_ascii=False, separators=(",", ":"))
+
+
+def words(parts):
+    """What a table says of a finding."""
+    its = there(parts)
+    pointer = f" {its['pointer']}" if its.get("pointer") else ""
+    places = {"column": "column {column}", "path": "at {path}", "in": "{in}{pointer}",
+              "byte": "byte {byte}", "more": "and {more} more"}
+    held = {**its, "path": ".".join(its.get("path", ())), "pointer": pointer}
+    place = ", ".join(form.format_map(held) for key, form in places.items() if key in its)
+    found = f"found {its['found']}; " if "found" in its else ""
+    advice = f". {its['help']}" if "help" in its else ""
+    return f"{its['severity']}[{its['code']}]{place and ' ' + place}: {found}expected {its['expected']}{advice}"
+
+
+def shown(text):
+    """The first 120 characters of a text, and two points where there are more."""
+    return text[:SHOWN] + ".." if len(text) > SHOWN else text
+
+
+def shown_bytes(data):
+    """Bytes that are no UTF-8: those of ASCII as they are, any other as its digits."""
+    return shown("".join(chr(byte) if byte < 128 else f"\\x{byte:02x}" for byte in data))

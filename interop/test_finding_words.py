@@ -1,0 +1,70 @@
+"""Tests of the words of findings: the tables of docs/FORMAT.md have those of the definitions.
+
+Run by interop/test, or alone by `python3 -m unittest interop.test_finding_words`, at the top of the
+repository.
+"""
+import pathlib
+import re
+import unittest
+
+from . import finding_words
+
+CRATES = pathlib.Path(__file__).resolve().parent.parent / "crates"
+# The definitions over codes: the file, and the names of that of the codes, of what they weigh, of
+# what is expected and of what helps.
+DEFINITIONS = (
+    ("column_check/specs/WarningWords.antt", "warning_code", "severity_of", "warning_expected",
+     "warning_help"),
+    ("parquet_footer/specs/Codes.antt", "code_of", "severity_of", "expected_of", "help_of"),
+    ("parquet_columns/specs/Codes.antt", "code_of", "severity_of", "expected_of", "help_of"))
+
+
+def rows(file, name):
+    """The rows of a definition: the last word before `=`, and the text or the word behind it."""
+    text = (CRATES / file).read_text(encoding="utf-8")
+    found = re.findall(f"^{name} (\\S+) = (.*)$", text, re.M)
+    return {left.split(".")[-1]: said_in(right) for left, right in found}
+
+
+def said_in(right):
+    text = re.fullmatch(r'(?:Some \()?codes "(.*?)"\)?', right)
+    return text[1].replace('\\"', '"') if text else None if right == "None" else right.lower()
+
+
+class Words(unittest.TestCase):
+    def test_codes(self):
+        for file, *names in DEFINITIONS:
+            codes, weights, expected, advice = (rows(file, name) for name in names)
+            self.assertGreater(len(codes), 1)
+            for key, code in codes.items():
+                with self.subTest(code):
+                    self.assertEqual(finding_words.WEIGHS[code], weights[key])
+                    self.assertEqual(finding_words.WORDS[code], [expected[key], advice[key]])
+
+    def test_each_code_has_words(self):
+        told = {code for file, name, *_ in DEFINITIONS for code in rows(file, name).values()}
+        self.assertEqual(told, set(finding_words.WORDS))
+
+
+class Lines(unittest.TestCase):
+    MADE = {"more": 2, "severity": "error", "found": "x", "code": "C", "column": "g", "path": ["a", "b"],
+            "in": "geo", "pointer": "/p", "byte": 7, "expected": "e", "help": "H.", "file": "f"}
+
+    def test_all_parts(self):
+        said = ('{"severity":"error","code":"C","file":"f","column":"g","path":["a","b"],"in":"geo",'
+                '"pointer":"/p","byte":7,"found":"x","expected":"e","help":"H.","more":2}')
+        self.assertEqual(finding_words.line(self.MADE), said)
+        said = "error[C] column g, at a.b, geo /p, byte 7, and 2 more: found x; expected e. H."
+        self.assertEqual(finding_words.words(self.MADE), said)
+
+    def test_no_parts(self):
+        made = {"severity": "note", "code": "C", "path": [], "pointer": None, "expected": "e", "more": 0}
+        self.assertEqual(finding_words.line(made), '{"severity":"note","code":"C","expected":"e"}')
+        self.assertEqual(finding_words.words(made), "note[C]: expected e")
+
+    def test_what_is_no_text(self):
+        self.assertEqual(finding_words.shown_bytes(b"a\xe7\x82\n"), "a\\xe7\\x82\n")
+
+
+if __name__ == "__main__":
+    unittest.main()

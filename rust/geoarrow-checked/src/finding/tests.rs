@@ -1,0 +1,174 @@
+use super::{column_findings, findings, Finding, Severity};
+use crate::Error;
+
+/// With a value of its own at each key.
+const WHOLE: &str = r#"{"severity":"warning","code":"One","file":"two","column":"three","path":["four","fi.ve"],"in":"six","pointer":"/seven","byte":8,"found":"nine","expected":"ten","help":"eleven.","more":12}"#;
+const LEAST: &str = r#"{"severity":"note","code":"One","expected":"two"}"#;
+const COLUMN: &str = r#"{"column":"{\"severity\":","index":0,"state":"plain","type":"int64"}"#;
+
+/// The line of a column with these members behind the others.
+fn column(more: &str) -> String {
+    COLUMN.replacen(":\"int64\"}", &format!(":\"int64\",{more}}}"), 1)
+}
+
+fn unread<T>(line: &str) -> Result<T, Error> {
+    Err(Error::Line(line.to_owned()))
+}
+
+#[test]
+fn each_key_is_what_it_says() {
+    let finding = Finding::read(WHOLE).unwrap();
+    assert_eq!(finding.severity(), Severity::Warning);
+    assert_eq!((finding.code(), finding.expected()), ("One", "ten"));
+    assert_eq!(finding.file(), Some("two"));
+    assert_eq!(finding.column(), Some("three"));
+    assert_eq!(finding.path(), ["four", "fi.ve"]);
+    assert_eq!(finding.source(), Some("six"));
+    assert_eq!(finding.pointer(), Some("/seven"));
+    assert_eq!(finding.byte(), Some(8));
+    assert_eq!(finding.found(), Some("nine"));
+    assert_eq!(finding.help(), Some("eleven."));
+    assert_eq!(finding.more(), 12);
+    assert_eq!(finding.as_json(), WHOLE);
+}
+
+#[test]
+fn what_is_absent_is_none() {
+    let finding = Finding::read(LEAST).unwrap();
+    assert_eq!(finding.severity(), Severity::Note);
+    assert_eq!((finding.file(), finding.column()), (None, None));
+    assert_eq!((finding.source(), finding.pointer()), (None, None));
+    assert_eq!((finding.found(), finding.help()), (None, None));
+    assert_eq!((finding.byte(), finding.more()), (None, 0));
+    assert!(finding.path().is_empty());
+    assert_eq!(finding.to_string(), "note[One]: expected two");
+}
+
+#[test]
+fn the_words_of_each_part() {
+    for (absent, words) in [
+        ("", "column three, at four.fi.ve, six /seven, byte 8, and 12 more: found nine; expected ten. eleven."),
+        (r#""column":"three","#, "at four.fi.ve, six /seven, byte 8, and 12 more: found nine; expected ten. eleven."),
+        (r#""path":["four","fi.ve"],"#, "column three, six /seven, byte 8, and 12 more: found nine; expected ten. eleven."),
+        (r#""pointer":"/seven","#, "column three, at four.fi.ve, six, byte 8, and 12 more: found nine; expected ten. eleven."),
+        (r#""byte":8,"#, "column three, at four.fi.ve, six /seven, and 12 more: found nine; expected ten. eleven."),
+        (r#","more":12"#, "column three, at four.fi.ve, six /seven, byte 8: found nine; expected ten. eleven."),
+        (r#""found":"nine","#, "column three, at four.fi.ve, six /seven, byte 8, and 12 more: expected ten. eleven."),
+        (r#","help":"eleven.""#, "column three, at four.fi.ve, six /seven, byte 8, and 12 more: found nine; expected ten"),
+    ] {
+        let finding = Finding::read(&WHOLE.replacen(absent, "", 1)).unwrap();
+        assert_eq!(finding.to_string(), format!("warning[One] {words}"));
+    }
+}
+
+#[test]
+fn a_place_that_is_the_first() {
+    for (members, words) in [
+        (r#""path":["a"]"#, "at a"),
+        (r#""in":"footer","byte":0"#, "footer, byte 0"),
+        (r#""in":"geo","pointer":"""#, "geo"),
+        (r#""in":"geo","pointer":"/a""#, "geo /a"),
+        (r#""column":"","path":["",""]"#, "column , at ."),
+        (r#""byte":7,"more":3"#, "byte 7, and 3 more"),
+        (r#""more":3"#, "and 3 more"),
+    ] {
+        let line = format!(r#"{{"severity":"error","code":"A",{members},"expected":"b"}}"#);
+        let finding = Finding::read(&line).unwrap();
+        assert_eq!(finding.to_string(), format!("error[A] {words}: expected b"));
+    }
+}
+
+#[test]
+fn each_severity_has_its_word() {
+    for (word, severity) in [
+        ("error", Severity::Error),
+        ("warning", Severity::Warning),
+        ("note", Severity::Note),
+    ] {
+        let line = LEAST.replace("note", word);
+        assert_eq!(Finding::read(&line).unwrap().severity(), severity);
+        assert_eq!(severity.to_string(), word);
+    }
+    assert!(Severity::Error > Severity::Warning && Severity::Warning > Severity::Note);
+}
+
+#[test]
+fn lines_of_columns_are_none() {
+    let report = format!("{COLUMN}\n{WHOLE}\n{COLUMN}\n{LEAST}\n");
+    let wanted = [WHOLE, LEAST].map(|it| Finding::read(it).unwrap());
+    assert_eq!(findings(&report).unwrap(), wanted);
+    assert_eq!(findings(""), Ok(Vec::new()));
+    let found = column(&format!(r#""warnings":[{WHOLE}]"#));
+    assert_eq!(findings(&found), Ok(Vec::new()));
+}
+
+#[test]
+fn the_findings_of_a_column() {
+    let tricky = r#"{"severity":"error","code":"Two","path":["]}","\"warnings\":["],"found":",\"warnings\":[{}]","expected":"]"}"#;
+    let line = column(&format!(r#""warnings":[{WHOLE},{tricky},{LEAST}]"#));
+    let wanted = [WHOLE, tricky, LEAST];
+    let found = column_findings(&line).unwrap();
+    assert_eq!(found, wanted.map(|it| Finding::read(it).unwrap()));
+    assert!(found.iter().map(Finding::as_json).eq(wanted));
+    assert_eq!(found[1].path(), ["]}", "\"warnings\":["]);
+    assert_eq!(column_findings(COLUMN), Ok(Vec::new()));
+    assert_eq!(column_findings(&column(r#""warnings":[]"#)), Ok(Vec::new()));
+    let deep = ["[".repeat(200_000), "]".repeat(200_000)].concat();
+    let crs = format!(r#""crs":{{"a":[1.50,-2,null,{{}}],"warnings":[{LEAST}],"deep":{deep}}}"#);
+    assert_eq!(column_findings(&column(&crs)), Ok(Vec::new()));
+    let line = column(&format!(
+        r#"{crs},"reasons":[{{"a":[]}}],"warnings":[{LEAST}]"#
+    ));
+    assert_eq!(column_findings(&line).unwrap()[0].as_json(), LEAST);
+}
+
+#[test]
+fn lines_that_are_none() {
+    for line in [
+        "",
+        "{}",
+        "{",
+        r#"{"severity":"error","code":"A"}"#,
+        r#"{"severity":"error","expected":"b"}"#,
+        r#"{"code":"A","expected":"b"}"#,
+        r#"{"severity":"fault","code":"A","expected":"b"}"#,
+        r#"{"severity":1,"code":"A","expected":"b"}"#,
+        r#"{"severity":"error","code":1,"expected":"b"}"#,
+        r#"{"severity":"error","code":"A","expected":1}"#,
+        r#"{"severity":"error","code":"A","column":1,"expected":"b"}"#,
+        r#"{"severity":"error","code":"A","path":"a","expected":"b"}"#,
+        r#"{"severity":"error","code":"A","path":[1],"expected":"b"}"#,
+        r#"{"severity":"error","code":"A","path":["a",],"expected":"b"}"#,
+        r#"{"severity":"error","code":"A","byte":"7","expected":"b"}"#,
+        r#"{"severity":"error","code":"A","byte":-7,"expected":"b"}"#,
+        r#"{"severity":"error","code":"A","expected":"b","help":null}"#,
+        r#"{"severity":"error","code":"A","expected":"b","more":"1"}"#,
+        r#"{"severity":"error","code":"A","expected":"b"} "#,
+    ] {
+        assert_eq!(Finding::read(line), None, "{line}");
+        assert_eq!(
+            findings(&format!("{COLUMN}\n{LEAST}\n{line}\n{WHOLE}\n")),
+            unread(line)
+        );
+        assert_eq!(column_findings(line), unread(line));
+        let of_column = column(&format!(r#""warnings":[{LEAST},{line}]"#));
+        assert_eq!(column_findings(&of_column), unread(&of_column));
+    }
+    for line in [
+        LEAST,
+        r#"{"column":"a","warnings":{}}"#,
+        r#"{"column":"a","warnings":["a"]}"#,
+        r#"{"column":"a","warnings":[}"#,
+        r#"{"column":"a""#,
+    ] {
+        assert_eq!(column_findings(line), unread(line));
+    }
+}
+
+#[test]
+fn unknown_keys_are_passed_over() {
+    let more = r#"{"severity":"error","code":"A","bytes":7,"expected":"b","row":"c","rows":[{"found":"d"}],"last":true,"least":-0.5}"#;
+    let finding = Finding::read(more).unwrap();
+    assert_eq!(finding.to_string(), "error[A]: expected b");
+    assert_eq!(finding.as_json(), more);
+}
