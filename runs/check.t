@@ -109,9 +109,9 @@ What a column is expected to hold: parts in any order
   $ geoarrow_check --quiet --expect g=linestring,XYM ../crates/geoarrow_check/data/file.arrow
 
   $ geoarrow_check --quiet --expect g=XY,WKB --expect h=point --expect g=OGC:CRS84 ../crates/geoarrow_check/data/file.arrow
-  ../crates/geoarrow_check/data/file.arrow: column g is not XY: linestring interleaved XYM, no CRS
+  ../crates/geoarrow_check/data/file.arrow: column g is not XY: linestring interleaved XYM, no CRS, planar
   ../crates/geoarrow_check/data/file.arrow: no column h
-  ../crates/geoarrow_check/data/file.arrow: column g is not OGC:CRS84: linestring interleaved XYM, no CRS
+  ../crates/geoarrow_check/data/file.arrow: column g is not OGC:CRS84: linestring interleaved XYM, no CRS, planar
   [1]
 
   $ geoarrow_check --json --expect id=point ../examples/schema.jsonl 2>&1 > /dev/null
@@ -165,9 +165,9 @@ Lines of JSON
 
   $ geoarrow_check --json --infer ../examples/schema.jsonl
   {"column":"id","file":"../examples/schema.jsonl","index":0,"state":"plain","type":"int64"}
-  {"column":"outline","crs":"EPSG:4326","crs_type":"authority_code","edges":"spherical","extension":"geoarrow.multipolygon","file":"../examples/schema.jsonl","index":1,"state":"geometry","type":"multipolygon interleaved XYZ","warnings":[{"severity":"warning","code":"NullableInner","path":["item"],"found":"nullable","expected":"not null"}]}
-  {"column":"any","edges":"planar","extension":"geoarrow.geometry","file":"../examples/schema.jsonl","index":2,"state":"geometry","type":"geometry separated -"}
-  {"column":"footprint","crs_type":"srid","edges":"planar","extension":"geoarrow.wkb","file":"../examples/schema.jsonl","index":3,"state":"geometry","type":"wkb - -"}
+  {"column":"outline","crs":"EPSG:4326","crs_from":"field","crs_type":"authority_code","edges":"spherical","edges_from":"field","extension":"geoarrow.multipolygon","file":"../examples/schema.jsonl","index":1,"state":"geometry","type":"multipolygon interleaved XYZ","type_from":"field","warnings":[{"severity":"warning","code":"NullableInner","path":["item"],"found":"nullable","expected":"not null"}]}
+  {"column":"any","edges":"planar","extension":"geoarrow.geometry","file":"../examples/schema.jsonl","index":2,"state":"geometry","type":"geometry separated -","type_from":"field"}
+  {"column":"footprint","edges":"planar","edges_from":"field","extension":"geoarrow.wkb","file":"../examples/schema.jsonl","index":3,"state":"geometry","type":"wkb - -","type_from":"field"}
   {"column":"label","extension":"geoarrow.wkb","file":"../examples/schema.jsonl","index":4,"reasons":[{"code":"WrongStorage","message":"well-known binary needs a binary type, and well-known text a text type","path":[]}],"state":"invalid","type":"utf8"}
   {"column":"track","edges":"planar","file":"../examples/schema.jsonl","index":5,"state":"inferred","type":"point separated XYM"}
   {"column":"broken","extension":"geoarrow.geometry","file":"../examples/schema.jsonl","index":6,"reasons":[{"code":"EmptyUnion","message":"union has no members","path":[]}],"state":"invalid","type":"dense_union<>"}
@@ -234,10 +234,10 @@ What is said with notes alone: a number in a CRS that is not whole
       note[CrsNotWhole] extension metadata /crs: expected whole numbers. For this alone read and canon of geoarrow_fields refuse the field; other readers do not.
   e       wkb - -             planar
       warning[MetadataEmpty]: found ""; expected no metadata, or {}. It is read as no metadata.
-  {"column":"g","crs":{"type":"GeographicCRS","name":"WGS 84","id":{"authority":"EPSG","code":4326},"scale":0.5},"edges":"planar","extension":"geoarrow.wkb","index":0,"state":"geometry","type":"wkb - -"}
-  {"column":"e","edges":"planar","extension":"geoarrow.wkb","index":1,"state":"geometry","type":"wkb - -","warnings":[{"severity":"warning","code":"MetadataEmpty","found":"\"\"","expected":"no metadata, or {}","help":"It is read as no metadata."}]}
-  {"column":"g","crs":{"type":"GeographicCRS","name":"WGS 84","id":{"authority":"EPSG","code":4326},"scale":0.5},"edges":"planar","extension":"geoarrow.wkb","index":0,"state":"geometry","type":"wkb - -","warnings":[{"severity":"note","code":"CrsNotWhole","in":"extension metadata","pointer":"/crs","expected":"whole numbers","help":"For this alone read and canon of geoarrow_fields refuse the field; other readers do not."}]}
-  {"column":"e","edges":"planar","extension":"geoarrow.wkb","index":1,"state":"geometry","type":"wkb - -","warnings":[{"severity":"warning","code":"MetadataEmpty","found":"\"\"","expected":"no metadata, or {}","help":"It is read as no metadata."}]}
+  {"column":"g","crs":{"type":"GeographicCRS","name":"WGS 84","id":{"authority":"EPSG","code":4326},"scale":0.5},"crs_from":"field","edges":"planar","edges_from":"field","extension":"geoarrow.wkb","index":0,"state":"geometry","type":"wkb - -","type_from":"field"}
+  {"column":"e","edges":"planar","extension":"geoarrow.wkb","index":1,"state":"geometry","type":"wkb - -","type_from":"field","warnings":[{"severity":"warning","code":"MetadataEmpty","found":"\"\"","expected":"no metadata, or {}","help":"It is read as no metadata."}]}
+  {"column":"g","crs":{"type":"GeographicCRS","name":"WGS 84","id":{"authority":"EPSG","code":4326},"scale":0.5},"crs_from":"field","edges":"planar","edges_from":"field","extension":"geoarrow.wkb","index":0,"state":"geometry","type":"wkb - -","type_from":"field","warnings":[{"severity":"note","code":"CrsNotWhole","in":"extension metadata","pointer":"/crs","expected":"whole numbers","help":"For this alone read and canon of geoarrow_fields refuse the field; other readers do not."}]}
+  {"column":"e","edges":"planar","extension":"geoarrow.wkb","index":1,"state":"geometry","type":"wkb - -","type_from":"field","warnings":[{"severity":"warning","code":"MetadataEmpty","found":"\"\"","expected":"no metadata, or {}","help":"It is read as no metadata."}]}
 
 Names of files that would control a terminal, or stand on two lines: above a table, and in all that is said
 
@@ -496,38 +496,56 @@ The status by what is found, notes too, of the files of a row each: how many, th
   >     geoarrow_check --quiet file
   >     echo $?
   > done | LC_ALL=C sort | uniq -c
-       40 0
+       48 0
+        4 ArrowSchemaContradicts 1
+        1 ArrowSchemaContradicts CrsContradicts 1
+        2 ArrowSchemaContradicts GeoLayout 1
+       18 ArrowSchemaContradicts NoGeoMetadata 1
         1 ArrowSchemaNames 0
         1 ArrowSchemaNames GeoEncoding 1
+        1 ArrowSchemaNames GeoNotInFooter 0
         1 ArrowSchemaNames NameNotText 1
         2 ArrowSchemaUnreadable 1
        12 CrsContradicts 1
         1 CrsContradicts GeoCrs 1
-        2 CrsMalformed 1
+        1 CrsContradicts GeoOldVersion 1
+        4 CrsKeyMissing 1
+        3 CrsMalformed 1
         2 CrsNotCompared 0
-        8 EdgesContradict 1
+       11 EdgesContradict 1
+        1 EdgesContradict EdgesOnProjected GeoColumnRepeated 1
+        2 EmptyGroup 0
         2 EncodingContradicts 1
         1 EncodingContradicts GeoLayout 1
         1 GeoColumnMissing 1
+        1 GeoColumnMissing GeoColumnUndeclared 1
+        1 GeoColumnMissing GeoMember 1
         1 GeoColumnMissing NameNotText 1
+        1 GeoColumnRepeated 1
         1 GeoCoveringColumn 1
         3 GeoCoveringName 1
         2 GeoCoveringShape 0
         2 GeoCoveringType 1
         2 GeoCrs 1
-        1 GeoEdges 1
-        4 GeoEncoding 1
-        4 GeoLayout 1
+        2 GeoEdges 1
+        5 GeoEncoding 1
+        5 GeoLayout 1
+        1 GeoLayout LogicalTypeInvalid 1
         1 GeoNewVersion 0
+        1 GeoNotInFooter 0
+        1 GeoNotInFooter NoGeoMetadata 0
         9 GeoNotJson 1
-        2 GeoOldVersion 0
+        1 GeoNotObject 1
+        3 GeoOldVersion 0
         1 GeoTypes 1
         1 GeoTypesVersion 1
         1 GeoVersion 1
         1 KeyNotText 0
+        3 LogicalTypeInvalid 1
         3 NoGeoMetadata 0
         2 RepeatedKey 0
         1 TypesContradict 1
+        1 UnknownAlgorithm 0
 
 What is denied counts and is printed as an error; what is allowed is not printed and does not count: codes, and all warnings
 
@@ -590,7 +608,7 @@ A note that is denied is shown, whether notes are or not; all warnings are no no
   0
 
   $ cd "$TMPDIR" && echo '{"metadata":{"ARROW:extension:metadata":"","ARROW:extension:name":"geoarrow.wkb"},"name":"e","nullable":true,"type":"binary"}' | geoarrow_check --json --deny MetadataEmpty -
-  {"column":"e","edges":"planar","extension":"geoarrow.wkb","index":0,"state":"geometry","type":"wkb - -","warnings":[{"severity":"error","code":"MetadataEmpty","found":"\"\"","expected":"no metadata, or {}","help":"It is read as no metadata."}]}
+  {"column":"e","edges":"planar","extension":"geoarrow.wkb","index":0,"state":"geometry","type":"wkb - -","type_from":"field","warnings":[{"severity":"error","code":"MetadataEmpty","found":"\"\"","expected":"no metadata, or {}","help":"It is read as no metadata."}]}
   [1]
 
 The reasons of an invalid column and those why a file is refused are no codes of findings; nothing is read
@@ -701,7 +719,7 @@ Options behind files, options that stand twice, and what is expected behind `=`,
   {"metadata":{"ARROW:extension:name":"geoarrow.linestring"},"name":"g","nullable":true,"type":{"list":{"name":"vertices","nullable":false,"type":{"fixed_size_list":{"name":"xym","nullable":false,"type":"float64"},"size":3}}}}
 
   $ geoarrow_check --quiet --expect=g=XY --expect --json=point --expect g=XYM ../crates/geoarrow_check/data/file.arrow
-  ../crates/geoarrow_check/data/file.arrow: column g is not XY: linestring interleaved XYM, no CRS
+  ../crates/geoarrow_check/data/file.arrow: column g is not XY: linestring interleaved XYM, no CRS, planar
   ../crates/geoarrow_check/data/file.arrow: no column --json
   [1]
 

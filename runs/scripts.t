@@ -47,7 +47,7 @@ The status of the other program, and what it says
   $ "$top/bin/try" check --infer --quiet --expect outline=XY ../examples/schema.jsonl 2>&1 | grep -v ' compiling '
   > "$top/bin/try" check --quiet --expect outline=XY ../examples/schema.jsonl 2> /dev/null
   geoarrow_check: this build is not proved, only checked while it runs; bin/geoarrow_check proves and builds the program
-  ../examples/schema.jsonl: column outline is not XY: multipolygon interleaved XYZ, EPSG:4326
+  ../examples/schema.jsonl: column outline is not XY: multipolygon interleaved XYZ, EPSG:4326, spherical
   [1]
 
 Words of the four commands for which nothing is built, without `rt`

@@ -82,7 +82,9 @@ _put_line = _OfALine.__dict__["json"].__set__
 @dataclasses.dataclass(frozen=True)
 class Column(_OfALine):
     """What is said of a column (docs/FORMAT.md, 2.5 and 2.6). `json` is the line of the report, which has the CRS as it is written, without
-    blanks; `crs` is that as Python's json reads it. The line of a column that `check` gives is read when an attribute is first asked for."""
+    blanks; `crs` is that as Python's json reads it. It is None too where the CRS is not known, which `crs_from` tells: the source of the CRS that counts,
+    `element`, `geo` or `field`; so do `edges_from` and `type_from` of the edges and of the encoding. `verdicts` has for each of `crs`, `edges` and `encoding` what
+    the other sources say against it: `agree`, `contradict` or `not compared` (docs/FORMAT.md, 5.7). The line of a column that `check` gives is read when an attribute is first asked for."""
 
     name: str
     index: int
@@ -94,6 +96,10 @@ class Column(_OfALine):
     crs: Any = dataclasses.field(default_factory=_none)
     reasons: Tuple[Reason, ...] = dataclasses.field(default_factory=tuple)
     warnings: Tuple[Finding, ...] = dataclasses.field(default_factory=tuple)
+    crs_from: Optional[str] = dataclasses.field(default_factory=_none)
+    edges_from: Optional[str] = dataclasses.field(default_factory=_none)
+    type_from: Optional[str] = dataclasses.field(default_factory=_none)
+    verdicts: Dict[str, Dict[str, str]] = dataclasses.field(default_factory=dict, hash=False)
     json: str = dataclasses.field(default_factory=str, repr=False, compare=False)
 
     @property
@@ -164,7 +170,8 @@ def _attributes(line: str) -> Dict[str, Any]:
     known = said.get
     return {
         "name": said["column"], "index": said["index"], "state": said["state"], "type": said["type"], "extension": known("extension"),
-        "edges": known("edges"), "crs_type": known("crs_type"), "crs": known("crs"), "reasons": _reasons(said["reasons"]) if "reasons" in said else (),
+        "edges": known("edges"), "crs_type": known("crs_type"), "crs": known("crs"), "crs_from": known("crs_from"), "edges_from": known("edges_from"),
+        "type_from": known("type_from"), "verdicts": known("verdicts", {}), "reasons": _reasons(said["reasons"]) if "reasons" in said else (),
         "warnings": tuple(_warnings(line)) if "warnings" in said else ()}
 
 
@@ -204,4 +211,5 @@ def _row(column: Column) -> tables.Row:
         holds = f"{column.state} {column.extension}"
     elif column.state == "inferred":
         holds = f"taken for {column.type}"
-    return (column.name, holds, tables.crs_name(column.crs), column.edges or ""), [str(one) for one in (*column.reasons, *column.warnings)]
+    crs = "unknown" if column.crs is None and column.crs_from else tables.crs_name(column.crs)
+    return (column.name, holds, crs, column.edges or ""), [str(one) for one in (*column.reasons, *column.warnings)]

@@ -45,7 +45,7 @@ class Checks(unittest.TestCase):
     def test_sources(self):
         nullable = Finding("warning", "NullableInner", path=("xy",), found="nullable", expected="not null")
         wanted = [
-            Column("t", 0, "plain", "utf8"), Column("p", 1, "geometry", "point interleaved XY", "geoarrow.point", "planar", warnings=(nullable,))]
+            Column("t", 0, "plain", "utf8"), Column("p", 1, "geometry", "point interleaved XY", "geoarrow.point", "planar", warnings=(nullable,), type_from="field")]
         text = f"{TEXT}\n{POINT}\n"
         stream = write_schema([TEXT, POINT])
         given = text.encode()
@@ -109,6 +109,7 @@ class Checks(unittest.TestCase):
         (column,) = check([CRS])
         self.assertEqual(column.crs, {"type": "GeographicCRS", "name": "WGS 84", "id": {"authority": "OGC", "code": "CRS84"}, "scope": 1.5})
         self.assertEqual((column.crs_type, column.edges), ("projjson", "spherical"))
+        self.assertEqual((column.crs_from, column.edges_from, column.type_from, column.verdicts), ("field", "field", "field", {}))
         self.assertEqual((column.state, column.is_geometry, column.is_invalid), ("geometry", True, False))
         self.assertIn('"scope":1.50', column.json)
         (column,) = check([with_crs('{ "b" : 1.50 , "a" : "\\u00e9 \\n" , "b" : 2 }')])
@@ -244,7 +245,7 @@ class Columns(unittest.TestCase):
 
     def test_each_attribute_may_be_the_first(self):
         wanted = Column("t", 0, "plain", "utf8")
-        for name in ("name", "index", "state", "type", "extension", "edges", "crs_type", "crs", "reasons", "warnings", "is_geometry", "is_invalid", "is_error"):
+        for name in ("name", "index", "state", "type", "extension", "edges", "crs_type", "crs", "reasons", "warnings", "crs_from", "edges_from", "type_from", "verdicts", "is_geometry", "is_invalid", "is_error"):
             (column,) = check([TEXT])
             self.assertEqual(getattr(column, name), getattr(wanted, name))
         for look in (repr, hash, dataclasses.asdict, lambda one: dataclasses.replace(one, name="u"), lambda one: pickle.loads(pickle.dumps(one)), copy.copy):

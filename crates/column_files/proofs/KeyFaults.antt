@@ -12,7 +12,7 @@ use Rattle.field_lines.specs.FieldOfValue.{under, field_from, field_of_value, ty
 use Rattle.field_lines.specs.ColumnOfValue.{other_of_value, column_type, column_type_of_value, column_from, column_of_value}
 use Rattle.column_files.specs.LineFaults.{HasName, HasNullable, HasMetadata, HasType, IsKeyFault, IsValueFault}
 use Rattle.column_files.specs.declared.line.LineFault.{LineFault}
-use Rattle.column_files.specs.declared.line.LineFault.TheVariants.{NotUtf8, NotJson, OpenObject, OpenArray, NotObject, Name, Nullable, Metadata, TypeUnknown}
+use Rattle.column_files.specs.declared.line.LineFault.TheVariants.{NotUtf8, NotJson, OpenObject, OpenArray, NotObject, GeoJson, Name, Nullable, Metadata, TypeUnknown}
 use Rattle.column_files.proofs.LineReads.{FieldIsColumn}
 
 pub no_object : (d : Data) → is_some (as_object d) ≡ false → as_object d ≡ None
@@ -26,6 +26,7 @@ of_members ms (NotUtf8 at) is = (ms, refl, is)
 of_members ms (NotJson at) is = (ms, refl, is)
 of_members ms (OpenObject at) is = (ms, refl, is)
 of_members ms (OpenArray at) is = (ms, refl, is)
+of_members ms GeoJson is = (ms, refl, is)
 of_members ms Name is = (ms, refl, is)
 of_members ms Nullable is = (ms, refl, is)
 of_members ms Metadata is = (ms, refl, is)

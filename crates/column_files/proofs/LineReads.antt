@@ -12,7 +12,7 @@ use Rattle.field_lines.specs.Line.{field_of_line}
 use Rattle.field_lines.specs.ColumnOfValue.{column_of_value, value_of_line, column_of_line}
 use Rattle.column_files.specs.LineFaults.{IsValueFault, IsLineFault, IsJsonFault}
 use Rattle.column_files.specs.declared.line.LineFault.{LineFault}
-use Rattle.column_files.specs.declared.line.LineFault.TheVariants.{NotUtf8, NotJson, OpenObject, OpenArray, NotObject, Name, Nullable, Metadata, TypeUnknown}
+use Rattle.column_files.specs.declared.line.LineFault.TheVariants.{NotUtf8, NotJson, OpenObject, OpenArray, NotObject, GeoJson, Name, Nullable, Metadata, TypeUnknown}
 
 -- the value of UTF-8
 pub value_is : (line : Text) → IsUtf8 line → value_of_line line ≡ read line
@@ -29,6 +29,7 @@ line_fault_of line d (NotJson at) utf8 is this = absurd this.2
 line_fault_of line d (OpenObject at) utf8 is this = absurd this.2
 line_fault_of line d (OpenArray at) utf8 is this = absurd this.2
 line_fault_of line d NotObject utf8 is this = (d, value_is line utf8 ∙ is, this)
+line_fault_of line d GeoJson utf8 is this = (d, value_is line utf8 ∙ is, this)
 line_fault_of line d Name utf8 is this = (d, value_is line utf8 ∙ is, this)
 line_fault_of line d Nullable utf8 is this = (d, value_is line utf8 ∙ is, this)
 line_fault_of line d Metadata utf8 is this = (d, value_is line utf8 ∙ is, this)
@@ -41,6 +42,7 @@ json_fault_of line (OpenObject at) this utf8 none = (utf8, none, this)
 json_fault_of line (OpenArray at) this utf8 none = (utf8, none, this)
 json_fault_of line (NotUtf8 at) this utf8 none = absurd this
 json_fault_of line NotObject this utf8 none = absurd this
+json_fault_of line GeoJson this utf8 none = absurd this
 json_fault_of line Name this utf8 none = absurd this
 json_fault_of line Nullable this utf8 none = absurd this
 json_fault_of line Metadata this utf8 none = absurd this

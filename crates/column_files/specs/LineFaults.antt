@@ -1,9 +1,9 @@
 -- Why a line denotes no column.
-use Rattle.std.specs.Prelude.{◌≡◌, ◌==◌, ◌&&◌, ℕ, Bool, true, false, List, [], ◌∷◌, ◌++◌, map, Option, Some, None, Result, Ok, Err, IsSome, codes}
+use Rattle.std.specs.Prelude.{◌≡◌, ◌==◌, ◌&&◌, ◌||◌, ℕ, Bool, true, false, not, List, [], ◌∷◌, ◌++◌, bytes_eq, map, Option, Some, None, option_and_then, is_some, Result, Ok, Err, IsSome, codes}
 use Rattle.std.specs.Str.{IsUtf8}
 use Rattle.std.specs.Str.Lossy.{utf8_valid_len}
 use Rattle.serde_json.specs.Data.{Data, object, Members}
-use Rattle.serde_json.specs.Find.{get_member, as_str, as_bool, as_object}
+use Rattle.serde_json.specs.Find.{get, get_member, as_str, as_bool, as_object}
 use Rattle.serde_json.specs.Read.{read}
 use Rattle.arrow_values.specs.Tree.{Text}
 use Rattle.arrow_columns.specs.Column.{column_tree}
@@ -13,7 +13,7 @@ use Rattle.field_lines.specs.ColumnOfValue.{other_of_value, value_of_line, colum
 use Rattle.column_files.specs.Forms.{behind_blanks}
 use Rattle.column_files.specs.Lines.{is_blank, FirstLine, Denote}
 use Rattle.column_files.specs.declared.line.LineFault.{LineFault}
-use Rattle.column_files.specs.declared.line.LineFault.TheVariants.{NotUtf8, NotJson, OpenObject, OpenArray, NotObject, Name, Nullable, Metadata, TypeUnknown}
+use Rattle.column_files.specs.declared.line.LineFault.TheVariants.{NotUtf8, NotJson, OpenObject, OpenArray, NotObject, GeoJson, Name, Nullable, Metadata, TypeUnknown}
 
 -- what the members have that a field must have
 abbrev pub HasName : Members → Type 0
@@ -28,10 +28,27 @@ HasMetadata ms = IsSome (metadata_of_value (get_member (codes "metadata") ms))
 abbrev pub HasType : Members → Type 0
 HasType ms = IsSome (type_in ms)
 
--- the first of a field's keys that the members lack, or at which stands what denotes nothing: its name, its nullability, its metadata and its type
+-- the types of GeoJSON (RFC 7946, 1.4)
+abbrev pub is_geojson_type : Text → Bool
+is_geojson_type s =
+    bytes_eq s (codes "FeatureCollection") || bytes_eq s (codes "Feature") || bytes_eq s (codes "Point") || bytes_eq s (codes "LineString")
+    || bytes_eq s (codes "Polygon") || bytes_eq s (codes "MultiPoint") || bytes_eq s (codes "MultiLineString") || bytes_eq s (codes "MultiPolygon")
+    || bytes_eq s (codes "GeometryCollection")
+
+abbrev pub has_geojson_type : Option Text → Bool
+has_geojson_type None = false
+has_geojson_type (Some s) = is_geojson_type s
+
+-- a value of GeoJSON: one of its types stands at `type`, and nothing at `nullable`
+abbrev pub is_geojson : Data → Bool
+is_geojson d = has_geojson_type (option_and_then as_str (get (codes "type") d)) && not (is_some (get (codes "nullable") d))
+
+-- the members are those of GeoJSON; or the first of a field's keys that they lack, or at which stands what denotes nothing: its name, its nullability, its
+-- metadata and its type
 abbrev pub IsKeyFault : Members → LineFault → Type 0
-IsKeyFault ms Name = ¬ HasName ms
-IsKeyFault ms Nullable = HasName ms × ¬ HasNullable ms
+IsKeyFault ms GeoJson = is_geojson (object ms) ≡ true
+IsKeyFault ms Name = (is_geojson (object ms) ≡ false) × ¬ HasName ms
+IsKeyFault ms Nullable = (is_geojson (object ms) ≡ false) × HasName ms × ¬ HasNullable ms
 IsKeyFault ms Metadata = HasName ms × HasNullable ms × ¬ HasMetadata ms
 IsKeyFault ms TypeUnknown = HasName ms × HasNullable ms × HasMetadata ms × ¬ HasType ms × (under other_of_value (codes "type") ms ≡ None)
 IsKeyFault ms fault = ⊥

@@ -29,6 +29,7 @@ line_code (lines.NotJson at) = codes "LineNotJson"
 line_code (lines.OpenObject at) = codes "LineNotJson"
 line_code (lines.OpenArray at) = codes "LineNotJson"
 line_code lines.NotObject = codes "LineNotObject"
+line_code lines.GeoJson = codes "ForeignFormat"
 line_code lines.Name = codes "LineName"
 line_code lines.Nullable = codes "LineNullable"
 line_code lines.Metadata = codes "LineMetadata"
@@ -54,6 +55,7 @@ line_message (lines.NotJson at) = codes "is no JSON, or nests more than 127 leve
 line_message (lines.OpenObject at) = codes "is no JSON, or nests more than 127 levels"
 line_message (lines.OpenArray at) = codes "is no JSON, or nests more than 127 levels"
 line_message lines.NotObject = codes "is JSON, but no object"
+line_message lines.GeoJson = codes "is of a format that is not read"
 line_message lines.Name = codes "is JSON, but no field: \"name\" is no text"
 line_message lines.Nullable = codes "is JSON, but no field: \"nullable\" is neither true nor false"
 line_message lines.Metadata = codes "is JSON, but no field: \"metadata\" is no object of texts"
@@ -73,13 +75,19 @@ long_line_message = codes "has more than 1048576 bytes"
 
 -- ---- what is found, and what to try
 
+abbrev pub line_found : LineFault → Option Text
+line_found lines.GeoJson = Some (codes "GeoJSON")
+line_found fault = None
+
 abbrev pub fault_found : FileFault → Option Text
+fault_found (NoField before fault) = line_found fault
 fault_found (Foreign foreign) = Some (format_name foreign)
 fault_found fault = None
 
 abbrev pub line_help : LineFault → Option Text
 line_help (lines.OpenObject at) = Some (codes "One object on each line: try jq -c . FILE")
 line_help (lines.OpenArray at) = Some (codes "One object on each line: try jq -c '.[]' FILE")
+line_help lines.GeoJson = Some (codes "Try ogr2ogr out.parquet FILE")
 line_help fault = None
 
 abbrev pub fault_help : FileFault → Option Text

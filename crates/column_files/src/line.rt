@@ -7,7 +7,7 @@ ghost use Rattle.arrow_columns.specs.Column.{column_tree};
 ghost use Rattle.field_lines.specs.FieldOfValue.{texts_in, metadata_of_value};
 ghost use Rattle.field_lines.specs.ColumnOfValue.{column_of_value, column_of_line};
 ghost use Rattle.column_files.specs.ColumnLines.{line_of_column, FitsLine};
-ghost use Rattle.column_files.specs.LineFaults.{IsLineRead, IsLineFault, IsJsonFault, is_lone, IsValueFault, IsKeyFault};
+ghost use Rattle.column_files.specs.LineFaults.{IsLineRead, IsLineFault, IsJsonFault, is_lone, IsValueFault, IsKeyFault, is_geojson, is_geojson_type};
 
 use crate::form::behind_blanks;
 use crate::lines::is_blank;
@@ -34,6 +34,8 @@ pub enum LineFault {
     OpenArray(usize),
     /// The line is JSON, but no object.
     NotObject,
+    /// The line is GeoJSON: an object with one of its types at the key `type`, and nothing at the key `nullable`.
+    GeoJson,
     /// There is no text at the key `name`.
     Name,
     /// Neither true nor false stands at the key `nullable`.
@@ -172,6 +174,9 @@ fn key_fault(value: &Value) -> LineFault
     ensures { (ms : Members) → view value.now ≡ object ms → IsKeyFault ms result }
 {
     field_is_column();
+    if is_geojson(value) {
+        return LineFault::GeoJson;
+    }
     if value.get("name").and_then(Value::as_str).is_none() {
         return LineFault::Name;
     }
@@ -182,6 +187,34 @@ fn key_fault(value: &Value) -> LineFault
         return LineFault::Metadata;
     }
     LineFault::TypeUnknown
+}
+
+/// Whether a value has one of the types of GeoJSON at the key `type`, and nothing at the key `nullable`.
+fn is_geojson(value: &Value) -> bool
+    ensures { result ≡ is_geojson (view value.now) }
+{
+    match value.get("type").and_then(Value::as_str) {
+        Some(name) => is_geojson_type(name) && value.get("nullable").is_none(),
+        None => false,
+    }
+}
+
+/// Whether a text is the name of a type of GeoJSON (RFC 7946, 1.4).
+fn is_geojson_type(name: &str) -> bool
+    ensures { result ≡ is_geojson_type name.now }
+{
+    matches!(
+        name,
+        "FeatureCollection"
+            | "Feature"
+            | "Point"
+            | "LineString"
+            | "Polygon"
+            | "MultiPoint"
+            | "MultiLineString"
+            | "MultiPolygon"
+            | "GeometryCollection"
+    )
 }
 
 /// Whether an object of texts stands at the key `metadata`, or nothing.

@@ -1,7 +1,7 @@
 //! Why a file is refused, as every way in says it: a code, what is wrong, and the place.
 ghost use Rattle.std.specs.Prelude.{◌≡◌, None};
 ghost use Rattle.arrow_values.specs.Texts.{text_of};
-ghost use Rattle.column_files.specs.Refusals.{line_code, line_message, line_help};
+ghost use Rattle.column_files.specs.Refusals.{line_code, line_message, line_found, line_help};
 ghost use Rattle.column_files.specs.Refusals.{fault_code, fault_message, fault_found, fault_help};
 ghost use Rattle.column_files.specs.Refusals.{behind, line_place, byte_place, message_place, parquet_place};
 ghost use Rattle.column_files.specs.Refusals.{fault_place, write_place, long_line_code, long_line_message};
@@ -61,6 +61,7 @@ impl LineFault {
                 "LineNotJson"
             }
             LineFault::NotObject => "LineNotObject",
+            LineFault::GeoJson => "ForeignFormat",
             LineFault::Name => "LineName",
             LineFault::Nullable => "LineNullable",
             LineFault::Metadata => "LineMetadata",
@@ -78,10 +79,29 @@ impl LineFault {
                 "is no JSON, or nests more than 127 levels"
             }
             LineFault::NotObject => "is JSON, but no object",
+            LineFault::GeoJson => "is of a format that is not read",
             LineFault::Name => "is JSON, but no field: \"name\" is no text",
             LineFault::Nullable => "is JSON, but no field: \"nullable\" is neither true nor false",
             LineFault::Metadata => "is JSON, but no field: \"metadata\" is no object of texts",
             LineFault::TypeUnknown => "is JSON, but no field: \"type\" is unknown",
+        }
+    }
+
+    /// Returns what the line is, where it is of a format that is not read.
+    pub fn found(self) -> Option<&'static str>
+        ensures { text_of result ≡ line_found self }
+    {
+        match self {
+            LineFault::GeoJson => Some("GeoJSON"),
+            LineFault::NotUtf8(_)
+            | LineFault::NotJson(_)
+            | LineFault::OpenObject(_)
+            | LineFault::OpenArray(_)
+            | LineFault::NotObject
+            | LineFault::Name
+            | LineFault::Nullable
+            | LineFault::Metadata
+            | LineFault::TypeUnknown => None,
         }
     }
 
@@ -90,6 +110,7 @@ impl LineFault {
         ensures { text_of result ≡ line_help self }
     {
         match self {
+            LineFault::GeoJson => Some("Try ogr2ogr out.parquet FILE"),
             LineFault::OpenObject(_) => Some("One object on each line: try jq -c . FILE"),
             LineFault::OpenArray(_) => Some("One object on each line: try jq -c '.[]' FILE"),
             LineFault::NotUtf8(_)
@@ -139,9 +160,9 @@ impl FileFault {
         ensures { text_of result ≡ fault_found self }
     {
         match self {
+            FileFault::NoField(_, fault) => fault.found(),
             FileFault::Foreign(foreign) => Some(foreign.name()),
-            FileFault::NoField(_, _)
-            | FileFault::Empty
+            FileFault::Empty
             | FileFault::ReportTooLarge
             | FileFault::Ipc(_)
             | FileFault::Parquet(_)
@@ -259,6 +280,7 @@ fn line_place(line: u64, fault: LineFault) -> Place
             Place::LineByte(line, at as u64)
         }
         LineFault::NotObject
+        | LineFault::GeoJson
         | LineFault::Name
         | LineFault::Nullable
         | LineFault::Metadata

@@ -3,3 +3,4 @@ mod Places
 mod Joined
 pub mod Reported
 pub mod Whole
+pub mod Verdicts

@@ -1,27 +1,39 @@
 -- Reports, column by column, and their lines.
-use Rattle.std.proofs.Common.{◌≡◌, Bool, ℕ, ◌+◌, ◌<◌, ◌≤◌, List, [], ◌∷◌, ◌++◌, length, get_or, map, drop, Option, sym, ap, ◌∙◌, subst, arith}
+use Rattle.std.proofs.Common.{◌≡◌, Bool, ℕ, ◌+◌, ◌<◌, ◌≤◌, List, [], ◌∷◌, ◌++◌, length, get_or, map, drop, Option, refl, sym, ap, ◌∙◌, subst, arith}
+use Rattle.std.specs.List.{zip}
 use Rattle.std.proofs.lemmas.List.{map-append, append_assoc, append-nil, at_drop_more, drop_all, length-append}
 use Rattle.arrow_values.specs.Tree.{Text}
 use Rattle.arrow_columns.specs.Column.{ColumnTree, column_tree}
 use Rattle.arrow_columns.specs.declared.column.SchemaColumn.{SchemaColumn}
+use Rattle.geoparquet.specs.Facts.{FactsOf, facts_view}
+use Rattle.geoparquet.specs.declared.facts.ColumnFacts.{ColumnFacts}
 use Rattle.column_reports.specs.Columns.{IsColumnReport}
 use Rattle.column_reports.specs.FileReport.{AreReported, line_of, lines_of}
 use Rattle.column_reports.specs.Weights.{Weighing}
 use Rattle.column_reports.specs.declared.report.ColumnReport.{ColumnReport}
 
--- one more column with its report
-reported_more : (infer : Bool) (w : Weighing) (cs : List ColumnTree) (rs : List ColumnReport) (c : ColumnTree) (r : ColumnReport) → AreReported infer w cs rs → IsColumnReport infer w c r
-    → AreReported infer w (cs ++ c ∷ []) (rs ++ r ∷ [])
-reported_more infer w [] [] c r are is = (is, tt)
-reported_more infer w (d ∷ cs) (s ∷ rs) c r are is = (are.0, reported_more infer w cs rs c r are.1 is)
-reported_more infer w [] (s ∷ rs) c r are is = absurd are
-reported_more infer w (d ∷ cs) [] c r are is = absurd are
+-- a column with its facts
+abbrev pub viewed : SchemaColumn × ColumnFacts → ColumnTree × FactsOf
+viewed x = (column_tree x.0, facts_view x.1)
 
-pub reported_next : (infer : Bool) (w : Weighing) (cs : List SchemaColumn) (rs new : List ColumnReport) (c : SchemaColumn) (r : ColumnReport) → AreReported infer w (map column_tree cs) rs
-    → IsColumnReport infer w (column_tree c) r → new ≡ rs ++ r ∷ [] → AreReported infer w (map column_tree (cs ++ c ∷ [])) new
-reported_next infer w cs rs new c r are is pushed =
-    subst (AreReported infer w (map column_tree (cs ++ c ∷ []))) (sym pushed)
-    (subst (λ ts. AreReported infer w ts (rs ++ r ∷ [])) (sym (map-append column_tree cs (c ∷ []))) (reported_more infer w (map column_tree cs) rs (column_tree c) r are is))
+pub zip_viewed : (cs : List SchemaColumn) (fs : List ColumnFacts) → map viewed (zip cs fs) ≡ zip (map column_tree cs) (map facts_view fs)
+zip_viewed [] fs = refl
+zip_viewed (c ∷ cs) [] = refl
+zip_viewed (c ∷ cs) (f ∷ fs) = ap (λ xs. (column_tree c, facts_view f) ∷ xs) (zip_viewed cs fs)
+
+-- one more of them with its report
+reported_more : (infer : Bool) (w : Weighing) (xs : List (ColumnTree × FactsOf)) (rs : List ColumnReport) (x : ColumnTree × FactsOf) (r : ColumnReport) → AreReported infer w xs rs → IsColumnReport infer w x.0 x.1 r
+    → AreReported infer w (xs ++ x ∷ []) (rs ++ r ∷ [])
+reported_more infer w [] [] x r are is = (is, tt)
+reported_more infer w (y ∷ xs) (s ∷ rs) x r are is = (are.0, reported_more infer w xs rs x r are.1 is)
+reported_more infer w [] (s ∷ rs) x r are is = absurd are
+reported_more infer w (y ∷ xs) [] x r are is = absurd are
+
+pub reported_next : (infer : Bool) (w : Weighing) (xs : List (SchemaColumn × ColumnFacts)) (rs new : List ColumnReport) (x : SchemaColumn × ColumnFacts) (r : ColumnReport) → AreReported infer w (map viewed xs) rs
+    → IsColumnReport infer w (column_tree x.0) (facts_view x.1) r → new ≡ rs ++ r ∷ [] → AreReported infer w (map viewed (xs ++ x ∷ [])) new
+reported_next infer w xs rs new x r are is pushed =
+    subst (AreReported infer w (map viewed (xs ++ x ∷ []))) (sym pushed)
+    (subst (λ ts. AreReported infer w ts (rs ++ r ∷ [])) (sym (map-append viewed xs (x ∷ []))) (reported_more infer w (map viewed xs) rs (viewed x) r are is))
 
 -- the lines that are still to come stand behind those that were written
 abbrev pub ColumnsFrom : Option Text → List ColumnReport → ℕ → Text → Type 0

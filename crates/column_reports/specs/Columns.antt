@@ -4,16 +4,18 @@ use Rattle.arrow_columns.specs.Column.{ColumnTree, column_tree}
 use Rattle.column_check.specs.Finding.{IsFinding}
 use Rattle.column_check.specs.Warnings.{AreWarnings}
 use Rattle.column_check.specs.declared.warning.Warning.{Warning}
+use Rattle.geoparquet.specs.Facts.{FactsOf, facts_view}
 use Rattle.column_reports.specs.Gathered.{of_warnings}
 use Rattle.column_reports.specs.Weighed.{weighed}
 use Rattle.column_reports.specs.Weights.{Weighing}
 use Rattle.column_reports.specs.declared.report.ColumnReport.{ColumnReport}
 
--- the report of a column where types are inferred or not and that is asked of findings: the column itself, what is said of it, and those of its
--- warnings that are shown
-pub record IsColumnReport (infer : Bool) (w : Weighing) (c : ColumnTree) (r : ColumnReport) : Type 0 where
+-- the report of a column of those facts, where types are inferred or not and that is asked of findings: the column itself, what is said of it, its facts, and
+-- those of its warnings that are shown
+pub record IsColumnReport (infer : Bool) (w : Weighing) (c : ColumnTree) (fs : FactsOf) (r : ColumnReport) : Type 0 where
   pub column : column_tree r.column ≡ c
   pub finding : IsFinding infer c r.finding
+  pub facts : facts_view r.facts ≡ fs
   pub warnings : List Warning
   pub are : AreWarnings true c r.finding warnings
   pub findings : r.findings.items ≡ weighed w (of_warnings warnings)

@@ -1,5 +1,6 @@
 -- The report of a file: its columns with what is said of each, and what is found of it; and its lines of JSON.
 use Rattle.std.specs.Prelude.{◌≡◌, ◌⊎◌, ◌<◌, ◌≤◌, ◌+◌, ◌++◌, ℕ, ⊤, Bool, List, [], ◌∷◌, codes, length, map, Option, None, Some, Result, Ok, Err, String, string_bytes, if◌then◌else◌}
+use Rattle.std.specs.List.{zip}
 use Rattle.std.specs.Global.{Global}
 use Rattle.std.specs.Str.{is_utf8}
 use Rattle.json.specs.Print.{print}
@@ -14,6 +15,7 @@ use Rattle.column_files.specs.declared.geo.GeoText.TheVariants.{Absent, Footer, 
 use Rattle.column_files.specs.declared.opening.File.{File}
 use Rattle.column_files.specs.declared.columns.FileFault.{FileFault}
 use Rattle.column_files.specs.declared.columns.FileFault.TheVariants.{ReportTooLarge, OutOfMemory}
+use Rattle.geoparquet.specs.Facts.{FactsOf, facts_of}
 use Rattle.geoparquet.specs.Findings.{finding}
 use Rattle.geoparquet.specs.GeoColumns.{AreGeoColumns}
 use Rattle.geoparquet.specs.GeoFindings.{AreGeoFindings}
@@ -32,10 +34,10 @@ use Rattle.column_reports.specs.declared.file.FileReport.{FileReport}
 use Rattle.column_reports.specs.declared.report.ColumnReport.{ColumnReport}
 use Rattle.column_reports.specs.declared.report.Options.{Options}
 
--- each of the columns has its report
-abbrev pub AreReported : Bool → Weighing → List ColumnTree → List ColumnReport → Type 0
+-- each of the columns, which have those facts, has its report
+abbrev pub AreReported : Bool → Weighing → List (ColumnTree × FactsOf) → List ColumnReport → Type 0
 AreReported infer w [] [] = ⊤
-AreReported infer w (c ∷ cs) (r ∷ rs) = IsColumnReport infer w c r × AreReported infer w cs rs
+AreReported infer w (x ∷ xs) (r ∷ rs) = IsColumnReport infer w x.0 x.1 r × AreReported infer w xs rs
 AreReported infer w _ _ = ⊥
 
 -- the text at the key geo, if there is one: bytes that are not UTF-8 are none
@@ -65,10 +67,10 @@ AreColumnsBy (Some geo) cs made = AreGeoColumns geo cs made
 -- the report of a file that was opened, where types are inferred or not and that is asked of findings
 pub record IsReport (infer : Bool) (w : Weighing) (opened : File) (r : FileReport) : Type 0 where
   pub form : r.form ≡ opened.form
-  -- its columns by the metadata, each with its report
+  -- its columns by the metadata, each with its report, which has the facts of the columns that the file denotes
   pub by : List ColumnTree
   pub are_by : AreColumnsBy (text_in opened.geo) (map column_tree opened.columns.items) by
-  pub columns : AreReported infer w by r.columns.items
+  pub columns : AreReported infer w (zip by (facts_of (source_in opened.form opened.geo) (map column_tree opened.columns.items) (map claim opened.elements.items))) r.columns.items
   -- what the metadata are found to be, of the columns that the file denotes
   pub geo : GeoReport
   pub is_geo : AreGeoFindings (source_in opened.form opened.geo) (map column_tree opened.columns.items) (map claim opened.elements.items) geo.version (map finding geo.findings.items)

@@ -6,6 +6,7 @@ pub mod FindingLines
 pub mod FindingWords
 pub mod Gathered
 pub mod Reasons
+pub mod FactMembers
 pub mod Report
 pub mod Summary
 pub mod FileReport

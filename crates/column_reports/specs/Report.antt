@@ -1,11 +1,9 @@
 -- The report of a column: what is said of it, as a JSON value.
-use Rattle.std.specs.Prelude.{ℕ, List, ◌++◌, codes, decimal, Option, None, Some, option_map}
+use Rattle.std.specs.Prelude.{ℕ, List, ◌++◌, codes, decimal, Option, None, Some}
 use Rattle.json.specs.Json.{Json, number, string}
 use Rattle.arrow_values.specs.Tree.{Text}
 use Rattle.arrow_columns.specs.Column.{ColumnTree, column_tree, name_on}
 use Rattle.arrow_columns.specs.Notation.{type_text}
-use Rattle.geoarrow_meta.specs.declared.edges.Edges.{Edges}
-use Rattle.geoarrow_meta.specs.Read.{edges_text, crs_type_text}
 use Rattle.geoarrow_layout.specs.declared.native_kinds.Kind.{Kind}
 use Rattle.geoarrow_layout.specs.Kinds.{coord_type_of, dimension_of}
 use Rattle.geoarrow_layout.specs.KindWords.{kind_word, coord_type_word, dimension_word}
@@ -13,6 +11,8 @@ use Rattle.column_check.specs.declared.finding.Geometry.{Geometry as GeometryCol
 use Rattle.column_check.specs.declared.finding.Finding.{Finding as ColumnFinding}
 use Rattle.column_check.specs.declared.finding.Finding.TheVariants.{Geometry, Invalid, Extension, Inferred, Plain}
 use Rattle.column_check.specs.States.{geometry_in}
+use Rattle.geoparquet.specs.Facts.{FactsOf, facts_view}
+use Rattle.column_reports.specs.FactMembers.{crs_fact_in, crs_members, edges_members_in, encoding_word_in, facts_in, verdicts_in}
 use Rattle.column_reports.specs.FindingLines.{findings_in}
 use Rattle.column_reports.specs.Objects.{array_of, object_of, member_if, string_if}
 use Rattle.column_reports.specs.Reasons.{reasons_of}
@@ -30,57 +30,44 @@ state_word Plain = codes "plain"
 abbrev pub kind_text : Kind → Text
 kind_text k = kind_word k ++ codes " " ++ coord_type_word (coord_type_of k) ++ codes " " ++ dimension_word (dimension_of k)
 
--- edges, which are planar where none are named
-abbrev pub edges_word : Option Edges → Text
-edges_word (Some e) = edges_text e
-edges_word None = codes "planar"
-
 -- the type: of geometries their kind, of another column its data type
 abbrev pub type_word : ColumnTree → Option GeometryColumn → Text
 type_word c (Some g) = kind_text g.kind
 type_word c None = type_text c.data_type
-
--- of geometries: their CRS as it is written, if they have one; the CRS type; the edges
-abbrev pub crs_of : Option GeometryColumn → Option Json
-crs_of (Some g) = g.metadata.crs
-crs_of None = None
-
-abbrev pub crs_type_of : Option GeometryColumn → Option Text
-crs_type_of (Some g) = option_map crs_type_text g.metadata.crs_type
-crs_type_of None = None
-
-abbrev pub edges_of : Option GeometryColumn → Option Text
-edges_of (Some g) = Some (edges_word g.metadata.edges)
-edges_of None = None
 
 -- of an invalid column: its reasons
 abbrev pub reasons_in : ColumnFinding → Option Json
 reasons_in (Invalid r) = Some (array_of (reasons_of r))
 reasons_in f = None
 
--- the members, in the order of their keys: the column and its CRS; what geometries are like, and names; the column's place and what is found of it
-abbrev pub names_of : Option Text → ColumnTree → Option GeometryColumn → List (Text × Json)
-names_of file c g =
-    string_if (codes "crs_type") (crs_type_of g)
-    ++ string_if (codes "edges") (edges_of g)
-    ++ string_if (codes "extension") (name_on c)
-    ++ string_if (codes "file") file
+-- the members, in the order of their keys: the column, its CRS and its edges; names; the column's place and what is found of it; its source, and what the
+-- others say
+abbrev pub names_of : Option Text → ColumnTree → List (Text × Json)
+names_of file c = string_if (codes "extension") (name_on c) ++ string_if (codes "file") file
 
-abbrev pub found_of : ℕ → ColumnFinding → Text → List Weighed → List (Text × Json)
-found_of index f word fs =
+abbrev pub said_of : ColumnTree → Option FactsOf → List (Text × Json)
+said_of c fs =
+    string_if (codes "column") (Some c.name)
+    ++ crs_members (crs_fact_in fs)
+    ++ edges_members_in fs
+
+abbrev pub found_of : ℕ → ColumnFinding → Text → Option FactsOf → List Weighed → List (Text × Json)
+found_of index f word fs ws =
     member_if (codes "index") (Some (number (decimal index)))
     ++ member_if (codes "reasons") (reasons_in f)
     ++ string_if (codes "state") (Some (state_word f))
     ++ string_if (codes "type") (Some word)
-    ++ member_if (codes "warnings") (findings_in fs)
+    ++ string_if (codes "type_from") (encoding_word_in fs)
+    ++ member_if (codes "verdicts") (verdicts_in fs)
+    ++ member_if (codes "warnings") (findings_in ws)
 
-abbrev pub members_of : Option Text → ℕ → ColumnTree → ColumnFinding → List Weighed → List (Text × Json)
-members_of file index c f fs =
-    string_if (codes "column") (Some c.name)
-    ++ member_if (codes "crs") (crs_of (geometry_in f))
-    ++ names_of file c (geometry_in f)
-    ++ found_of index f (type_word c (geometry_in f)) fs
+abbrev pub members_of : Option Text → ℕ → ColumnTree → ColumnFinding → Option FactsOf → List Weighed → List (Text × Json)
+members_of file index c f fs ws =
+    said_of c fs
+    ++ names_of file c
+    ++ found_of index f (type_word c (geometry_in f)) fs ws
 
--- the report: the file, where it is named, the place of the column, the column, what is said of it, and what is found of it
+-- the report: the file, where it is named, the place of the column, the column, what is said of it, its facts, and what is found of it
 abbrev pub report : Option Text → ℕ → ColumnReport → Json
-report file index r = object_of (members_of file index (column_tree r.column) r.finding r.findings.items)
+report file index r =
+    object_of (members_of file index (column_tree r.column) r.finding (facts_in (geometry_in r.finding) (facts_view r.facts)) r.findings.items)

@@ -1,9 +1,10 @@
 //! The report of a file, as one value.
 ghost use Rattle.std.specs.Prelude.{◌≡◌, ◌||◌, IfOk, map};
-ghost use Rattle.std.specs.List.{list_any};
+ghost use Rattle.std.specs.List.{list_any, zip};
 ghost use Rattle.arrow_values.specs.Texts.{text_of};
 ghost use Rattle.arrow_columns.specs.Column.{column_tree};
 ghost use Rattle.column_check.specs.States.{is_invalid, is_geometry};
+ghost use Rattle.geoparquet.specs.Facts.{facts_view};
 ghost use Rattle.column_reports.specs.FileReport.{AreReported, IsReport, Reports};
 ghost use Rattle.column_reports.specs.Summary.{has_error};
 ghost use Rattle.column_reports.specs.Weights.{plain, weighing};
@@ -11,13 +12,13 @@ ghost use Rattle.column_reports.specs.Weights.{plain, weighing};
 use crate::gathered::of_file;
 use crate::geo::{columns_by, source_of};
 use crate::lines::json_lines;
-use crate::report::{ColumnReport, Options, weighed_column};
+use crate::report::{ColumnReport, Options, column_with};
 use crate::summary::{Summary, has_error};
 use crate::weighed::{Weighed, weigh};
 use crate::weights::Weights;
 use arrow_columns::SchemaColumn;
 use column_files::{File, FileFault, Form, open};
-use geoparquet::check_geo;
+use geoparquet::{ColumnFacts, check_geo, geo_facts};
 use json::Scratch;
 use parquet_columns::report_budget;
 use std::alloc::{AllocError, Global};
@@ -37,7 +38,8 @@ pub struct FileReport<'a> {
 }
 
 /// Returns the report of a file that was opened: what each of its columns holds and what is found
-/// of it, where the columns are those by its GeoParquet metadata; and what is found of the file.
+/// of it, where the columns are those by its GeoParquet metadata; the facts of each, by all that says
+/// them; and what is found of the file.
 /// Errs only when out of memory.
 ///
 /// ```rust
@@ -79,10 +81,11 @@ pub fn weighed_report<'a>(
     } = opened;
     let source = source_of(form, &geo);
     let checked = check_geo(alloc, source, columns.as_slice(), elements.as_slice())?;
+    let facts = geo_facts(alloc, source, columns.as_slice(), elements.as_slice())?;
     let found = of_file(alloc, texts, findings, checked)?;
     let findings = weigh(alloc, weights, found)?;
     let columns = columns_by(alloc, &geo, columns)?;
-    let columns = report_columns(alloc, columns, infer, weights)?;
+    let columns = report_columns(alloc, columns, facts, infer, weights)?;
     let summary = summary_of(columns.as_slice(), findings.as_slice());
     Ok(FileReport {
         form,
@@ -92,19 +95,20 @@ pub fn weighed_report<'a>(
     })
 }
 
-/// Returns the reports of columns, in order. Errs only when out of memory.
+/// Returns the reports of columns of those facts, in order. Errs only when out of memory.
 fn report_columns(
     alloc: Global,
     columns: Vec<SchemaColumn>,
+    facts: Vec<ColumnFacts>,
     infer: bool,
     weights: &Weights,
 ) -> Result<Vec<ColumnReport>, AllocError>
-    ensures { IfOk result (λ reported. AreReported infer (weighing weights.now) (map column_tree columns.items) reported.items) }
+    ensures { IfOk result (λ reported. AreReported infer (weighing weights.now) (zip (map column_tree columns.items) (map facts_view facts.items)) reported.items) }
 {
     let mut scratch = Scratch::new(alloc);
     let mut reported = Vec::new(alloc);
-    for column in columns {
-        let said = weighed_column(alloc, &mut scratch, column, infer, weights)?;
+    for (column, facts) in columns.into_iter().zip(facts.into_iter()) {
+        let said = column_with(alloc, &mut scratch, column, facts, infer, weights)?;
         reported.push(said)?;
     }
     Ok(reported)

@@ -9,6 +9,7 @@
 
 mod bytes;
 mod code;
+mod fact_members;
 mod fault;
 mod file;
 mod finding;

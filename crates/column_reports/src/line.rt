@@ -1,19 +1,23 @@
 //! The line of a column.
-ghost use Rattle.std.specs.Prelude.{◌≡◌, ◌≢◌, All, IfOk, OnOk, codes, option_map, string_bytes};
+ghost use Rattle.std.specs.Prelude.{◌≡◌, ◌≢◌, All, IfOk, OnOk, option_map, string_bytes};
 ghost use Rattle.json.specs.Print.{print};
 ghost use Rattle.json.specs.Tree.{json_tokens};
 ghost use Rattle.arrow_values.specs.Texts.{text_of};
 ghost use Rattle.arrow_columns.specs.Column.{column_tree};
-ghost use Rattle.column_reports.specs.Objects.{member_if, AddsMembers};
-ghost use Rattle.column_reports.specs.Report.{crs_of, names_of, found_of, report};
+ghost use Rattle.geoparquet.specs.Facts.{facts_view};
+ghost use Rattle.column_reports.specs.FactMembers.{facts_in};
+ghost use Rattle.column_reports.specs.Objects.{AddsMembers};
+ghost use Rattle.column_reports.specs.Report.{said_of, names_of, found_of, report};
 
+use crate::fact_members::{encoding_word, put_crs, put_edges, put_verdicts};
 use crate::finding_json::put_findings;
 use crate::put::{put_number, put_text, put_text_if};
 use crate::reasons::put_reasons;
 use crate::report::ColumnReport;
-use crate::words::{crs_of, crs_type_of, edges_of, state_word, type_word};
+use crate::words::{state_word, type_word};
 use arrow_columns::SchemaColumn;
 use column_check::Geometry;
+use geoparquet::ColumnFacts;
 use json::{Scratch, Writer};
 use std::alloc::{AllocError, Global};
 use value_tokens::text_of;
@@ -25,10 +29,10 @@ const LINE_ROOM: usize = 512;
 /// between its parts (`docs/FORMAT.md`, 2.5), with the name of the file, where one is given, and the
 /// place of the column in its schema, from 0.
 ///
-/// The member `crs` is the value of the CRS with its digits, the order of its members and repeated
-/// members as in the metadata, without blanks. It is left out of a column that is not found to hold
-/// geometries with a CRS. The scratch buffer is kept by the caller from column to column. Errs only
-/// when out of memory.
+/// The member `crs` is the value of the CRS that counts, with its digits, the order of its members and
+/// repeated members as they are written, without blanks; null where the CRS is not known. It is left
+/// out of a column that is not found to hold geometries, or of whose CRS no source says anything. The
+/// scratch buffer is kept by the caller from column to column. Errs only when out of memory.
 ///
 /// ```rust
 /// let column = SchemaColumn {
@@ -38,26 +42,29 @@ const LINE_ROOM: usize = 512;
 ///     metadata: BTreeMap::new(alloc),
 /// };
 /// let mut scratch = Scratch::new(alloc);
-/// let finding = column_check::Finding::Plain;
-/// let report = ColumnReport { column, finding, findings: Vec::new(alloc) };
+/// let options = Options { infer: false, notes: false };
+/// let report = report_column(alloc, &mut scratch, column, options)?;
 /// let line = json_line(alloc, &mut scratch, None, 3, &report)?;
 /// assert_eq!(rt; line.as_str(), r#"{"column":"geom","index":3,"state":"plain","type":"int64"}"#);
 ///
-/// let text = r#"{"crs": {"id": 1.50, "id": [2]}, "crs_type": "projjson"}"#;
-/// let metadata = read_metadata(alloc, Some(text), &mut scratch)?;
-/// let Ok(metadata) = metadata else { return Ok(()); };
-/// let kind = Kind::Native(NativeKind::Point, CoordType::Separated, Dimension::XY);
-/// let finding = column_check::Finding::Geometry(Geometry { kind, metadata });
-/// let report = ColumnReport { column: report.column, finding, findings: Vec::new(alloc) };
+/// let mut metadata = BTreeMap::new(alloc);
+/// let name = String::from_str(alloc, "ARROW:extension:name")?;
+/// drop(metadata.insert(name, String::from_str(alloc, "geoarrow.wkb")?)?);
+/// let name = String::from_str(alloc, "ARROW:extension:metadata")?;
+/// drop(metadata.insert(name, String::from_str(alloc, r#"{"crs": "EPSG:4326"}"#)?)?);
+/// let data_type = AnyType::Data(DataType::Binary);
+/// let column = SchemaColumn { name: report.column.name, nullable: true, data_type, metadata };
+/// let report = report_column(alloc, &mut scratch, column, options)?;
 /// let line = json_line(alloc, &mut scratch, Some("a.arrow"), 0, &report)?;
-/// assert_eq!(rt; line.as_str(), r#"{"column":"geom","crs":{"id":1.50,"id":[2]},"crs_type":"projjson","edges":"planar","file":"a.arrow","index":0,"state":"geometry","type":"point separated XY"}"#);
+/// assert_eq!(rt; line.as_str(), r#"{"column":"geom","crs":"EPSG:4326","crs_from":"field","edges":"planar","edges_from":"field","extension":"geoarrow.wkb","file":"a.arrow","index":0,"state":"geometry","type":"wkb - -","type_from":"field"}"#);
 ///
 /// let path = vec![in alloc; String::from_str(alloc, "x\ny")?]?;
 /// let fault = TypeFault::Layout(LayoutFault::BadSize, path);
 /// let finding = column_check::Finding::Invalid(Reasons::DataType(fault));
-/// let report = ColumnReport { column: report.column, finding, findings: Vec::new(alloc) };
+/// let (column, facts) = (report.column, report.facts);
+/// let report = ColumnReport { column, finding, facts, findings: Vec::new(alloc) };
 /// let line = json_line(alloc, &mut scratch, None, 0, &report)?;
-/// assert_eq!(rt; line.as_str(), r#"{"column":"geom","index":0,"reasons":[{"code":"BadSize","message":"list size differs from the field name","path":["x\ny"]}],"state":"invalid","type":"int64"}"#);
+/// assert_eq!(rt; line.as_str(), r#"{"column":"geom","extension":"geoarrow.wkb","index":0,"reasons":[{"code":"BadSize","message":"list size differs from the field name","path":["x\ny"]}],"state":"invalid","type":"binary"}"#);
 ///
 /// let path = vec![in alloc; String::from_str(alloc, "child")?]?;
 /// let code = WarningCode::NestedGeometry;
@@ -66,9 +73,10 @@ const LINE_ROOM: usize = 512;
 /// let warned = Weighed { severity: Severity::Warning, finding: Finding::Column(warning) };
 /// let findings = vec![in alloc; warned]?;
 /// let finding = column_check::Finding::Extension;
-/// let report = ColumnReport { column: report.column, finding, findings };
+/// let (column, facts) = (report.column, report.facts);
+/// let report = ColumnReport { column, finding, facts, findings };
 /// let line = json_line(alloc, &mut scratch, None, 0, &report)?;
-/// assert_eq!(rt; line.as_str(), r#"{"column":"geom","index":0,"state":"extension","type":"int64","warnings":[{"severity":"warning","code":"NestedGeometry","path":["child"],"found":"geoarrow.wkb","expected":"the name of a column alone","help":"GeoParquet takes columns at the root alone."}]}"#);
+/// assert_eq!(rt; line.as_str(), r#"{"column":"geom","extension":"geoarrow.wkb","index":0,"state":"extension","type":"binary","warnings":[{"severity":"warning","code":"NestedGeometry","path":["child"],"found":"geoarrow.wkb","expected":"the name of a column alone","help":"GeoParquet takes columns at the root alone."}]}"#);
 /// ```
 pub fn json_line(
     alloc: Global,
@@ -81,60 +89,66 @@ pub fn json_line(
     ensures one_line { IfOk result (λ text. All (λ b. b ≢ 10) (string_bytes text)) }
 {
     let geometry = said.finding.geometry();
+    let facts = facts_in(geometry, &said.facts);
     let type_word = type_word(alloc, &said.column, geometry)?;
     let mut out = Writer::new(Vec::with_capacity(alloc, LINE_ROOM)?);
     out.begin_object()?;
-    put_text(&mut out, "column", said.column.name.as_str())?;
-    put_crs(&mut out, scratch, geometry)?;
-    put_names(&mut out, geometry, &said.column, file)?;
-    put_found(alloc, &mut out, index, said, type_word.as_str())?;
+    put_said(&mut out, scratch, &said.column, facts)?;
+    put_names(&mut out, &said.column, file)?;
+    put_found(alloc, &mut out, index, said, type_word.as_str(), facts)?;
     out.end_object()?;
     Ok(text_of(out))
 }
 
-/// Writes the member of the CRS, if the geometries have one.
-fn put_crs(
-    out: &mut Writer,
-    scratch: &mut Scratch,
-    geometry: Option<&Geometry>,
-) -> Result<(), AllocError>
-    ensures { OnOk result (AddsMembers (member_if (codes "crs") (crs_of (option_map (λ g. g.now) geometry.entry))) out.old out.new) }
+/// Returns the facts of geometries, and of no other column.
+fn facts_in<'f>(geometry: Option<&Geometry>, facts: &'f ColumnFacts) -> Option<&'f ColumnFacts>
+    ensures { option_map (λ f. facts_view f.now) result ≡ facts_in (option_map (λ g. g.now) geometry.entry) (facts_view facts.now) }
 {
-    let Some(crs) = crs_of(geometry) else {
-        return Ok(());
-    };
-    out.key("crs")?;
-    crs.put(scratch, out)
+    match geometry {
+        Some(_) => Some(facts),
+        None => None,
+    }
 }
 
-/// Writes what geometries are like, and the names of the extension and the file: those that there are.
-fn put_names(
+/// Writes the name of a column, its CRS and its edges: those that there are.
+fn put_said(
     out: &mut Writer,
-    geometry: Option<&Geometry>,
+    scratch: &mut Scratch,
     column: &SchemaColumn,
-    file: Option<&str>,
+    facts: Option<&ColumnFacts>,
 ) -> Result<(), AllocError>
-    ensures { OnOk result (AddsMembers (names_of (text_of file.entry) (column_tree column.now) (option_map (λ g. g.now) geometry.entry)) out.old out.new) }
+    ensures { OnOk result (AddsMembers (said_of (column_tree column.now) (option_map (λ f. facts_view f.now) facts.entry)) out.old out.new) }
 {
-    put_text_if(out, "crs_type", crs_type_of(geometry))?;
-    put_text_if(out, "edges", edges_of(geometry))?;
+    put_text(out, "column", column.name.as_str())?;
+    put_crs(out, scratch, facts)?;
+    put_edges(out, facts)
+}
+
+/// Writes the names of the extension and the file: those that there are.
+fn put_names(out: &mut Writer, column: &SchemaColumn, file: Option<&str>) -> Result<(), AllocError>
+    ensures { OnOk result (AddsMembers (names_of (text_of file.entry) (column_tree column.now)) out.old out.new) }
+{
     put_text_if(out, "extension", column.extension_type_name())?;
     put_text_if(out, "file", file)
 }
 
-/// Writes the place of a column and what is found of it, with the word of its type.
+/// Writes the place of a column and what is found of it, with the word of its type and what its
+/// sources say.
 fn put_found(
     alloc: Global,
     out: &mut Writer,
     index: usize,
     said: &ColumnReport,
     word: &str,
+    facts: Option<&ColumnFacts>,
 ) -> Result<(), AllocError>
-    ensures { OnOk result (AddsMembers (found_of index said.now.finding word.now said.now.findings.items) out.old out.new) }
+    ensures { OnOk result (AddsMembers (found_of index said.now.finding word.now (option_map (λ f. facts_view f.now) facts.entry) said.now.findings.items) out.old out.new) }
 {
     put_number(out, "index", index as u64)?;
     put_reasons(out, &said.finding)?;
     put_text(out, "state", state_word(&said.finding))?;
     put_text(out, "type", word)?;
+    put_text_if(out, "type_from", encoding_word(facts))?;
+    put_verdicts(out, facts)?;
     put_findings(alloc, out, said.findings.as_slice())
 }

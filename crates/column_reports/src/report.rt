@@ -1,6 +1,7 @@
 //! What is said of a column, as one value.
 ghost use Rattle.std.specs.Prelude.{IfOk};
 ghost use Rattle.arrow_columns.specs.Column.{column_tree};
+ghost use Rattle.geoparquet.specs.Facts.{facts_alone, facts_view};
 ghost use Rattle.column_reports.specs.Columns.{IsColumnReport};
 ghost use Rattle.column_reports.specs.Weights.{plain, weighing};
 
@@ -9,6 +10,7 @@ use crate::weighed::{Weighed, weigh};
 use crate::weights::Weights;
 use arrow_columns::SchemaColumn;
 use column_check::{inspect_column, warnings};
+use geoparquet::{ColumnFacts, field_facts};
 use json::Scratch;
 use std::alloc::{AllocError, Global};
 
@@ -29,12 +31,15 @@ pub struct ColumnReport {
     pub column: SchemaColumn,
     /// What is said of it, as `inspect_column` of `column_check` answers it.
     pub finding: column_check::Finding,
+    /// What counts of its CRS, its edges and its encoding, and which source says it.
+    pub facts: ColumnFacts,
     /// What is found of it and shown: of what is doubtful, as `warnings` of `column_check` answers it.
     pub findings: Vec<Weighed<'static>>,
 }
 
-/// Returns a column with what is said of it and what is doubtful of it. The scratch buffer is kept by
-/// the caller from column to column. Errs only when out of memory.
+/// Returns a column with what is said of it and what is doubtful of it, of a file that has nothing
+/// else to say of it: the facts are those that its field says. The scratch buffer is kept by the caller
+/// from column to column. Errs only when out of memory.
 ///
 /// ```rust
 /// let column = SchemaColumn {
@@ -54,7 +59,7 @@ pub fn report_column(
     column: SchemaColumn,
     options: Options,
 ) -> Result<ColumnReport, AllocError>
-    ensures { IfOk result (IsColumnReport options.infer (plain options.notes) (column_tree column)) }
+    ensures { IfOk result (IsColumnReport options.infer (plain options.notes) (column_tree column) (facts_alone (column_tree column))) }
 {
     let weights = Weights::new(alloc, options.notes);
     weighed_column(alloc, scratch, column, options.infer, &weights)
@@ -70,7 +75,23 @@ pub fn weighed_column(
     infer: bool,
     weights: &Weights,
 ) -> Result<ColumnReport, AllocError>
-    ensures { IfOk result (IsColumnReport infer (weighing weights.now) (column_tree column)) }
+    ensures { IfOk result (IsColumnReport infer (weighing weights.now) (column_tree column) (facts_alone (column_tree column))) }
+{
+    let facts = field_facts(alloc, &column)?;
+    column_with(alloc, scratch, column, facts, infer, weights)
+}
+
+/// Returns a column of those facts with what is said of it and what is doubtful of it, as it counts
+/// by what is asked of findings. Errs only when out of memory.
+pub(crate) fn column_with(
+    alloc: Global,
+    scratch: &mut Scratch,
+    column: SchemaColumn,
+    facts: ColumnFacts,
+    infer: bool,
+    weights: &Weights,
+) -> Result<ColumnReport, AllocError>
+    ensures { IfOk result (IsColumnReport infer (weighing weights.now) (column_tree column) (facts_view facts)) }
 {
     let finding = inspect_column(alloc, scratch, &column, infer)?;
     let warnings = warnings(alloc, &column, &finding, true)?;
@@ -78,6 +99,7 @@ pub fn weighed_column(
     Ok(ColumnReport {
         column,
         finding,
+        facts,
         findings,
     })
 }

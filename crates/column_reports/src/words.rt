@@ -1,15 +1,12 @@
 //! The words of a report.
 ghost use Rattle.std.specs.Prelude.{◌≡◌, IfOk, option_map, string_bytes};
-ghost use Rattle.arrow_values.specs.Texts.{text_of};
 ghost use Rattle.arrow_columns.specs.Column.{column_tree};
-ghost use Rattle.column_reports.specs.Report.{state_word, kind_text, edges_word, type_word, crs_of, crs_type_of, edges_of};
+ghost use Rattle.column_reports.specs.Report.{state_word, kind_text, type_word};
 
 use arrow_columns::SchemaColumn;
 use column_check::{Finding, Geometry};
 use geoarrow_layout::{Kind, coord_type_word, dimension_word, kind_word};
-use geoarrow_meta::Edges;
 use std::alloc::{AllocError, Global};
-use value_tokens::JsonText;
 
 /// The word of a state.
 pub(crate) fn state_word(finding: &Finding) -> &'static str
@@ -36,16 +33,6 @@ fn kind_text(alloc: Global, kind: Kind) -> Result<String, AllocError>
     Ok(text)
 }
 
-/// The word of edges.
-fn edges_word(edges: Option<Edges>) -> &'static str
-    ensures { result.now ≡ edges_word edges }
-{
-    match edges {
-        Some(edges) => edges.as_text(),
-        None => "planar",
-    }
-}
-
 /// Returns the type of a column, as the report has it (`docs/FORMAT.md`, 2.5): of geometries, which
 /// `Finding::geometry` finds, their kind, coordinate type and dimension; of any other column its
 /// type in Arrow's usual notation. Errs only when out of memory.
@@ -59,32 +46,5 @@ pub fn type_word(
     match geometry {
         Some(geometry) => kind_text(alloc, geometry.kind),
         None => column.data_type.notation(alloc),
-    }
-}
-
-/// The CRS as it is written, if the geometries have one.
-pub(crate) fn crs_of(geometry: Option<&Geometry>) -> Option<&JsonText>
-    ensures { option_map (λ crs. crs.now) result ≡ crs_of (option_map (λ g. g.now) geometry.entry) }
-{
-    geometry?.metadata.crs.as_ref()
-}
-
-/// The word of a CRS type, if the geometries have one.
-pub(crate) fn crs_type_of(geometry: Option<&Geometry>) -> Option<&'static str>
-    ensures { text_of result ≡ crs_type_of (option_map (λ g. g.now) geometry.entry) }
-{
-    match geometry?.metadata.crs_type {
-        Some(crs_type) => Some(crs_type.as_text()),
-        None => None,
-    }
-}
-
-/// The word of the edges of geometries.
-pub(crate) fn edges_of(geometry: Option<&Geometry>) -> Option<&'static str>
-    ensures { text_of result ≡ edges_of (option_map (λ g. g.now) geometry.entry) }
-{
-    match geometry {
-        Some(geometry) => Some(edges_word(geometry.metadata.edges)),
-        None => None,
     }
 }

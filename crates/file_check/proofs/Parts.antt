@@ -3,26 +3,27 @@ use Rattle.std.proofs.Common.{◌≡◌, ℕ, ◌+◌, ◌<◌, ◌≤◌, List,
 use Rattle.std.proofs.lemmas.List.{at_drop_more, drop_all}
 use Rattle.std.specs.Prelude.{Option, None, Some}
 use Rattle.arrow_values.specs.Tree.{Text}
-use Rattle.column_check.specs.declared.finding.Geometry.{Geometry as GeometryColumn}
+use Rattle.geoarrow_layout.specs.declared.native_kinds.Kind.{Kind}
+use Rattle.geoparquet.specs.Facts.{FactsOf}
 use Rattle.file_check.specs.Wants.{Meets, unmet, IsUnmet}
 
 abbrev pub texts : List (Bor (List ℕ)) → List Text
 texts parts = map (λ (p : Bor (List ℕ)). p.now) parts
 
 -- what is said of the parts that are left is said of all
-abbrev pub AllMetTo : Text → GeometryColumn → List (Bor (List ℕ)) → ℕ → Type 0
-AllMetTo name g parts i = (said : Option Text) → IsUnmet name g (texts (drop i parts)) said → IsUnmet name g (texts parts) said
+abbrev pub AllMetTo : Text → Kind → FactsOf → List (Bor (List ℕ)) → ℕ → Type 0
+AllMetTo name k fs parts i = (said : Option Text) → IsUnmet name k fs (texts (drop i parts)) said → IsUnmet name k fs (texts parts) said
 
-module _ (name : Text) (g : GeometryColumn) (parts : List (Bor (List ℕ))) (i : ℕ) (met : AllMetTo name g parts i) where
+module _ (name : Text) (k : Kind) (fs : FactsOf) (parts : List (Bor (List ℕ))) (i : ℕ) (met : AllMetTo name k fs parts i) where
   module _ (none : Bor (List ℕ)) (lt : i < length parts) where
     here : texts (drop i parts) ≡ (get_or parts i none).now ∷ texts (drop (i + 1) parts)
     here = at_drop_more texts parts i none lt
 
-    pub goes_on : Meets g (get_or parts i none).now → AllMetTo name g parts (i + 1)
-    goes_on meets said rest = met said (subst (λ ps. IsUnmet name g ps said) (sym here) (inl (meets, rest)))
+    pub goes_on : Meets k fs (get_or parts i none).now → AllMetTo name k fs parts (i + 1)
+    goes_on meets said rest = met said (subst (λ ps. IsUnmet name k fs ps said) (sym here) (inl (meets, rest)))
 
-    pub stops : (Meets g (get_or parts i none).now → ⊥) → (text : Text) → text ≡ unmet name g (get_or parts i none).now → IsUnmet name g (texts parts) (Some text)
-    stops fails text is = met (Some text) (subst (λ ps. IsUnmet name g ps (Some text)) (sym here) (inr (fails, ap Some is)))
+    pub stops : (Meets k fs (get_or parts i none).now → ⊥) → (text : Text) → text ≡ unmet name k fs (get_or parts i none).now → IsUnmet name k fs (texts parts) (Some text)
+    stops fails text is = met (Some text) (subst (λ ps. IsUnmet name k fs ps (Some text)) (sym here) (inr (fails, ap Some is)))
 
-  pub ends : length parts ≤ i → IsUnmet name g (texts parts) None
-  ends past = met None (subst (λ ps. IsUnmet name g (texts ps) None) (sym (drop_all i parts past)) refl)
+  pub ends : length parts ≤ i → IsUnmet name k fs (texts parts) None
+  ends past = met None (subst (λ ps. IsUnmet name k fs (texts ps) None) (sym (drop_all i parts past)) refl)

@@ -1,10 +1,11 @@
 -- A CRS for people.
-use Rattle.std.specs.Prelude.{[], ◌++◌, codes, Option, None, Some, option_and_then}
+use Rattle.std.specs.Prelude.{[], ◌++◌, codes, Option, None, Some, option_map, unwrap_or}
+use Rattle.json.specs.Json.{Json}
 use Rattle.serde_json.specs.Data.{Data, string}
 use Rattle.serde_json.specs.Find.{get}
 use Rattle.serde_json.specs.Read.{of_json}
 use Rattle.arrow_values.specs.Tree.{Text}
-use Rattle.column_check.specs.declared.finding.Geometry.{Geometry as GeometryColumn}
+use Rattle.geoparquet.specs.Facts.{FactsOf}
 use Rattle.geoparquet.specs.Values.{at, text_of_value}
 use Rattle.geoparquet.specs.Identifiers.{code_text}
 use Rattle.file_check.specs.Table.{cut}
@@ -44,7 +45,14 @@ crs_shown (Some crs) = value_shown crs (text_of_value (in_id (codes "authority")
 abbrev pub crs_name : Option Data → Text
 crs_name crs = cut (crs_shown crs)
 
--- the CRS of geometries
-abbrev pub crs_of_geometry : Option GeometryColumn → Text
-crs_of_geometry (Some g) = crs_name (option_and_then of_json g.metadata.crs)
-crs_of_geometry None = []
+-- the CRS that counts: nothing where no source says any, and `unknown` where it is not known
+abbrev pub value_name : Option Json → Text
+value_name None = codes "unknown"
+value_name (Some j) = crs_name (of_json j)
+
+abbrev pub crs_that_counts : FactsOf → Text
+crs_that_counts fs = unwrap_or (option_map (λ f. value_name f.crs) fs.crs) []
+
+-- the edges that count, which are planar where no source says any, as the cell of a table
+abbrev pub edges_that_count : FactsOf → Text
+edges_that_count fs = cut (shown (unwrap_or (option_map (λ f. f.edges) fs.edges) (codes "planar")))

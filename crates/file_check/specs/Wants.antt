@@ -8,12 +8,13 @@ use Rattle.geoarrow_layout.specs.Kinds.{coord_type_of, dimension_of}
 use Rattle.geoarrow_layout.specs.KindWords.{kind_word, coord_type_word, dimension_word}
 use Rattle.column_check.specs.States.{geometry_in}
 use Rattle.column_check.specs.declared.finding.Geometry.{Geometry as GeometryColumn}
+use Rattle.geoparquet.specs.Facts.{FactsOf, facts_view}
 use Rattle.file_check.specs.declared.asked.Want.{Want}
 use Rattle.column_reports.specs.Report.{kind_text}
 use Rattle.column_reports.specs.declared.report.ColumnReport.{ColumnReport}
 use Rattle.file_check.specs.declared.wants.Found.{Found}
 use Rattle.file_check.specs.declared.wants.Found.TheVariants.{NoColumn, Looked}
-use Rattle.file_check.specs.Crs.{crs_of_geometry}
+use Rattle.file_check.specs.Crs.{crs_that_counts, edges_that_count}
 use Rattle.file_check.specs.Shown.{shown}
 
 -- the parts of an expectation stand between commas
@@ -26,9 +27,9 @@ encoding_word (Wkb w) = codes "WKB"
 encoding_word (Wkt w) = codes "WKT"
 encoding_word k = codes "native"
 
--- a part is met by the CRS of geometries, their encoding, their kind, their coordinate type or their dimension
-abbrev pub Meets : GeometryColumn → Text → Type 0
-Meets g part = (part ≡ crs_of_geometry (Some g)) ⊎ ((part ≡ encoding_word g.kind) ⊎ ((part ≡ kind_word g.kind) ⊎ ((part ≡ coord_type_word (coord_type_of g.kind)) ⊎ (part ≡ dimension_word (dimension_of g.kind)))))
+-- a part is met by the CRS of geometries, their edges, their encoding, their kind, their coordinate type or their dimension
+abbrev pub Meets : Kind → FactsOf → Text → Type 0
+Meets k fs part = (part ≡ crs_that_counts fs) ⊎ ((part ≡ edges_that_count fs) ⊎ ((part ≡ encoding_word k) ⊎ ((part ≡ kind_word k) ⊎ ((part ≡ coord_type_word (coord_type_of k)) ⊎ (part ≡ dimension_word (dimension_of k))))))
 
 -- what is said where a column holds no geometries
 abbrev pub no_geometries : Text → Text
@@ -38,22 +39,22 @@ no_geometries name = codes "column " ++ (shown name ++ codes " holds no geometri
 abbrev pub crs_or_none : Text → Text
 crs_or_none crs = if length crs == 0 then codes "no CRS" else crs
 
-abbrev pub unmet : Text → GeometryColumn → Text → Text
-unmet name g part = codes "column " ++ (shown name ++ (codes " is not " ++ (shown part ++ (codes ": " ++ (kind_text g.kind ++ (codes ", " ++ crs_or_none (crs_of_geometry (Some g))))))))
+abbrev pub unmet : Text → Kind → FactsOf → Text → Text
+unmet name k fs part = codes "column " ++ (shown name ++ (codes " is not " ++ (shown part ++ (codes ": " ++ (kind_text k ++ (codes ", " ++ (crs_or_none (crs_that_counts fs) ++ (codes ", " ++ edges_that_count fs))))))))
 
 -- what is said of the first part that is not met
-abbrev pub IsUnmet : Text → GeometryColumn → List Text → Option Text → Type 0
-IsUnmet name g [] said = said ≡ None
-IsUnmet name g (part ∷ parts) said = (Meets g part × IsUnmet name g parts said) ⊎ ((Meets g part → ⊥) × (said ≡ Some (unmet name g part)))
+abbrev pub IsUnmet : Text → Kind → FactsOf → List Text → Option Text → Type 0
+IsUnmet name k fs [] said = said ≡ None
+IsUnmet name k fs (part ∷ parts) said = (Meets k fs part × IsUnmet name k fs parts said) ⊎ ((Meets k fs part → ⊥) × (said ≡ Some (unmet name k fs part)))
 
 -- what is said of a column of that name that is expected to hold this, if it does not
-abbrev pub IsUnmetText : Text → Option GeometryColumn → Text → Option Text → Type 0
-IsUnmetText name None want said = said ≡ Some (no_geometries name)
-IsUnmetText name (Some g) want said = IsUnmet name g (parts_of want) said
+abbrev pub IsUnmetText : Text → Option GeometryColumn → FactsOf → Text → Option Text → Type 0
+IsUnmetText name None fs want said = said ≡ Some (no_geometries name)
+IsUnmetText name (Some g) fs want said = IsUnmet name g.kind fs (parts_of want) said
 
 -- what was found of a column that was looked at
 abbrev pub IsLooked : Text → ColumnReport → Found → Type 0
-IsLooked want r (Looked said) = IsUnmetText (string_bytes r.column.name) (geometry_in r.finding) want (option_map string_bytes said)
+IsLooked want r (Looked said) = IsUnmetText (string_bytes r.column.name) (geometry_in r.finding) (facts_view r.facts) want (option_map string_bytes said)
 IsLooked want r NoColumn = ⊥
 
 -- what is found of an expectation once one more column is looked at: only the first column of the name counts; for private contracts

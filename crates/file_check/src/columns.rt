@@ -2,25 +2,27 @@
 ghost use Rattle.std.specs.Prelude.{◌≡◌, ◌++◌, [], None, Some, IfOk, OnOk, map, option_map, string_bytes};
 ghost use Rattle.std.specs.Option.{unwrap_or};
 ghost use Rattle.arrow_columns.specs.Column.{column_tree};
-ghost use Rattle.column_reports.specs.Report.{edges_of};
+ghost use Rattle.geoparquet.specs.Facts.{facts_view};
 ghost use Rattle.column_reports.specs.FindingWords.{finding_words};
 ghost use Rattle.file_check.specs.Table.{line_of, cut};
-ghost use Rattle.file_check.specs.Columns.{extension_word, held, reasons_in, row_of};
-ghost use Rattle.file_check.specs.Crs.{crs_of_geometry};
+ghost use Rattle.file_check.specs.Columns.{extension_word, facts_of, held, reasons_in, row_of};
+ghost use Rattle.file_check.specs.Crs.{crs_that_counts, edges_that_count};
 ghost use Rattle.file_check.specs.Shown.{shown};
 
 use crate::cell::cut;
-use crate::crs::crs_name;
+use crate::crs::{crs_that_counts, edges_that_count};
 use crate::table::Row;
 use crate::text::shown;
 use arrow_columns::SchemaColumn;
-use column_check::{Finding, Geometry};
+use column_check::Finding;
 use column_reports::{ColumnReport, Weighed, finding_words, reason_words, type_word};
+use geoparquet::ColumnFacts;
 use std::alloc::{AllocError, Global};
 
 /// Returns the row of a column: its name; the kind, coordinate type and dimension of geometries, or
 /// the type of another column, and `invalid` or `extension` with the extension name; the CRS and the
-/// edges of geometries; and below it the reasons and the findings (`docs/FORMAT.md`, 2.5 to 2.7).
+/// edges of geometries that count; and below it the reasons and the findings (`docs/FORMAT.md`, 2.5 to
+/// 2.7).
 /// Cells are cut by [`cut`], and control characters are shown as `?`. Errs only when out of memory.
 pub fn row_of(alloc: Global, report: &ColumnReport) -> Result<Row, AllocError>
     ensures { IfOk result (λ row. line_of row ≡ row_of report.now) }
@@ -29,8 +31,8 @@ pub fn row_of(alloc: Global, report: &ColumnReport) -> Result<Row, AllocError>
     Ok(Row {
         name: name_cell(alloc, &report.column)?,
         holds: held_cell(alloc, &report.column, finding)?,
-        crs: crs_of(alloc, finding.geometry())?,
-        edges: edges_of(alloc, finding.geometry())?,
+        crs: crs_cell(alloc, facts_of(report))?,
+        edges: edges_cell(alloc, facts_of(report))?,
         notes: notes_of(alloc, finding, report.findings.as_slice())?,
     })
 }
@@ -87,25 +89,32 @@ fn joined(alloc: Global, one: &str, other: &str) -> Result<String, AllocError>
     Ok(text)
 }
 
-/// The CRS of geometries.
-pub(crate) fn crs_of(alloc: Global, geometry: Option<&Geometry>) -> Result<String, AllocError>
-    ensures { IfOk result (λ text. string_bytes text ≡ crs_of_geometry (option_map (λ g. g.now) geometry.entry)) }
+/// The facts of geometries.
+fn facts_of(report: &ColumnReport) -> Option<&ColumnFacts>
+    ensures { option_map (λ f. facts_view f.now) result ≡ facts_of report.now }
 {
-    match geometry {
-        Some(geometry) => crs_name(alloc, geometry.metadata.crs.as_ref()),
+    match report.finding.geometry() {
+        Some(_) => Some(&report.facts),
+        None => None,
+    }
+}
+
+/// The CRS of geometries, as a cell.
+fn crs_cell(alloc: Global, facts: Option<&ColumnFacts>) -> Result<String, AllocError>
+    ensures { IfOk result (λ text. string_bytes text ≡ unwrap_or (option_map crs_that_counts (option_map (λ f. facts_view f.now) facts.entry)) []) }
+{
+    match facts {
+        Some(facts) => crs_that_counts(alloc, facts),
         None => Ok(String::new(alloc)),
     }
 }
 
-/// How the edges of geometries run, which are planar where none are named.
-fn edges_of(alloc: Global, geometry: Option<&Geometry>) -> Result<String, AllocError>
-    ensures { IfOk result (λ text. string_bytes text ≡ unwrap_or (edges_of (option_map (λ g. g.now) geometry.entry)) []) }
+/// The edges of geometries, as a cell.
+fn edges_cell(alloc: Global, facts: Option<&ColumnFacts>) -> Result<String, AllocError>
+    ensures { IfOk result (λ text. string_bytes text ≡ unwrap_or (option_map edges_that_count (option_map (λ f. facts_view f.now) facts.entry)) []) }
 {
-    match geometry {
-        Some(geometry) => match geometry.metadata.edges {
-            Some(edges) => String::from_str(alloc, edges.as_text()),
-            None => String::from_str(alloc, "planar"),
-        },
+    match facts {
+        Some(facts) => edges_that_count(alloc, facts),
         None => Ok(String::new(alloc)),
     }
 }

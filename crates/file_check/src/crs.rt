@@ -3,13 +3,14 @@ ghost use Rattle.std.specs.Prelude.{◌≡◌, ◌++◌, Some, IfOk, OnOk, codes
 ghost use Rattle.serde_json.specs.Read.{of_json};
 ghost use Rattle.serde_json.specs.View.{view};
 ghost use Rattle.arrow_values.specs.Texts.{text_of};
+ghost use Rattle.geoparquet.specs.Facts.{facts_view};
 ghost use Rattle.geoparquet.specs.Identifiers.{code_text};
 ghost use Rattle.geoparquet.specs.Values.{at};
-ghost use Rattle.file_check.specs.Crs.{in_id, code_shown, identifier_shown, name_shown, value_shown, crs_shown, crs_name};
+ghost use Rattle.file_check.specs.Crs.{in_id, code_shown, identifier_shown, name_shown, value_shown, crs_shown, crs_name, value_name, crs_that_counts, edges_that_count};
 
 use crate::cell::cut;
 use crate::text::{blanked, shown};
-use geoparquet::text_in;
+use geoparquet::{ColumnFacts, text_in};
 use serde_json::Value;
 use std::alloc::{AllocError, Global};
 use value_tokens::JsonText;
@@ -30,6 +31,37 @@ pub fn crs_name(alloc: Global, crs: Option<&JsonText>) -> Result<String, AllocEr
     let value = crs_value(alloc, crs)?;
     let shown = crs_shown(alloc, value.as_ref())?;
     cut(alloc, shown.as_str())
+}
+
+/// A CRS that is known by its name, and `unknown` where it is not.
+fn value_name(alloc: Global, crs: Option<&JsonText>) -> Result<String, AllocError>
+    ensures { IfOk result (λ name. string_bytes name ≡ value_name (option_map (λ c. c.now) crs.entry)) }
+{
+    match crs {
+        Some(crs) => crs_name(alloc, Some(crs)),
+        None => String::from_str(alloc, "unknown"),
+    }
+}
+
+/// The CRS of geometries that counts.
+pub(crate) fn crs_that_counts(alloc: Global, facts: &ColumnFacts) -> Result<String, AllocError>
+    ensures { IfOk result (λ name. string_bytes name ≡ crs_that_counts (facts_view facts.now)) }
+{
+    match &facts.crs {
+        Some(fact) => value_name(alloc, fact.crs.as_ref()),
+        None => Ok(String::new(alloc)),
+    }
+}
+
+/// The edges of geometries that count.
+pub(crate) fn edges_that_count(alloc: Global, facts: &ColumnFacts) -> Result<String, AllocError>
+    ensures { IfOk result (λ text. string_bytes text ≡ edges_that_count (facts_view facts.now)) }
+{
+    let edges = match &facts.edges {
+        Some(fact) => shown(alloc, fact.edges.as_str())?,
+        None => shown(alloc, "planar")?,
+    };
+    cut(alloc, edges.as_str())
 }
 
 /// The value of a CRS; none where a number of it is out of range.

@@ -1,16 +1,18 @@
 //! What a column is expected to hold.
 ghost use Rattle.std.specs.Prelude.{◌≡◌, ◌↔◌, ◌==◌, IfOk, OnOk, IsTrue, Some, map, option_map, string_bytes};
 ghost use Rattle.column_check.specs.States.{geometry_in};
-ghost use Rattle.file_check.specs.Crs.{crs_of_geometry};
+ghost use Rattle.geoparquet.specs.Facts.{facts_view};
+ghost use Rattle.file_check.specs.Crs.{crs_that_counts, edges_that_count};
 ghost use Rattle.file_check.specs.Wants.{parts_of, encoding_word, Meets, no_geometries, crs_or_none, unmet, IsUnmet, IsUnmetText, IsFound, is_unmet, said_of};
 
 use crate::asked::Want;
-use crate::columns::crs_of;
+use crate::crs::{crs_that_counts, edges_that_count};
 use crate::text::shown;
 use arrow_columns::SchemaColumn;
-use column_check::{Finding, Geometry};
+use column_check::Geometry;
 use column_reports::{ColumnReport, type_word};
 use geoarrow_layout::{Kind, coord_type_word, dimension_word, kind_word};
+use geoparquet::ColumnFacts;
 use std::alloc::{AllocError, Global};
 
 /// What is found of an expectation while the columns of a file are looked at, one after another.
@@ -34,7 +36,7 @@ impl Found {
         ensures { OnOk result (IsFound (string_bytes want.now.column) (string_bytes want.now.want) said.now self.old self.new) }
     {
         if matches!(self, Found::NoColumn) && said.column.name.as_str() == want.column.as_str() {
-            let unmet = unmet_text(alloc, &said.column, &said.finding, want.want.as_str())?;
+            let unmet = unmet_text(alloc, said, want.want.as_str())?;
             *self = Found::Looked(unmet);
         }
         Ok(())
@@ -72,21 +74,26 @@ impl Found {
 }
 
 /// What is said of a column that is expected to hold that, if it does not: that it holds no geometries, or the first part that is not met, and what
-/// the column holds. The parts stand between commas; each is the kind, the coordinate type, the dimension, the encoding (`native`, `WKB` or `WKT`), or
-/// the CRS by `crs_name`. Errs only when out of memory.
+/// the column holds. The parts stand between commas; each is the kind, the coordinate type, the dimension, the encoding (`native`, `WKB` or `WKT`),
+/// the CRS that counts by `crs_name`, or the edges that count. Errs only when out of memory.
 pub fn unmet_text(
     alloc: Global,
-    column: &SchemaColumn,
-    finding: &Finding,
+    report: &ColumnReport,
     want: &str,
 ) -> Result<Option<String>, AllocError>
-    ensures { IfOk result (λ said. IsUnmetText (string_bytes column.now.name) (geometry_in finding.now) want.now (option_map string_bytes said)) }
+    ensures { IfOk result (λ said. IsUnmetText (string_bytes report.now.column.name) (geometry_in report.now.finding) (facts_view report.now.facts) want.now (option_map string_bytes said)) }
 {
-    let Some(geometry) = finding.geometry() else {
-        return Ok(Some(no_geometries(alloc, column.name.as_str())?));
+    let Some(geometry) = report.finding.geometry() else {
+        return Ok(Some(no_geometries(alloc, report.column.name.as_str())?));
     };
     let parts = parts_of(alloc, want)?;
-    unmet_part(alloc, column, geometry, parts.as_slice())
+    unmet_part(
+        alloc,
+        &report.column,
+        geometry,
+        &report.facts,
+        parts.as_slice(),
+    )
 }
 
 /// That a column holds no geometries.
@@ -109,25 +116,37 @@ fn unmet_part(
     alloc: Global,
     column: &SchemaColumn,
     geometry: &Geometry,
+    facts: &ColumnFacts,
     parts: &[&str],
 ) -> Result<Option<String>, AllocError>
-    ensures { IfOk result (λ said. IsUnmet (string_bytes column.now.name) geometry.now (map (λ part. part.now) parts.entry.now) (option_map string_bytes said)) }
+    ensures { IfOk result (λ said. IsUnmet (string_bytes column.now.name) geometry.now.kind (facts_view facts.now) (map (λ part. part.now) parts.entry.now) (option_map string_bytes said)) }
 {
-    let crs = crs_of(alloc, Some(geometry))?;
+    let crs = crs_that_counts(alloc, facts)?;
+    let edges = edges_that_count(alloc, facts)?;
     for part in parts {
-        if !meets(geometry, crs.as_str(), part) {
-            return Ok(Some(unmet(alloc, column, geometry, crs.as_str(), part)?));
+        if !meets(geometry.kind, facts, crs.as_str(), edges.as_str(), part) {
+            let text = unmet(
+                alloc,
+                column,
+                geometry,
+                facts,
+                crs.as_str(),
+                edges.as_str(),
+                part,
+            )?;
+            return Ok(Some(text));
         }
     }
     Ok(None)
 }
 
-/// Whether a part is met.
-fn meets(geometry: &Geometry, crs: &str, part: &str) -> bool
-    ensures { crs.now ≡ crs_of_geometry (Some geometry.now) → IsTrue result ↔ Meets geometry.now part.now }
+/// Whether a part is met. The facts are there for the contract.
+fn meets(kind: Kind, facts: &ColumnFacts, crs: &str, edges: &str, part: &str) -> bool
+    ensures { crs.now ≡ crs_that_counts (facts_view facts.now) → edges.now ≡ edges_that_count (facts_view facts.now) → IsTrue result ↔ Meets kind (facts_view facts.now) part.now }
 {
-    let kind = geometry.kind;
+    let _facts = facts;
     part == crs
+        || part == edges
         || part == encoding_word(kind)
         || part == kind_word(kind)
         || part == coord_type_word(kind.coord_type())
@@ -150,16 +169,19 @@ fn unmet(
     alloc: Global,
     column: &SchemaColumn,
     geometry: &Geometry,
+    facts: &ColumnFacts,
     crs: &str,
+    edges: &str,
     part: &str,
 ) -> Result<String, AllocError>
-    ensures { IfOk result (λ text. crs.now ≡ crs_of_geometry (Some geometry.now) → string_bytes text ≡ unmet (string_bytes column.now.name) geometry.now part.now) }
+    ensures { IfOk result (λ text. crs.now ≡ crs_that_counts (facts_view facts.now) → edges.now ≡ edges_that_count (facts_view facts.now) → string_bytes text ≡ unmet (string_bytes column.now.name) geometry.now.kind (facts_view facts.now) part.now) }
 {
+    let _facts = facts;
     let name = shown(alloc, column.name.as_str())?;
     let part = shown(alloc, part)?;
     let held = type_word(alloc, column, Some(geometry))?;
     let crs = crs_or_none(crs);
-    format!(in alloc; "column {name} is not {part}: {held}, {crs}")
+    format!(in alloc; "column {name} is not {part}: {held}, {crs}, {edges}")
 }
 
 /// The name of a CRS, if it has one.

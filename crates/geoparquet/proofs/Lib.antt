@@ -7,3 +7,6 @@ pub mod Among
 pub mod Claims
 pub mod Counted
 pub mod Sourcing
+pub mod Utf8
+pub mod FactLists
+pub mod CountingSources

@@ -117,16 +117,20 @@ left_step true false o m e = e
 left_step false true o m e = refl
 left_step false false o m e = e
 
+pub tree_left_behind : (j : Json) (before : List ColumnTree) (c : ColumnTree) (old new : BTreeMap (Bor Text) (Bor (Value Global)))
+    → UpdatesBy (λ x y. slice_cmp nat_cmp x.now y.now) (λ k. slice_cmp nat_cmp c.name k.now) old new None
+    → ((name : Text) → value_in old name ≡ left_for j before name) → (name : Text) → value_in new name ≡ left_for j (before ++ c ∷ []) name
+tree_left_behind j before c old new taken left name =
+    ap (option_map (λ v. value_view v.now)) (btree_map_updates_str c.name old new None taken name)
+    ∙ left_step (is_some (first_of before name)) (bytes_eq c.name name) (get_by (λ k. slice_cmp nat_cmp name k.now) old) (named_in j name) (left name)
+    ∙ ap (λ b. if b then None else named_in j name) (sym (seen_behind name before c))
+
 pub left_behind : (j : Json) (before : List SchemaColumn) (c : SchemaColumn) (old new : BTreeMap (Bor Text) (Bor (Value Global)))
     → UpdatesBy (λ x y. slice_cmp nat_cmp x.now y.now) (λ k. slice_cmp nat_cmp (column_tree c).name k.now) old new None
     → ((name : Text) → value_in old name ≡ left_for j (map column_tree before) name) → (name : Text) → value_in new name ≡ left_for j (map column_tree (before ++ c ∷ [])) name
 left_behind j before c old new taken left name =
-    let key = (column_tree c).name in
-    let seen = is_some (first_of (map column_tree before) name) in
-    let all = map-append column_tree before (c ∷ []) in
-    ap (option_map (λ v. value_view v.now)) (btree_map_updates_str key old new None taken name)
-    ∙ left_step seen (bytes_eq key name) (get_by (λ k. slice_cmp nat_cmp name k.now) old) (named_in j name) (left name)
-    ∙ ap (λ b. if b then None else named_in j name) (sym (seen_behind name (map column_tree before) (column_tree c)) ∙ ap (λ cs. is_some (first_of cs name)) (sym all))
+    tree_left_behind j (map column_tree before) (column_tree c) old new taken left name
+    ∙ ap (λ cs. left_for j cs name) (sym (map-append column_tree before (c ∷ [])))
 
 -- what is left was read
 pub left_is_read : (j : Json) (before : List ColumnTree) (name : Text) (o : Option (Bor (Value Global))) → IsRead j → option_map (λ v. value_view v.now) o ≡ left_for j before name

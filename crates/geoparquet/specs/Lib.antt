@@ -24,6 +24,9 @@ pub mod Contradictions
 pub mod Malformed
 pub mod CrsClaims
 pub mod Counting
+pub mod FactSources
+pub mod Facts
+pub mod FactLaws
 pub mod BoxRules
 pub mod BoxRange
 pub mod Undeclared

@@ -240,7 +240,7 @@ pub(crate) fn element_encoding(element: Option<&ElementClaim>) -> Option<&'stati
 }
 
 /// Returns the encoding that a field says.
-fn field_encoding(
+pub(crate) fn field_encoding(
     element: Option<&ElementClaim>,
     column: Option<&SchemaColumn>,
 ) -> Option<&'static str>
@@ -257,7 +257,7 @@ fn field_encoding(
 }
 
 /// Returns the encoding that a member says, where the column has the layout of it.
-fn layout_encoding<'a>(
+pub(crate) fn layout_encoding<'a>(
     version: Version,
     column: Option<&SchemaColumn>,
     member: &Value<'a>,

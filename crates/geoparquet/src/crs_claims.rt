@@ -188,7 +188,7 @@ fn crs_under<'v, 'a>(opaque: bool, found: Option<&'v Value<'a>>) -> Option<Claim
 }
 
 /// Returns the text at a key.
-fn text_at<'a>(value: &Value<'a>, key: &str) -> Option<&'a str>
+pub(crate) fn text_at<'a>(value: &Value<'a>, key: &str) -> Option<&'a str>
     ensures { text_of result ≡ option_and_then as_str (get key.now (value_view value.now)) }
 {
     value.get(key)?.as_str()
@@ -276,7 +276,7 @@ pub(crate) fn element_crs<'v, 'a>(
 }
 
 /// Returns the value at `crs` of extension metadata.
-fn crs_at<'v, 'a>(own: Option<&'v Value<'a>>) -> Option<&'v Value<'a>>
+pub(crate) fn crs_at<'v, 'a>(own: Option<&'v Value<'a>>) -> Option<&'v Value<'a>>
     requires { IfSome own (λ v. IsReadable (value_view v.now)) }
     ensures value { option_map (λ v. value_view v.now) result ≡ crs_at (option_map (λ v. value_view v.now) own.entry) }
     ensures read { IfSome result (λ v. IsReadable (value_view v.now)) }

@@ -66,7 +66,7 @@ pub fn geo_columns(
 
 /// The members of a value by their names, the last of each name; none of a value that is no object.
 /// Errs only when out of memory.
-fn members_of<'v, 'a>(
+pub(crate) fn members_of<'v, 'a>(
     alloc: Global,
     value: Option<&'v Value<'a>>,
 ) -> Result<BTreeMap<&'v str, &'v Value<'a>>, AllocError>

@@ -2,6 +2,9 @@ mod Leaves
 mod Shapes
 mod Walks
 mod Children
+mod Fitting
+mod Found
+mod Resolving
 mod Jsons
 mod Laters
 mod Maps

@@ -4,36 +4,66 @@ use Rattle.arrow_values.specs.Tree.{Text}
 use Rattle.parquet_footer.specs.declared.code.Severity.{Severity}
 use Rattle.parquet_footer.specs.declared.code.Severity.TheVariants.{Error, Warning}
 use Rattle.parquet_columns.specs.declared.code.FileCode.{FileCode}
-use Rattle.parquet_columns.specs.declared.code.FileCode.TheVariants.{ArrowSchemaUnreadable, ArrowSchemaNames, RepeatedKey}
+use Rattle.parquet_columns.specs.declared.code.FileCode.TheVariants.{ArrowSchemaUnreadable, ArrowSchemaNames, ArrowSchemaContradicts, GeoNotInFooter, EmptyGroup, LogicalTypeInvalid, UnknownAlgorithm, CrsKeyMissing, RepeatedKey}
 use Rattle.parquet_columns.specs.declared.code.FilePart.{FilePart}
-use Rattle.parquet_columns.specs.declared.code.FilePart.TheVariants.{Footer, StoredText, StoredMessage}
+use Rattle.parquet_columns.specs.declared.code.FilePart.TheVariants.{Footer, StoredText, StoredMessage, Elements}
 
 abbrev pub code_of : FileCode → Text
 code_of ArrowSchemaUnreadable = codes "ArrowSchemaUnreadable"
 code_of ArrowSchemaNames = codes "ArrowSchemaNames"
+code_of ArrowSchemaContradicts = codes "ArrowSchemaContradicts"
+code_of GeoNotInFooter = codes "GeoNotInFooter"
+code_of EmptyGroup = codes "EmptyGroup"
+code_of LogicalTypeInvalid = codes "LogicalTypeInvalid"
+code_of UnknownAlgorithm = codes "UnknownAlgorithm"
+code_of CrsKeyMissing = codes "CrsKeyMissing"
 code_of RepeatedKey = codes "RepeatedKey"
 
 abbrev pub severity_of : FileCode → Severity
 severity_of ArrowSchemaUnreadable = Error
 severity_of ArrowSchemaNames = Warning
+severity_of ArrowSchemaContradicts = Error
+severity_of GeoNotInFooter = Warning
+severity_of EmptyGroup = Warning
+severity_of LogicalTypeInvalid = Error
+severity_of UnknownAlgorithm = Warning
+severity_of CrsKeyMissing = Error
 severity_of RepeatedKey = Warning
 
 -- when a code is found
 abbrev pub rule_of : FileCode → Text
 rule_of ArrowSchemaUnreadable = codes "the value of ARROW:schema is no base64, or no message of a schema"
 rule_of ArrowSchemaNames = codes "the columns at ARROW:schema have other names than the elements, another number or another order"
+rule_of ArrowSchemaContradicts = codes "the type of a field at ARROW:schema does not fit the element, of a column that may hold geometries"
+rule_of GeoNotInFooter = codes "geo stands in the metadata of the schema at ARROW:schema, and has no value in the footer"
+rule_of EmptyGroup = codes "a group has no children"
+rule_of LogicalTypeInvalid = codes "a logical or converted type stands on a physical type that it does not go with"
+rule_of UnknownAlgorithm = codes "the algorithm of a GEOGRAPHY has a number other than 0 to 4"
+rule_of CrsKeyMissing = codes "the CRS of a geometry type is projjson:KEY, and KEY has no value that is a JSON object"
 rule_of RepeatedKey = codes "geo or ARROW:schema stands several times with a value"
 
 -- what is expected where a code is found
 abbrev pub expected_of : FileCode → Text
 expected_of ArrowSchemaUnreadable = codes "an Arrow schema in base64"
 expected_of ArrowSchemaNames = codes "the names of the elements, in their order"
+expected_of ArrowSchemaContradicts = codes "a type that the element has"
+expected_of GeoNotInFooter = codes "geo among the keys of the footer"
+expected_of EmptyGroup = codes "children"
+expected_of LogicalTypeInvalid = codes "the physical type of that type"
+expected_of UnknownAlgorithm = codes "0 to 4, spherical, vincenty, thomas, andoyer or karney"
+expected_of CrsKeyMissing = codes "a key whose value is PROJJSON"
 expected_of RepeatedKey = codes "one value of the key"
 
 -- what helps
 abbrev pub help_of : FileCode → Text
 help_of ArrowSchemaUnreadable = codes "The columns are those of the elements; remove the key or write it anew."
 help_of ArrowSchemaNames = codes "The columns are those of the elements; remove the key or write it anew."
+help_of ArrowSchemaContradicts = codes "Readers that follow the stored schema cannot read the column; its type here is that of the element."
+help_of GeoNotInFooter = codes "Readers of GeoParquet look in the footer; it is not used here."
+help_of EmptyGroup = codes "It is a struct of no fields."
+help_of LogicalTypeInvalid = codes "Other readers refuse the file; the type is ignored here."
+help_of UnknownAlgorithm = codes "The edges are not known; they are taken as spherical."
+help_of CrsKeyMissing = codes "The text is kept as the CRS, and no reader knows it."
 help_of RepeatedKey = codes "The last counts here; other readers take the first."
 
 -- where a finding is, as reports have it
@@ -41,3 +71,4 @@ abbrev pub part_text : FilePart → Text
 part_text Footer = codes "footer"
 part_text StoredText = codes "ARROW:schema"
 part_text StoredMessage = codes "ARROW:schema"
+part_text Elements = codes "elements"

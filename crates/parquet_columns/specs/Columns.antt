@@ -19,14 +19,14 @@ use Rattle.parquet_columns.specs.Leaf.{leaf_type}
 use Rattle.parquet_columns.specs.Annotation.{annotation_of}
 use Rattle.parquet_columns.specs.Nodes.{ShapeTree, typed, NodeTree, group_shape, list_shape, map_shape, column_of}
 
--- an element is a leaf, which says how its values are stored, or a group, which has children
+-- an element is a leaf, which says how its values are stored, or a group, which says how many children it has
 abbrev pub has_children : Option ℕ → Bool
 has_children None = false
 has_children (Some n) = nat_lt 0 n
 
 abbrev pub group_at : ℕ → Option ℕ → Result Kind ElementFault
 group_at at None = breaks NoElement at
-group_at at (Some n) = if n == 0 then breaks NoElement at else Ok (Group n)
+group_at at (Some n) = Ok (Group n)
 
 abbrev pub kind_at : ℕ → Option PhysicalType → Option ℕ → Result Kind ElementFault
 kind_at at (Some physical) count = if has_children count then breaks NoElement at else Ok (Leaf physical)

@@ -19,7 +19,7 @@ use Rattle.parquet_footer.specs.declared.element.PhysicalType.TheVariants.{ByteA
 use Rattle.parquet_footer.specs.declared.element.Repetition.{Repetition}
 use Rattle.parquet_footer.specs.declared.element.Repetition.TheVariants.{Repeated}
 use Rattle.parquet_footer.specs.declared.logical.Algorithm.{Algorithm}
-use Rattle.parquet_footer.specs.declared.logical.Algorithm.TheVariants.{Spherical, Vincenty, Thomas, Andoyer, Karney}
+use Rattle.parquet_footer.specs.declared.logical.Algorithm.TheVariants.{Spherical, Vincenty, Thomas, Andoyer, Karney, Unknown}
 use Rattle.parquet_footer.specs.Element.{Element}
 use Rattle.parquet_footer.specs.Footer.{Pairing}
 use Rattle.parquet_footer.specs.Logical.{Logical, geometry, geography}
@@ -62,7 +62,7 @@ abbrev pub crs_in : List Pairing → Option Text → TypedCrs
 crs_in pairs None = text_crs (codes "OGC:CRS84") (Some AuthorityCode)
 crs_in pairs (Some s) = json_or s (coded_crs pairs s (colon_parts s))
 
--- the edges of a GEOGRAPHY: the format's default is spherical
+-- the edges of a GEOGRAPHY: the format's default is spherical, and counts where the algorithm is not known
 abbrev pub edges_of : Option Algorithm → Edges
 edges_of None = edges.Spherical
 edges_of (Some Spherical) = edges.Spherical
@@ -70,6 +70,7 @@ edges_of (Some Vincenty) = edges.Vincenty
 edges_of (Some Thomas) = edges.Thomas
 edges_of (Some Andoyer) = edges.Andoyer
 edges_of (Some Karney) = edges.Karney
+edges_of (Some (Unknown number)) = edges.Spherical
 
 -- the text of the metadata with that CRS and those edges
 abbrev pub text_with : TypedCrs → Option Edges → Text

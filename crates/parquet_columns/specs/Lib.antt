@@ -9,6 +9,11 @@ pub mod SchemaFault
 pub mod Geometry
 pub mod Says
 pub mod Keys
+pub mod Storage
+pub mod TypeNames
+pub mod Elements
+pub mod Fits
+pub mod Resolved
 pub mod Claims
 pub mod Marks
 pub mod Codes

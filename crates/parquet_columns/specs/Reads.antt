@@ -3,12 +3,14 @@ use Rattle.std.specs.Prelude.{◌≡◌, ℕ, ◌+◌, ◌-◌, ◌≤◌, ◌<�
 use Rattle.std.specs.Borrow.{Bor}
 use Rattle.std.specs.declared.vec.Vec.{Vec}
 use Rattle.std.specs.declared.alloc.Global.{Global}
-use Rattle.arrow_values.specs.Tree.{Text}
-use Rattle.arrow_values.specs.Texts.{text_of}
+use Rattle.arrow_values.specs.Tree.{Text, Metadata}
+use Rattle.arrow_values.specs.Texts.{text_of, text_at}
+use Rattle.arrow_values.specs.View.{texts_of}
 use Rattle.arrow_columns.specs.Column.{ColumnTree, column_tree}
 use Rattle.arrow_columns.specs.declared.column.SchemaColumn.{SchemaColumn}
 use Rattle.parquet_footer.specs.Spelled.{Spelled}
-use Rattle.parquet_footer.specs.Footer.{Contents, footer_at}
+use Rattle.parquet_footer.specs.Element.{Element}
+use Rattle.parquet_footer.specs.Footer.{Contents, Pairing, footer_at}
 use Rattle.parquet_footer.specs.Findings as texts
 use Rattle.parquet_footer.specs.Tail.{length_at}
 use Rattle.parquet_footer.specs.declared.fault.Fault as footers
@@ -20,7 +22,11 @@ use Rattle.parquet_columns.specs.Keys.{schema_key, value_of}
 use Rattle.parquet_columns.specs.Budget.{budget}
 use Rattle.parquet_columns.specs.Geometry.{root_children, marked_columns}
 use Rattle.parquet_columns.specs.Claims.{Claim, claim, claims, made_bytes}
-use Rattle.parquet_columns.specs.Findings.{Finding, finding, first_other, other_names, unreadable, repeated_keys}
+use Rattle.parquet_columns.specs.Findings.{Finding, finding, of_file, first_other, other_names, unreadable, geo_key, repeated_keys}
+use Rattle.parquet_columns.specs.Resolved.{resolved_from, resolved_columns, resolved_findings}
+use Rattle.parquet_columns.specs.Elements.{findings_below}
+use Rattle.parquet_columns.specs.declared.code.FileCode.TheVariants.{GeoNotInFooter}
+use Rattle.parquet_columns.specs.declared.code.FilePart.TheVariants.{StoredMessage}
 use Rattle.parquet_columns.specs.Stored.{AreStored}
 use Rattle.parquet_columns.specs.declared.stored.Stored.{Stored}
 use Rattle.parquet_columns.specs.declared.stored.Stored.TheVariants.{Schema, Unreadable}
@@ -57,28 +63,42 @@ choice r = record { columns = map column_tree r.columns.items; findings = map fi
 abbrev pub names_seen : Option (Bor Text) × Option (Bor Text) → Option Text × Option Text
 names_seen p = (text_of p.0, text_of p.1)
 
--- the columns of a stored schema, if their names are those of the elements' columns; else these
-abbrev pub by_names : Option (Option Text × Option Text) → List ColumnTree → List ColumnTree → Choice
-by_names None stored cs = record { columns = stored; findings = [] }
-by_names (Some names) stored cs = record { columns = cs; findings = other_names names ∷ [] }
+-- the columns of a stored schema, each as far as it fits its element, if their names are those of the elements' columns; else these
+abbrev pub by_names : Option (Option Text × Option Text) → List Element → List ColumnTree → List ColumnTree → Choice
+by_names None es stored cs = record { columns = resolved_columns (resolved_from 0 es cs stored); findings = resolved_findings (resolved_from 0 es cs stored) }
+by_names (Some names) es stored cs = record { columns = cs; findings = other_names names ∷ [] }
+
+-- the key geo in the metadata of a stored schema, which has no value in the footer
+abbrev pub geo_by : Option Text → Option Spelled → List Finding
+geo_by None value = []
+geo_by (Some text) None = of_file GeoNotInFooter (record { part = StoredMessage; byte = None }) None None ∷ []
+geo_by (Some text) (Some value) = []
+
+abbrev pub geo_beside : Metadata → List Pairing → List Finding
+geo_beside m pairs = geo_by (text_at geo_key m) (value_of geo_key pairs)
+
+abbrev pub and_found : Choice → List Finding → Choice
+and_found read fs = record { columns = read.columns; findings = read.findings ++ fs }
 
 -- by what is stored, beside the columns of the elements
-abbrev pub chosen : Option Stored → List ColumnTree → Choice
-chosen None cs = record { columns = cs; findings = [] }
-chosen (Some (Schema s)) cs = by_names (first_other (map column_tree s.columns.items) cs) (map column_tree s.columns.items) cs
-chosen (Some (Unreadable fault)) cs = record { columns = cs; findings = unreadable fault ∷ [] }
+abbrev pub chosen : Contents → Option Stored → List ColumnTree → Choice
+chosen c None cs = record { columns = cs; findings = [] }
+chosen c (Some (Schema s)) cs = and_found
+    (by_names (first_other (map column_tree s.columns.items) cs) (root_children c.schema) (map column_tree s.columns.items) cs)
+    (geo_beside (texts_of s.metadata.entries) c.key_value_metadata)
+chosen c (Some (Unreadable fault)) cs = record { columns = cs; findings = unreadable fault ∷ [] }
 
 -- how many bytes the extension metadata have that are made of geometry types, those that the columns are given and those beside their own
 abbrev pub made_of : Contents → List ColumnTree → ℕ
 made_of c cs = made_bytes c.key_value_metadata (root_children c.schema) cs
 
--- columns of geometry types have the extension that their elements denote, or the elements say it beside them; and what is found of repeated keys
--- comes behind
+-- columns of geometry types have the extension that their elements denote, or the elements say it beside them; and what is found of the elements
+-- and of repeated keys comes behind
 abbrev pub read_with : Contents → Choice → Read
 read_with c read = record {
   columns = marked_columns c.key_value_metadata (root_children c.schema) read.columns;
   elements = claims c.key_value_metadata (root_children c.schema) read.columns;
-  findings = read.findings ++ repeated_keys c.key_value_metadata;
+  findings = read.findings ++ findings_below c.key_value_metadata c.schema ++ repeated_keys c.key_value_metadata;
 }
 
 -- what is read of a footer of so many bytes, by the columns that are chosen, within the budget
@@ -90,7 +110,7 @@ IsReadWith n c read (Err _) = ⊥
 
 -- by what is stored
 abbrev pub IsReadBy : ℕ → Contents → List ColumnTree → Result FooterColumns SchemaError → Type 0
-IsReadBy n c cs r = (stored : Option Stored) × AreStored (value_of schema_key c.key_value_metadata) stored × IsReadWith n c (chosen stored cs) r
+IsReadBy n c cs r = (stored : Option Stored) × AreStored (value_of schema_key c.key_value_metadata) stored × IsReadWith n c (chosen c stored cs) r
 
 -- what is read of a footer of so many bytes, by the elements of its schema
 abbrev pub IsFooterRead : ℕ → Contents → Result FooterColumns SchemaError → Type 0

@@ -11,15 +11,36 @@ pub enum FileCode {
     ArrowSchemaUnreadable,
     /// The schema at `ARROW:schema` has columns of other names than the elements, more or fewer, or in another order.
     ArrowSchemaNames,
+    /// The type of a field of the schema at `ARROW:schema` does not fit the element, of a column
+    /// that may hold geometries.
+    ArrowSchemaContradicts,
+    /// The key `geo` stands in the metadata of the schema at `ARROW:schema`, and has no value in
+    /// the footer.
+    GeoNotInFooter,
+    /// A group has no children.
+    EmptyGroup,
+    /// A logical or converted type stands on a physical type that it does not go with.
+    LogicalTypeInvalid,
+    /// The algorithm of a GEOGRAPHY has a number other than 0 to 4.
+    UnknownAlgorithm,
+    /// The CRS of a geometry type is `projjson:KEY`, and the key has no value that is a JSON
+    /// object.
+    CrsKeyMissing,
     /// The key `geo` or `ARROW:schema` stands several times with a value.
     RepeatedKey,
 }
 
 impl FileCode {
     /// Each code, in the order of docs/FORMAT.md, 4.5.
-    pub const ALL: [FileCode; 3] = [
+    pub const ALL: [FileCode; 9] = [
         FileCode::ArrowSchemaUnreadable,
         FileCode::ArrowSchemaNames,
+        FileCode::ArrowSchemaContradicts,
+        FileCode::GeoNotInFooter,
+        FileCode::EmptyGroup,
+        FileCode::LogicalTypeInvalid,
+        FileCode::UnknownAlgorithm,
+        FileCode::CrsKeyMissing,
         FileCode::RepeatedKey,
     ];
 
@@ -30,6 +51,12 @@ impl FileCode {
         match self {
             Self::ArrowSchemaUnreadable => "ArrowSchemaUnreadable",
             Self::ArrowSchemaNames => "ArrowSchemaNames",
+            Self::ArrowSchemaContradicts => "ArrowSchemaContradicts",
+            Self::GeoNotInFooter => "GeoNotInFooter",
+            Self::EmptyGroup => "EmptyGroup",
+            Self::LogicalTypeInvalid => "LogicalTypeInvalid",
+            Self::UnknownAlgorithm => "UnknownAlgorithm",
+            Self::CrsKeyMissing => "CrsKeyMissing",
             Self::RepeatedKey => "RepeatedKey",
         }
     }
@@ -41,6 +68,12 @@ impl FileCode {
         match self {
             Self::ArrowSchemaUnreadable => Severity::Error,
             Self::ArrowSchemaNames => Severity::Warning,
+            Self::ArrowSchemaContradicts => Severity::Error,
+            Self::GeoNotInFooter => Severity::Warning,
+            Self::EmptyGroup => Severity::Warning,
+            Self::LogicalTypeInvalid => Severity::Error,
+            Self::UnknownAlgorithm => Severity::Warning,
+            Self::CrsKeyMissing => Severity::Error,
             Self::RepeatedKey => Severity::Warning,
         }
     }
@@ -54,6 +87,16 @@ impl FileCode {
                 "the value of ARROW:schema is no base64, or no message of a schema",
             Self::ArrowSchemaNames =>
                 "the columns at ARROW:schema have other names than the elements, another number or another order",
+            Self::ArrowSchemaContradicts =>
+                "the type of a field at ARROW:schema does not fit the element, of a column that may hold geometries",
+            Self::GeoNotInFooter =>
+                "geo stands in the metadata of the schema at ARROW:schema, and has no value in the footer",
+            Self::EmptyGroup => "a group has no children",
+            Self::LogicalTypeInvalid =>
+                "a logical or converted type stands on a physical type that it does not go with",
+            Self::UnknownAlgorithm => "the algorithm of a GEOGRAPHY has a number other than 0 to 4",
+            Self::CrsKeyMissing =>
+                "the CRS of a geometry type is projjson:KEY, and KEY has no value that is a JSON object",
             Self::RepeatedKey => "geo or ARROW:schema stands several times with a value",
         }
     }
@@ -65,6 +108,12 @@ impl FileCode {
         match self {
             Self::ArrowSchemaUnreadable => "an Arrow schema in base64",
             Self::ArrowSchemaNames => "the names of the elements, in their order",
+            Self::ArrowSchemaContradicts => "a type that the element has",
+            Self::GeoNotInFooter => "geo among the keys of the footer",
+            Self::EmptyGroup => "children",
+            Self::LogicalTypeInvalid => "the physical type of that type",
+            Self::UnknownAlgorithm => "0 to 4, spherical, vincenty, thomas, andoyer or karney",
+            Self::CrsKeyMissing => "a key whose value is PROJJSON",
             Self::RepeatedKey => "one value of the key",
         }
     }
@@ -78,6 +127,14 @@ impl FileCode {
                 "The columns are those of the elements; remove the key or write it anew.",
             Self::ArrowSchemaNames =>
                 "The columns are those of the elements; remove the key or write it anew.",
+            Self::ArrowSchemaContradicts =>
+                "Readers that follow the stored schema cannot read the column; its type here is that of the element.",
+            Self::GeoNotInFooter =>
+                "Readers of GeoParquet look in the footer; it is not used here.",
+            Self::EmptyGroup => "It is a struct of no fields.",
+            Self::LogicalTypeInvalid => "Other readers refuse the file; the type is ignored here.",
+            Self::UnknownAlgorithm => "The edges are not known; they are taken as spherical.",
+            Self::CrsKeyMissing => "The text is kept as the CRS, and no reader knows it.",
             Self::RepeatedKey => "The last counts here; other readers take the first.",
         }
     }
@@ -92,10 +149,12 @@ pub enum FilePart {
     StoredText,
     /// The message that the value of `ARROW:schema` spells in base64, whose bytes are counted.
     StoredMessage,
+    /// The elements of the schema; the bytes of the footer are counted.
+    Elements,
 }
 
 impl FilePart {
-    /// Returns the part, as reports have it: `footer` or `ARROW:schema`.
+    /// Returns the part, as reports have it: `footer`, `ARROW:schema` or `elements`.
     pub fn text(self) -> &'static str
         ensures { result.now ≡ part_text self }
     {
@@ -103,6 +162,7 @@ impl FilePart {
             Self::Footer => "footer",
             Self::StoredText => "ARROW:schema",
             Self::StoredMessage => "ARROW:schema",
+            Self::Elements => "elements",
         }
     }
 }

@@ -45,7 +45,7 @@ fn kind_at(
 {
     match (physical, count) {
         (Some(physical), None | Some(0)) => Ok(Kind::Leaf(physical)),
-        (None, Some(count)) if 0 < count => Ok(Kind::Group(count)),
+        (None, Some(count)) => Ok(Kind::Group(count)),
         _ => Err(ElementFault::new(SchemaRule::Element, at)),
     }
 }

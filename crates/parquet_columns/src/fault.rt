@@ -12,7 +12,8 @@ pub enum SchemaRule {
     Root,
     /// The children of the root, with all that is below them, are the elements behind it.
     Children,
-    /// An element below the root is a leaf, which says how its values are stored, or a group, which has children.
+    /// An element below the root is a leaf, which says how its values are stored and has no
+    /// children, or a group, which says how many it has.
     Element,
     /// An element below the root has a repetition.
     Repetition,

@@ -50,7 +50,8 @@ pub struct FileColumns<'a> {
     pub columns: Vec<SchemaColumn>,
     /// What the elements say beside the columns, one claim for each, in their order (`docs/FORMAT.md`, 4.6).
     pub elements: Vec<ElementClaim>,
-    /// What is found of the schema at `ARROW:schema` and of keys that stand several times (`docs/FORMAT.md`, 4.5).
+    /// What is found of the schema at `ARROW:schema`, of the elements, and of keys that stand
+    /// several times (`docs/FORMAT.md`, 4.5).
     pub findings: Vec<FileFinding>,
     /// What is found of names, keys and values that are not UTF-8 (`docs/FORMAT.md`, 4.3).
     pub texts: Vec<FooterFinding<'a>>,

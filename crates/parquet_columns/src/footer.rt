@@ -1,26 +1,34 @@
 //! The columns of a footer, and what is found in it.
-ghost use Rattle.std.specs.Prelude.{◌≡◌, IfOk, Option, Some, List, map, option_map};
+ghost use Rattle.std.specs.Prelude.{◌≡◌, ◌++◌, IfOk, OnOk, Option, Some, List, map, option_map};
+ghost use Rattle.arrow_values.specs.View.{texts_of};
 ghost use Rattle.arrow_columns.specs.Column.{column_tree};
 ghost use Rattle.parquet_footer.specs.Element.{element};
-ghost use Rattle.parquet_footer.specs.Footer.{contents};
+ghost use Rattle.parquet_footer.specs.Footer.{contents, pairing};
 ghost use Rattle.parquet_columns.specs.Columns.{columns_of};
 ghost use Rattle.parquet_columns.specs.Findings.{finding, first_other, other_names};
-ghost use Rattle.parquet_columns.specs.Reads.{IsBuilt, names_seen, choice, by_names, chosen, IsReadWith, IsFooterRead};
+ghost use Rattle.parquet_columns.specs.declared.stored.Stored.TheVariants as holds;
+ghost use Rattle.parquet_columns.specs.Reads.{IsBuilt, names_seen, choice, by_names, geo_beside, chosen, IsReadWith, IsFooterRead};
 
 use crate::budget::report_budget;
 use crate::claim::ElementClaim;
 use crate::code::{FileCode, FilePart};
 use crate::columns::columns_of;
+use crate::elements::add_elements;
 use crate::error::SchemaError;
 use crate::fault::ColumnsError;
 use crate::finding::{FileFinding, FilePlace};
-use crate::marks::{Marks, marked_columns};
+use crate::keys::{GEO_KEY, value_of};
+use crate::marks::{Marks, marked_columns, root_children};
 use crate::repeated::add_repeated_keys;
+use crate::resolved::resolved;
 use crate::stored::{Stored, stored_in, unreadable};
 use crate::values::KeyValues;
 use arrow_columns::SchemaColumn;
-use parquet_footer::Footer;
+use arrow_ipc::Schema;
+use arrow_values::text_at;
+use parquet_footer::{Footer, SchemaElement};
 use std::alloc::{AllocError, Global};
+use std::collections::BTreeMap;
 
 /// What is read of a footer.
 #[derive(Debug, Drop)]
@@ -29,15 +37,16 @@ pub struct FooterColumns {
     pub columns: Vec<SchemaColumn>,
     /// What the elements say beside the columns, one claim for each, in their order (`docs/FORMAT.md`, 4.6).
     pub elements: Vec<ElementClaim>,
-    /// What is found: of the schema at `ARROW:schema`, and of keys that stand several times (`docs/FORMAT.md`, 4.5).
+    /// What is found: of the schema at `ARROW:schema`, of the elements, and of keys that stand
+    /// several times (`docs/FORMAT.md`, 4.5).
     pub findings: Vec<FileFinding>,
 }
 
 /// Columns before the geometry types of their elements are looked at, and what is found.
 #[derive(Drop)]
-struct Unmarked {
-    columns: Vec<SchemaColumn>,
-    findings: Vec<FileFinding>,
+pub(crate) struct Unmarked {
+    pub columns: Vec<SchemaColumn>,
+    pub findings: Vec<FileFinding>,
 }
 
 /// Two names, of which one may be absent.
@@ -85,26 +94,67 @@ fn other_names(alloc: Global, names: Names<'_>) -> Result<FileFinding, AllocErro
     FileFinding::new(alloc, FileCode::ArrowSchemaNames, place, names.0, names.1)
 }
 
-/// The columns of a stored schema, if their names are those of the elements' columns; else these. Errs only when out of memory.
+/// The columns of a stored schema, if their names are those of the elements' columns, each as far
+/// as it fits its element; else these. Errs only when out of memory.
 fn by_names(
     alloc: Global,
+    children: &[SchemaElement<'_>],
     stored: Vec<SchemaColumn>,
     columns: Vec<SchemaColumn>,
 ) -> Result<Unmarked, AllocError>
-    ensures { IfOk result (λ read. choice read
-        ≡ by_names (first_other (map column_tree stored.items) (map column_tree columns.items)) (map column_tree stored.items) (map column_tree columns.items)) }
+    ensures { IfOk result (λ read. choice read ≡ by_names (first_other (map column_tree stored.items) (map column_tree columns.items))
+        (map element children.now) (map column_tree stored.items) (map column_tree columns.items)) }
 {
     let found = match first_other(stored.as_slice(), columns.as_slice()) {
         Some(names) => other_names(alloc, names)?,
-        None => {
-            let findings = Vec::new(alloc);
-            return Ok(Unmarked {
-                columns: stored,
-                findings,
-            });
-        }
+        None => return resolved(alloc, children, columns.as_slice(), stored),
     };
     let findings = vec![in alloc; found]?;
+    Ok(Unmarked { columns, findings })
+}
+
+/// Adds what is found of a key `geo` in the metadata of a stored schema. Errs only when out of
+/// memory.
+fn add_geo_beside(
+    alloc: Global,
+    findings: &mut Vec<FileFinding>,
+    footer: &Footer<'_>,
+    metadata: &BTreeMap<String, String>,
+) -> Result<(), AllocError>
+    ensures { OnOk result (map finding findings.new.items
+        ≡ map finding findings.old.items ++ geo_beside (texts_of metadata.now.entries) (map pairing footer.now.key_value_metadata.items)) }
+{
+    if text_at(metadata, GEO_KEY).is_some() && value_of(footer, GEO_KEY).is_none() {
+        let place = FilePlace {
+            part: FilePart::StoredMessage,
+            byte: None,
+        };
+        let found = FileFinding::new(alloc, FileCode::GeoNotInFooter, place, None, None)?;
+        findings.push(found)?;
+    }
+    Ok(())
+}
+
+/// The columns of a footer before its geometry types are looked at, by a stored schema and by the
+/// elements; and what is found of the former. Errs only when out of memory.
+fn of_schema(
+    alloc: Global,
+    footer: &Footer<'_>,
+    schema: Schema,
+    columns: Vec<SchemaColumn>,
+) -> Result<Unmarked, AllocError>
+    ensures { IfOk result (λ read. choice read ≡ chosen (contents footer.now) (Some (holds.Schema schema)) (map column_tree columns.items)) }
+{
+    let Schema {
+        columns: stored,
+        metadata,
+        ..
+    } = schema;
+    let children = root_children(alloc, footer.schema.as_slice())?;
+    let read = by_names(alloc, children.as_slice(), stored, columns)?;
+    let Unmarked { columns, findings } = read;
+    let mut findings = findings;
+    add_geo_beside(alloc, &mut findings, footer, &metadata)?;
     Ok(Unmarked { columns, findings })
 }
 
@@ -112,13 +162,14 @@ fn by_names(
 /// former. Errs only when out of memory.
 fn chosen(
     alloc: Global,
+    footer: &Footer<'_>,
     stored: Option<Stored>,
     columns: Vec<SchemaColumn>,
 ) -> Result<Unmarked, AllocError>
-    ensures { IfOk result (λ read. choice read ≡ chosen stored (map column_tree columns.items)) }
+    ensures { IfOk result (λ read. choice read ≡ chosen (contents footer.now) stored (map column_tree columns.items)) }
 {
     match stored {
-        Some(Stored::Schema(schema)) => by_names(alloc, schema.columns, columns),
+        Some(Stored::Schema(schema)) => of_schema(alloc, footer, schema, columns),
         Some(Stored::Unreadable(fault)) => {
             let found = unreadable(alloc, fault)?;
             let findings = vec![in alloc; found]?;
@@ -145,8 +196,9 @@ fn finished(
     let mut values = KeyValues::new(alloc, footer.key_value_metadata.as_slice())?;
     let most = report_budget(bytes);
     let elements = footer.schema.as_slice();
-    let marked = marked_columns(alloc, &mut values, elements, columns, most)?;
+    add_elements(alloc, &mut findings, &mut values, elements)?;
     add_repeated_keys(alloc, &mut findings, footer)?;
+    let marked = marked_columns(alloc, &mut values, elements, columns, most)?;
     let Marks { columns, elements } = marked;
     Ok(FooterColumns {
         columns,
@@ -158,11 +210,12 @@ fn finished(
 /// Reads the columns of the footer of a Parquet file (`docs/FORMAT.md`, 4.5), which has so many
 /// bytes: where its key-value metadata have a value of the key `ARROW:schema`, those of the schema
 /// that it holds, an encapsulated IPC message in base64, if they have the names of the columns of
-/// the elements, in their order; otherwise those of the elements, as `columns_of` of
-/// `parquet_columns` makes them. A column without an extension name whose element is of the type
-/// GEOMETRY or GEOGRAPHY has the extension `geoarrow.wkb`, with the CRS and the edges of that type
-/// (`docs/FORMAT.md`, 4.6). A value that holds no schema, or one of other names, is among the findings, as is a key that
-/// stands several times.
+/// the elements, in their order, but for columns that may hold geometries and whose types do not
+/// fit their elements; otherwise those of the elements, as `columns_of` of `parquet_columns` makes
+/// them. A column without an extension name whose element is of the type GEOMETRY or GEOGRAPHY has
+/// the extension `geoarrow.wkb`, with the CRS and the edges of that type (`docs/FORMAT.md`, 4.6).
+/// What is found of the stored schema, of the elements and of keys that stand several times is
+/// among the findings.
 ///
 /// Errs with `Elements` where the elements break a rule, with the rule and the element; with `Budget` where
 /// the extension metadata that geometry types give the columns have together more bytes than
@@ -176,6 +229,6 @@ pub fn columns_of_footer(
 {
     let columns = columns_of_elements(alloc, footer)?;
     let stored = stored_in(alloc, footer)?;
-    let read = chosen(alloc, stored, columns)?;
+    let read = chosen(alloc, footer, stored, columns)?;
     finished(alloc, footer, read, bytes)
 }

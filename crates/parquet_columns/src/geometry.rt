@@ -42,7 +42,7 @@ fn text_crs(text: &str, crs_type: Option<CrsType>) -> NamedCrs<'_>
 }
 
 /// What stands before the first colon of a text, and behind it.
-fn colon_parts(text: &str) -> Option<(&str, &str)>
+pub(crate) fn colon_parts(text: &str) -> Option<(&str, &str)>
     ensures { option_map (λ p. (p.0.now, p.1.now)) result ≡ colon_parts text.now }
 {
     text.split_once(':')
@@ -83,7 +83,7 @@ fn edges_of(algorithm: Option<Algorithm>) -> Edges
     ensures { result ≡ edges_of algorithm }
 {
     match algorithm {
-        None | Some(Algorithm::Spherical) => Edges::Spherical,
+        None | Some(Algorithm::Spherical | Algorithm::Unknown(_)) => Edges::Spherical,
         Some(Algorithm::Vincenty) => Edges::Vincenty,
         Some(Algorithm::Thomas) => Edges::Thomas,
         Some(Algorithm::Andoyer) => Edges::Andoyer,

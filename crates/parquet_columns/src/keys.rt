@@ -9,6 +9,9 @@ use parquet_footer::{Footer, FooterText, KeyValue};
 /// The key under which Arrow's libraries store the schema of the columns that they wrote.
 pub const ARROW_SCHEMA_KEY: &str = "ARROW:schema";
 
+/// The key under which the metadata of GeoParquet stand.
+pub(crate) const GEO_KEY: &str = "geo";
+
 /// The later of two values, where there are some.
 fn later<'a>(
     value: Option<FooterText<'a>>,

@@ -26,7 +26,7 @@ pub(crate) struct Marks {
 }
 
 /// The elements of a schema that are children of its root.
-fn root_children<'a>(
+pub(crate) fn root_children<'a>(
     alloc: Global,
     elements: &[SchemaElement<'a>],
 ) -> Result<Vec<SchemaElement<'a>>, AllocError>
@@ -60,7 +60,7 @@ fn children_in<'a>(
 }
 
 /// How many children an element has.
-fn count_of(found: &SchemaElement<'_>) -> u128
+pub(crate) fn count_of(found: &SchemaElement<'_>) -> u128
     ensures count { result ≡ count_of (element found.now) }
     ensures small { result < 2 ^ 32 }
 {
@@ -106,7 +106,10 @@ fn marked_by(
 }
 
 /// The child of the root at a place.
-fn child_at<'c, 'a>(children: &'c [SchemaElement<'a>], at: usize) -> Option<&'c SchemaElement<'a>>
+pub(crate) fn child_at<'c, 'a>(
+    children: &'c [SchemaElement<'a>],
+    at: usize,
+) -> Option<&'c SchemaElement<'a>>
     ensures { option_map (λ e. element e.now) result ≡ slice_get (map element children.now) at }
 {
     children.get(at)

@@ -6,12 +6,9 @@ ghost use Rattle.parquet_columns.specs.Findings.{finding, values_in, values_of, 
 
 use crate::code::{FileCode, FilePart};
 use crate::finding::{FileFinding, FilePlace};
-use crate::keys::{ARROW_SCHEMA_KEY, value_of, value_under};
+use crate::keys::{ARROW_SCHEMA_KEY, GEO_KEY, value_of, value_under};
 use parquet_footer::{Footer, FooterText, KeyValue};
 use std::alloc::{AllocError, Global};
-
-/// The key under which the metadata of GeoParquet stand.
-const GEO_KEY: &str = "geo";
 
 /// Adds the value of a pair, if the key is its own and it has one. Errs only when out of memory.
 fn add_value<'a>(

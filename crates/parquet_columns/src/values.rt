@@ -77,6 +77,24 @@ impl<'f, 'a> KeyValues<'f, 'a> {
         let json = judged_at(&self.judged, key);
         text_by(alloc, text, json, edges)
     }
+
+    /// Returns whether the value of a key is PROJJSON. Errs only when out of memory.
+    pub(crate) fn holds_json(&mut self, alloc: Global, key: &'a str) -> Result<bool, AllocError>
+        ensures is { IfOk result (λ is. is ≡ is_some (compact_of (text_at key.now self.old))) }
+        ensures same { self.new ≡ self.old }
+    {
+        let value = value_in(&self.last, key);
+        judge(alloc, &mut self.judged, key, value)?;
+        let json = judged_at(&self.judged, key);
+        Ok(is_there(json))
+    }
+}
+
+/// Whether there is a text.
+fn is_there(text: Option<&str>) -> bool
+    ensures { result ≡ is_some (text_of text.entry) }
+{
+    text.is_some()
 }
 
 /// The text that bytes are, if they are UTF-8.

@@ -5,7 +5,7 @@ use Rattle.parquet_footer.specs.Fault.{needed, ◌>>=◌}
 use Rattle.parquet_footer.specs.Wire.{byte_at, number_at, number_past, count_at, bytes_past, binary_at, text_at, list_at, map_at, field_at}
 use Rattle.parquet_footer.specs.Fields.{Spot, noted, noting, pair_at, value_of, number_in, named, name_in, text_in, flag_in, structs_in}
 use Rattle.parquet_footer.specs.Spelled.{spelled_at, spelled_in}
-use Rattle.parquet_footer.specs.Logical.{algorithms, union_at, unit_of, unit_in, clock_at, width_in, integer_at, geometry_at, geography_at, member_at, logical_at, logical_in}
+use Rattle.parquet_footer.specs.Logical.{algorithm_in, union_at, unit_of, unit_in, clock_at, width_in, integer_at, geometry_at, geography_at, member_at, logical_at, logical_in}
 use Rattle.parquet_footer.specs.Element.{physical_types, repetitions, storage_at, numbers_at, element_at}
 use Rattle.parquet_footer.specs.Footer.{all_at, key_value_at, footer_at}
 use Rattle.parquet_footer.specs.Skip.{fields_at, items_past, plain_past, over, struct_past, pair_past, nested_past, value_past}
@@ -223,11 +223,15 @@ module _ (n : ℕ) (bytes : List ℕ) (h : length bytes ≤ n) where
   geometry_within = step Pair _ n _ _ (pair_within n 1 1 bytes h) (λ found k.
       step (λ x. Unit {0}) _ n _ _ (text_in_within n found.0.0 k.0.0) (λ crs _. reads _ n _ tt))
 
+  algorithm_within : (p : Option Spot) → Found n p → Within (λ x. Unit {0}) n (algorithm_in p)
+  unfolding algorithm_in
+  algorithm_within p f = step (λ x. Unit {0}) _ n _ _ (number_in_within n p f) (λ number _. reads _ n _ tt)
+
   pub geography_within : Within (λ x. Unit {0}) n (geography_at bytes)
   unfolding geography_at
   geography_within = step Pair _ n _ _ (pair_within n 1 2 bytes h) (λ found k.
       step (λ x. Unit {0}) _ n _ _ (text_in_within n found.0.0 k.0.0) (λ crs _.
-      step (λ x. Unit {0}) _ n _ _ (name_within algorithms found.0.1 k.0.1) (λ algorithm _. reads _ n _ tt)))
+      step (λ x. Unit {0}) _ n _ _ (algorithm_within found.0.1 k.0.1) (λ algorithm _. reads _ n _ tt)))
 
   pub unit_within : (id : ℕ) → Within (λ x. Unit {0}) n (unit_of id bytes)
   unit_within id = either _ n (id == 1) _ _ (reads _ n _ tt) (either _ n (id == 2) _ _ (reads _ n _ tt) (either _ n (id == 3) _ _ (reads _ n _ tt) (refuses _ n _ h)))

@@ -1,9 +1,9 @@
 -- Logical types: a union, of which the geometry types, times, points in time and integers are read, and the others known by their ids.
-use Rattle.std.specs.Prelude.{ℕ, Bool, not, ◌||◌, List, [], ◌∷◌, Option, Some, None, option_map, Result, Ok, ◌==◌, if◌then◌else◌}
+use Rattle.std.specs.Prelude.{ℕ, Bool, not, ◌||◌, List, Option, Some, None, option_map, Result, Ok, ◌==◌, if◌then◌else◌}
 use Rattle.parquet_footer.specs.declared.fault.Fault.{Fault}
 use Rattle.parquet_footer.specs.declared.fault.FooterRule.TheVariants.{Union, Name}
 use Rattle.parquet_footer.specs.declared.logical.Algorithm.{Algorithm}
-use Rattle.parquet_footer.specs.declared.logical.Algorithm.TheVariants.{Spherical, Vincenty, Thomas, Andoyer, Karney}
+use Rattle.parquet_footer.specs.declared.logical.Algorithm.TheVariants.{Spherical, Vincenty, Thomas, Andoyer, Karney, Unknown}
 use Rattle.parquet_footer.specs.declared.logical.TimeUnit.{TimeUnit}
 use Rattle.parquet_footer.specs.declared.logical.TimeUnit.TheVariants.{Millisecond, Microsecond, Nanosecond}
 use Rattle.parquet_footer.specs.declared.logical.LogicalType.{LogicalType}
@@ -11,7 +11,7 @@ use Rattle.parquet_footer.specs.declared.logical.LogicalType.TheVariants.{Geomet
 use Rattle.parquet_footer.specs.Fault.{refused, kept, needed, ◌>>=◌}
 use Rattle.parquet_footer.specs.Wire.{byte_at, field_at}
 use Rattle.parquet_footer.specs.Skip.{value_past}
-use Rattle.parquet_footer.specs.Fields.{Spot, pair_at, value_of, name_in, text_in, flag_in}
+use Rattle.parquet_footer.specs.Fields.{Spot, pair_at, value_of, number_in, text_in, flag_in}
 
 -- a logical type, without where its texts lie
 pub data Logical : Type 0 where
@@ -30,8 +30,19 @@ logical (Timestamp utc unit) = timestamp utc unit
 logical (Integer bits signed) = integer bits signed
 logical (Other id) = other id
 
-abbrev pub algorithms : List Algorithm
-algorithms = Spherical ∷ Vincenty ∷ Thomas ∷ Andoyer ∷ Karney ∷ []
+-- an algorithm by its number; any other is not known
+abbrev pub algorithm_of : ℕ → Algorithm
+algorithm_of n =
+    if n == 0 then Spherical else
+    if n == 1 then Vincenty else
+    if n == 2 then Thomas else
+    if n == 3 then Andoyer else
+    if n == 4 then Karney else Unknown n
+
+unfoldable pub algorithm_in : Option Spot → Result (Option Algorithm) Fault
+algorithm_in place = do
+  number ← number_in place
+  Ok (option_map algorithm_of number)
 
 -- a union is a struct of one field: its id, and the type and the bytes of its value
 unfoldable pub union_at : List ℕ → Result (ℕ × Spot) Fault
@@ -93,7 +104,7 @@ unfoldable pub geography_at : List ℕ → Result Logical Fault
 geography_at bytes = do
   found ← pair_at 1 2 bytes
   crs ← text_in found.0.0
-  algorithm ← name_in algorithms found.0.1 bytes
+  algorithm ← algorithm_in found.0.1
   Ok (geography crs algorithm)
 
 -- the struct of a member, by its id

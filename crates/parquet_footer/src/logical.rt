@@ -3,10 +3,10 @@
 ghost use Rattle.std.specs.Prelude.{◌≡◌, option_map};
 ghost use Rattle.parquet_footer.specs.Fault.{Returns};
 ghost use Rattle.parquet_footer.specs.Fields.{spot, spots};
-ghost use Rattle.parquet_footer.specs.Logical.{logical, union_at, unit_in, width_in, clock_at, integer_at, geometry_at, geography_at, logical_at, logical_in};
+ghost use Rattle.parquet_footer.specs.Logical.{logical, algorithm_of, algorithm_in, union_at, unit_in, width_in, clock_at, integer_at, geometry_at, geography_at, logical_at, logical_in};
 
 use crate::fault::{Fault, FooterRule, broken};
-use crate::fields::{Found, Place, flag_in, name_in, pair_at, text_in};
+use crate::fields::{Found, Place, flag_in, number_in, pair_at, text_in};
 use crate::skip::{LEVELS, value_past};
 use crate::wire::field_at;
 
@@ -23,6 +23,8 @@ pub enum Algorithm {
     Andoyer,
     /// By Karney's method.
     Karney,
+    /// By one that is not known, whose number is this.
+    Unknown(u32),
 }
 
 /// A unit of time.
@@ -53,14 +55,31 @@ pub enum LogicalType<'a> {
     Other(u16),
 }
 
-/// The algorithms, by their numbers.
-const ALGORITHMS: [Algorithm; 5] = [
-    Algorithm::Spherical,
-    Algorithm::Vincenty,
-    Algorithm::Thomas,
-    Algorithm::Andoyer,
-    Algorithm::Karney,
-];
+/// The algorithm of a number.
+fn algorithm_of(number: u32) -> Algorithm
+    ensures { result ≡ algorithm_of number }
+{
+    match number {
+        0 => Algorithm::Spherical,
+        1 => Algorithm::Vincenty,
+        2 => Algorithm::Thomas,
+        3 => Algorithm::Andoyer,
+        4 => Algorithm::Karney,
+        _ => Algorithm::Unknown(number),
+    }
+}
+
+/// The algorithm in a field, where it is there.
+#[tactic(auto, unfolding(crate::specs::Logical::algorithm_in))]
+fn algorithm_in(place: Found<'_>) -> Result<Option<Algorithm>, Fault>
+    ensures { result ≡ algorithm_in (spots place.entry) }
+{
+    match number_in(place) {
+        Ok(Some(number)) => Ok(Some(algorithm_of(number))),
+        Ok(None) => Ok(None),
+        Err(fault) => Err(fault),
+    }
+}
 
 /// The unit of time in a field of a struct, whose bytes these are.
 #[tactic(auto, unfolding(crate::specs::Logical::unit_in))]
@@ -153,7 +172,7 @@ fn geography_at(bytes: &[u8]) -> Result<LogicalType<'_>, Fault>
 {
     let (crs, algorithm, _) = pair_at(bytes, 1, 2)?;
     let crs = text_in(crs)?;
-    Ok(LogicalType::Geography(crs, name_in(&ALGORITHMS, algorithm, bytes)?))
+    Ok(LogicalType::Geography(crs, algorithm_in(algorithm)?))
 }
 
 /// What a logical type says, by the id of the union's member.

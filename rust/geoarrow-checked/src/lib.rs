@@ -21,6 +21,7 @@
 
 mod calls;
 mod error;
+mod facts;
 mod fault;
 mod finding;
 mod members;
@@ -29,6 +30,7 @@ mod members;
 pub mod arrow;
 
 pub use error::Error;
+pub use facts::{column_facts, Facts, Source, Verdict};
 pub use fault::Fault;
 pub use finding::{column_findings, findings, Finding, Severity};
 

@@ -44,7 +44,7 @@ fn fields_of_a_schema() {
     assert_eq!(
         check_fields(&fields, Options::default()).unwrap(),
         "{\"column\":\"at\",\"index\":0,\"state\":\"plain\",\"type\":\"date32\"}\n\
-         {\"column\":\"p\",\"edges\":\"planar\",\"extension\":\"geoarrow.point\",\"index\":1,\"state\":\"geometry\",\"type\":\"point separated XY\"}\n\
+         {\"column\":\"p\",\"edges\":\"planar\",\"extension\":\"geoarrow.point\",\"index\":1,\"state\":\"geometry\",\"type\":\"point separated XY\",\"type_from\":\"field\"}\n\
          {\"column\":\"t\",\"index\":2,\"state\":\"plain\",\"type\":\"timestamp[s]\"}\n"
     );
 }

@@ -1,9 +1,24 @@
-use Rattle.std.proofs.Common.{rules}
+use Rattle.std.proofs.Common.{ap, map, map-id, rules, subst, sym, ◌∙◌}
+use Rattle.std.proofs.lemmas.Iterator.{YieldsList-from_zip}
+use Rattle.std.proofs.lemmas.Iterator.Adapters.{YieldsList-from_vec}
+use Rattle.std.proofs.lemmas.Iterator.Consumers.{YieldsList-at, YieldsList-end}
+use Rattle.column_reports.specs.FileReport.{AreReported}
 use Rattle.column_reports.specs.Weights.{weighing}
-use Rattle.column_reports.proofs.Reported.{reported_next}
+use Rattle.column_reports.proofs.Reported.{reported_next, viewed, zip_viewed}
 use Rattle.column_reports.proofs.file.report_columns.Goals as goal
 
 pub loop-column-preserved : goal.loop-column-preserved
 loop-column-preserved c =
     let l = c.loop-column in
-    reported_next c.args.infer (weighing c.args.weights.now) l.yielded l.reported.items c.push.new.self.items c.in-Some.column c.in_ok-said.said l.invariant c.in_ok-said.ensures (search rules)
+    reported_next c.args.infer (weighing c.args.weights.now) l.yielded l.reported.items c.push.new.self.items (c.in-Some.column, c.in-Some.facts) c.in_ok-said.said l.invariant c.in_ok-said.ensures (search rules)
+
+pub returns : goal.returns
+returns c =
+    let l = c.loop-column in
+    let columns = YieldsList-from_vec {s = c.into_iter.result} c.args.columns.items (search rules) (search rules) in
+    let facts = YieldsList-from_vec {s = c.into_iter-2.result} c.args.facts.items (search rules) (search rules) in
+    let both = YieldsList-from_zip (YieldsList-at c.zip-column-items.ensures.first columns) (YieldsList-at c.zip-column-items.ensures.second facts) in
+    let road = YieldsList-at c.into_iter-column-iterator.ensures.into_iter_gives both in
+    let end = YieldsList-end road l.yielded l.column-iterator l.yielded_by c.next.result c.next.new.self c.in-None.is c.next.ensures.steps in
+    subst (λ xs. AreReported c.args.infer (weighing c.args.weights.now) xs l.reported.items)
+    (ap (map viewed) (sym (map-id l.yielded) ∙ end.0) ∙ zip_viewed c.args.columns.items c.args.facts.items) l.invariant

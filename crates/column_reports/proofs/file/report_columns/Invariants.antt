@@ -1,8 +1,8 @@
 use Rattle.std.proofs.Common.{map}
-use Rattle.arrow_columns.specs.Column.{column_tree}
 use Rattle.column_reports.specs.FileReport.{AreReported}
 use Rattle.column_reports.specs.Weights.{weighing}
+use Rattle.column_reports.proofs.Reported.{viewed}
 use Rattle.column_reports.proofs.file.report_columns.Given as goal
 
 abbrev pub invariant-loop-column : goal.invariant-loop-column
-invariant-loop-column l = AreReported l.infer (weighing l.weights) (map column_tree l.yielded) l.reported.items
+invariant-loop-column l = AreReported l.infer (weighing l.weights) (map viewed l.yielded) l.reported.items

@@ -1,9 +1,12 @@
 use Rattle.std.proofs.Common.{refl, map, ap, subst, ◌∙◌, rules}
 use Rattle.arrow_columns.specs.Column.{column_tree}
 use Rattle.parquet_columns.specs.Claims.{claim}
+use Rattle.std.specs.List.{zip}
+use Rattle.geoparquet.specs.Facts.{facts_of}
 use Rattle.geoparquet.specs.Findings.{finding}
 use Rattle.geoparquet.specs.GeoFindings.{AreGeoFindings}
 use Rattle.geoparquet.specs.Sources.{source}
+use Rattle.column_reports.specs.FileReport.{AreReported, source_in}
 use Rattle.column_reports.specs.Weighed.{weighed}
 use Rattle.column_reports.specs.Weights.{weighing}
 use Rattle.column_reports.proofs.file.weighed_report.Goals as goal
@@ -13,7 +16,12 @@ returns c = record {
   form = refl;
   by = map column_tree c.in_ok-columns.columns.items;
   are_by = c.in_ok-columns.ensures;
-  columns = c.in_ok-columns-2.ensures;
+  columns =
+      let by = map column_tree c.in_ok-columns.columns.items in
+      let facts = c.in_ok-facts.ensures ∙ ap (λ s. facts_of s (map column_tree c.as_slice-3.result.now) (map claim c.as_slice-4.result.now)) c.source_of-source.ensures
+      ∙ ap (λ cs. facts_of (source_in c.args.opened.form c.args.opened.geo) (map column_tree cs) (map claim c.as_slice-4.result.now)) c.as_slice-3.ensures.value
+      ∙ ap (λ es. facts_of (source_in c.args.opened.form c.args.opened.geo) (map column_tree c.args.opened.columns.items) (map claim es)) c.as_slice-4.ensures.value in
+      subst (λ fs. AreReported c.args.infer (weighing c.args.weights.now) (zip by fs) c.in_ok-columns-2.columns.items) facts c.in_ok-columns-2.ensures;
   geo = c.in_ok-checked.checked;
   is_geo =
       let v = c.in_ok-checked.checked.version in

@@ -1,0 +1,217 @@
+//! The facts of geometries, as members of the line of a column.
+ghost use Rattle.std.specs.Prelude.{◌≡◌, OnOk, codes, option_map};
+ghost use Rattle.arrow_values.specs.Texts.{text_of};
+ghost use Rattle.geoparquet.specs.Facts.{crs_view, edges_view, facts_view};
+ghost use Rattle.value_tokens.specs.Adds.{Adds};
+ghost use Rattle.value_tokens.specs.Values.{or_null};
+ghost use Rattle.json.specs.Tree.{json_tokens};
+ghost use Rattle.column_reports.specs.FactMembers.{against_if, against_members, are_some, crs_against, crs_fact_in, crs_members, edges_against, edges_members, edges_members_in, encoding_against, encoding_word_in, has_one, verdict_members, verdict_word, verdicts_in};
+ghost use Rattle.column_reports.specs.Objects.{member_if, AddsMembers};
+
+use crate::put::{put_text, put_text_if};
+use crs_identity::Verdict;
+use geoparquet::{Against, ColumnFacts, CrsFact, EdgesFact};
+use json::{Scratch, Writer};
+use std::alloc::AllocError;
+use value_tokens::JsonText;
+
+/// Writes a value, and null where there is none.
+fn put_json(
+    out: &mut Writer,
+    scratch: &mut Scratch,
+    value: Option<&JsonText>,
+) -> Result<(), AllocError>
+    ensures { OnOk result (Adds (json_tokens (or_null (option_map (λ v. v.now) value.entry))) out.old out.new) }
+{
+    match value {
+        Some(value) => value.put(scratch, out),
+        None => out.null(),
+    }
+}
+
+/// Writes the members of the CRS of geometries, if a source says something of it.
+pub(crate) fn put_crs(
+    out: &mut Writer,
+    scratch: &mut Scratch,
+    facts: Option<&ColumnFacts>,
+) -> Result<(), AllocError>
+    ensures { OnOk result (AddsMembers (crs_members (crs_fact_in (option_map (λ f. facts_view f.now) facts.entry))) out.old out.new) }
+{
+    let Some(facts) = facts else {
+        return Ok(());
+    };
+    match &facts.crs {
+        Some(crs) => put_crs_fact(out, scratch, crs),
+        None => Ok(()),
+    }
+}
+
+/// Writes the members of a CRS.
+fn put_crs_fact(out: &mut Writer, scratch: &mut Scratch, crs: &CrsFact) -> Result<(), AllocError>
+    ensures { OnOk result (AddsMembers (crs_members (Some (crs_view crs.now))) out.old out.new) }
+{
+    out.key("crs")?;
+    put_json(out, scratch, crs.crs.as_ref())?;
+    put_text(out, "crs_from", crs.from.word())?;
+    put_text_if(out, "crs_type", crs.crs_type.as_deref())
+}
+
+/// Writes the members of the edges of geometries.
+pub(crate) fn put_edges(out: &mut Writer, facts: Option<&ColumnFacts>) -> Result<(), AllocError>
+    ensures { OnOk result (AddsMembers (edges_members_in (option_map (λ f. facts_view f.now) facts.entry)) out.old out.new) }
+{
+    let Some(facts) = facts else {
+        return Ok(());
+    };
+    match &facts.edges {
+        Some(edges) => put_edges_fact(out, edges),
+        None => put_text(out, "edges", "planar"),
+    }
+}
+
+/// Writes the members of edges that a source says.
+fn put_edges_fact(out: &mut Writer, edges: &EdgesFact) -> Result<(), AllocError>
+    ensures { OnOk result (AddsMembers (edges_members (Some (edges_view edges.now))) out.old out.new) }
+{
+    put_text(out, "edges", edges.edges.as_str())?;
+    put_text(out, "edges_from", edges.from.word())
+}
+
+/// Returns the word of the source of the encoding of geometries, if there is one.
+pub(crate) fn encoding_word(facts: Option<&ColumnFacts>) -> Option<&'static str>
+    ensures { text_of result ≡ encoding_word_in (option_map (λ f. facts_view f.now) facts.entry) }
+{
+    let Some(facts) = facts else {
+        return None;
+    };
+    match facts.encoding {
+        Some(encoding) => Some(encoding.from.word()),
+        None => None,
+    }
+}
+
+/// Returns the word of a verdict.
+fn verdict_word(verdict: Verdict) -> &'static str
+    ensures { result.now ≡ verdict_word verdict }
+{
+    match verdict {
+        Verdict::Agree => "agree",
+        Verdict::Contradict => "contradict",
+        Verdict::NotCompared => "not compared",
+    }
+}
+
+/// Returns the word of a verdict, if there is one.
+fn word_if(verdict: Option<Verdict>) -> Option<&'static str>
+    ensures { text_of result ≡ option_map verdict_word verdict }
+{
+    match verdict {
+        Some(verdict) => Some(verdict_word(verdict)),
+        None => None,
+    }
+}
+
+/// Whether a source says something beside the one that counts.
+fn has_verdict(against: &Against) -> bool
+    ensures { result ≡ are_some (against_members against.now) }
+{
+    (against.element.is_some() || against.field.is_some()) || against.geo.is_some()
+}
+
+/// Writes the verdict of each source.
+fn put_each(out: &mut Writer, against: &Against) -> Result<(), AllocError>
+    ensures { OnOk result (AddsMembers (against_members against.now) out.old out.new) }
+{
+    put_text_if(out, "element", word_if(against.element))?;
+    put_text_if(out, "field", word_if(against.field))?;
+    put_text_if(out, "geo", word_if(against.geo))
+}
+
+/// Writes a member of the verdicts of sources, if there are any.
+fn put_against(out: &mut Writer, key: &str, against: Option<&Against>) -> Result<(), AllocError>
+    ensures { OnOk result (AddsMembers (against_if key.now (option_map (λ a. a.now) against.entry)) out.old out.new) }
+{
+    let Some(against) = against else {
+        return Ok(());
+    };
+    if !has_verdict(against) {
+        return Ok(());
+    }
+    out.key(key)?;
+    out.begin_object()?;
+    put_each(out, against)?;
+    out.end_object()
+}
+
+/// Returns what the sources say against the CRS that counts, if one does.
+fn crs_against(facts: &ColumnFacts) -> Option<&Against>
+    ensures { option_map (λ a. a.now) result ≡ crs_against (facts_view facts.now) }
+{
+    match &facts.crs {
+        Some(crs) => Some(&crs.against),
+        None => None,
+    }
+}
+
+/// Returns what the sources say against the edges that count, if some do.
+fn edges_against(facts: &ColumnFacts) -> Option<&Against>
+    ensures { option_map (λ a. a.now) result ≡ edges_against (facts_view facts.now) }
+{
+    match &facts.edges {
+        Some(edges) => Some(&edges.against),
+        None => None,
+    }
+}
+
+/// Returns what the sources say against the encoding that counts, if one does.
+fn encoding_against(facts: &ColumnFacts) -> Option<&Against>
+    ensures { option_map (λ a. a.now) result ≡ encoding_against (facts_view facts.now) }
+{
+    match &facts.encoding {
+        Some(encoding) => Some(&encoding.against),
+        None => None,
+    }
+}
+
+/// Whether a source says something beside the one that counts, if one does.
+fn has_one(against: Option<&Against>) -> bool
+    ensures { result ≡ has_one (option_map (λ a. a.now) against.entry) }
+{
+    match against {
+        Some(against) => has_verdict(against),
+        None => false,
+    }
+}
+
+/// Whether a source says something beside one that counts.
+fn has_verdicts(facts: &ColumnFacts) -> bool
+    ensures { result ≡ are_some (verdict_members (facts_view facts.now)) }
+{
+    (has_one(crs_against(facts)) || has_one(edges_against(facts)))
+        || has_one(encoding_against(facts))
+}
+
+/// Writes the verdicts of sources, of each fact if there are any.
+fn put_facts(out: &mut Writer, facts: &ColumnFacts) -> Result<(), AllocError>
+    ensures { OnOk result (AddsMembers (verdict_members (facts_view facts.now)) out.old out.new) }
+{
+    put_against(out, "crs", crs_against(facts))?;
+    put_against(out, "edges", edges_against(facts))?;
+    put_against(out, "encoding", encoding_against(facts))
+}
+
+/// Writes the member of the verdicts of sources, if there are any.
+pub(crate) fn put_verdicts(out: &mut Writer, facts: Option<&ColumnFacts>) -> Result<(), AllocError>
+    ensures { OnOk result (AddsMembers (member_if (codes "verdicts") (verdicts_in (option_map (λ f. facts_view f.now) facts.entry))) out.old out.new) }
+{
+    let Some(facts) = facts else {
+        return Ok(());
+    };
+    if !has_verdicts(facts) {
+        return Ok(());
+    }
+    out.key("verdicts")?;
+    out.begin_object()?;
+    put_facts(out, facts)?;
+    out.end_object()
+}

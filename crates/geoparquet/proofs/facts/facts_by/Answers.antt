@@ -1,0 +1,39 @@
+use Rattle.std.proofs.Common.{◌≡◌, ap, map, option_map, subst, sym, take, ◌∙◌}
+use Rattle.json.specs.Value.{value_view}
+use Rattle.arrow_values.specs.Tree.{Text}
+use Rattle.geoparquet.specs.Facts.{column_facts, facts_view, if_object}
+use Rattle.geoparquet.specs.GeoColumns.{left_for, value_in}
+use Rattle.geoparquet.specs.Sources.{sourced}
+use Rattle.geoparquet.specs.Versions.{version_of}
+use Rattle.geoparquet.proofs.FactLists.{facts_end, facts_next, readable, tree_of, trees_more}
+use Rattle.geoparquet.proofs.Marking.{left_is_read, tree_left_behind}
+use Rattle.geoparquet.proofs.facts.facts_by.Goals as goal
+
+pub if_object-member-requires : goal.if_object-member-requires
+if_object-member-requires c =
+    let j = value_view c.args.value.now in
+    let name = (tree_of c.it-item.result).name in
+    let before = map tree_of (take c.columns.it-index c.args.all.now) in
+    let left = ap (option_map (λ v. value_view v.now)) (rw c.as_str.ensures.value at c.remove.ensures.value) ∙ c.columns.invariant.left name in
+    readable c.remove.result (left_is_read j before name c.remove.result c.requires left)
+
+pub columns-preserved : goal.columns-preserved
+columns-preserved c =
+    let j = value_view c.args.value.now in
+    let ss = c.args.all.now in
+    let i = c.columns.it-index in
+    let s = c.it-item.result in
+    let name = (tree_of s).name in
+    let before = map tree_of (take i ss) in
+    let left = ap (option_map (λ v. value_view v.now)) (rw c.as_str.ensures.value at c.remove.ensures.value) ∙ c.columns.invariant.left name in
+    let member = c.if_object-member.ensures.value ∙ ap if_object left in
+    let said = c.in_ok-column_facts.ensures ∙ ap (λ v. column_facts v (option_map (λ w. value_view w.now) c.if_object-member.result) (tree_of s) (sourced s).1) c.version_of-version.ensures
+    ∙ ap (λ m. column_facts (version_of j) m (tree_of s) (sourced s).1) member in
+    let behind = tree_left_behind j before (tree_of s) c.columns.members c.remove.new.self (rw c.as_str.ensures.value at c.remove.ensures.updates) c.columns.invariant.left in
+    record {
+      left = λ n. behind n ∙ ap (λ ts. left_for j ts n) (sym (trees_more ss i s c.columns-test.true c.it-item.is));
+      so_far = facts_next j ss i c.columns.made.items c.columns.invariant.so_far s c.in_ok-column_facts.field-0 c.push.new.self.items c.columns-test.true c.it-item.is c.in_ok-push.ensures.items said;
+    }
+
+pub returns : goal.returns
+returns c = facts_end (value_view c.args.value.now) c.args.all.now c.columns.it-index c.columns.made.items c.columns.invariant.so_far c.columns-test.false

@@ -1,0 +1,228 @@
+-- The facts of a column: of its CRS, its edges and its encoding what counts, by which source, and what the others say against it (docs/FORMAT.md, 5).
+use Rattle.std.specs.Prelude.{Bool, true, false, List, [], ◌∷◌, ◌++◌, codes, string_bytes, Option, None, Some, is_some, option_and_then, option_map, unwrap_or, if◌then◌else◌}
+use Rattle.std.specs.Str.{is_utf8}
+use Rattle.json.specs.Json.{Json, null, object, string}
+use Rattle.json.specs.Find.{get, as_str}
+use Rattle.serde_json.specs.Data as own
+use Rattle.serde_json.specs.Data.{Data}
+use Rattle.serde_json.specs.Find.{get as get_data}
+use Rattle.value_tokens.specs.Values.{is_object}
+use Rattle.arrow_values.specs.Tree.{Text}
+use Rattle.arrow_columns.specs.Column.{ColumnTree}
+use Rattle.crs_identity.specs.Forms.{json_in}
+use Rattle.crs_identity.specs.Verdicts.{Claimed, crs_verdict}
+use Rattle.geoparquet.specs.Contradictions.{element_edges, element_encoding, element_metadata, field_edges, field_encoding, layout_encoding, own_metadata, said_edges}
+use Rattle.geoparquet.specs.CrsClaims.{crs_at, element_crs, element_json, field_json, own_crs_in, said_crs}
+use Rattle.geoparquet.specs.FactSources.{BySource, against, of_source, source_counting, text_verdict}
+use Rattle.geoparquet.specs.GeoColumns.{left_for}
+use Rattle.geoparquet.specs.Identifiers.{default_identifier}
+use Rattle.geoparquet.specs.Sources.{Element, Source, unasked, missing, value, with_elements}
+use Rattle.geoparquet.specs.Versions.{version_of}
+use Rattle.geoparquet.specs.declared.fact_sources.Against.{Against}
+use Rattle.geoparquet.specs.declared.fact_sources.FactSource.{FactSource}
+use Rattle.geoparquet.specs.declared.fact_sources.FactSource.TheVariants as of
+use Rattle.geoparquet.specs.declared.crs_facts.CrsFact.{CrsFact}
+use Rattle.geoparquet.specs.declared.text_facts.EdgesFact.{EdgesFact}
+use Rattle.geoparquet.specs.declared.text_facts.EncodingFact.{EncodingFact}
+use Rattle.geoparquet.specs.declared.facts.ColumnFacts.{ColumnFacts}
+use Rattle.geoparquet.specs.declared.finding.Version.{Version}
+
+-- ---- the facts as values
+
+-- the CRS: by which source, its value, which is none where the CRS is not known, and its type
+pub record CrsOf : Type 0 where
+  pub from : FactSource
+  pub crs : Option Json
+  pub crs_type : Option Text
+  pub against : Against
+
+pub record EdgesOf : Type 0 where
+  pub from : FactSource
+  pub edges : Text
+  pub against : Against
+
+pub record FactsOf : Type 0 where
+  pub crs : Option CrsOf
+  pub edges : Option EdgesOf
+  pub encoding : Option EncodingFact
+
+abbrev pub crs_view : CrsFact → CrsOf
+crs_view f = record { from = f.from; crs = f.crs; crs_type = option_map string_bytes f.crs_type; against = f.against }
+
+abbrev pub edges_view : EdgesFact → EdgesOf
+edges_view f = record { from = f.from; edges = string_bytes f.edges; against = f.against }
+
+abbrev pub facts_view : ColumnFacts → FactsOf
+facts_view f = record { crs = option_map crs_view f.crs; edges = option_map edges_view f.edges; encoding = f.encoding }
+
+-- ---- the CRS
+
+-- what each source says of it, where they have that JSON: the extension metadata of the element, the member, the extension metadata of the field
+abbrev pub member_crs : Version → Option Json → Option Claimed
+member_crs version None = None
+member_crs version (Some j) = said_crs version (get (codes "crs") j)
+
+abbrev pub crs_claims : Version → Option Element → BySource Json → BySource Claimed
+crs_claims version e js =
+    record { element = element_crs e js.element; geo = member_crs version js.geo; field = own_crs_in js.field }
+
+-- whether what each says is the default
+abbrev pub crs_defaults : BySource Claimed → BySource Bool
+crs_defaults cs = record {
+  element = option_map (λ c. c.is_default) cs.element;
+  geo = option_map (λ c. c.is_default) cs.geo;
+  field = option_map (λ c. c.is_default) cs.field;
+}
+
+-- the value at `crs`; null is none
+abbrev pub known : Option Json → Option Json
+known None = None
+known (Some null) = None
+known (Some j) = Some j
+
+abbrev pub crs_value : Option Json → Option Json
+crs_value found = known (crs_at found)
+
+-- its type: of a member that of PROJJSON, which an object is; of extension metadata the text at `crs_type`
+abbrev pub member_type : Option Json → Option Text
+member_type None = None
+member_type (Some j) = if is_object j then Some (codes "projjson") else None
+
+abbrev pub own_type : Option Json → Option Text
+own_type found = option_and_then as_str (option_and_then (get (codes "crs_type")) found)
+
+abbrev pub crs_type_in : FactSource → BySource Json → Option Text
+crs_type_in of.Element js = own_type js.element
+crs_type_in of.Geo js = member_type (crs_value js.geo)
+crs_type_in of.Field js = own_type js.field
+
+-- what a source says, or that it says the default
+abbrev pub crs_from : Bool → FactSource → BySource Json → Against → CrsOf
+crs_from true from js verdicts =
+    record { from = from; crs = Some (string default_identifier); crs_type = Some (codes "authority_code"); against = verdicts }
+crs_from false from js verdicts =
+    record { from = from; crs = crs_value (of_source from js); crs_type = crs_type_in from js; against = verdicts }
+
+abbrev pub crs_by : BySource Json → BySource Claimed → FactSource → CrsOf
+crs_by js cs from = crs_from (unwrap_or (of_source from (crs_defaults cs)) false) from js (against crs_verdict from cs)
+
+abbrev pub crs_fact_of : BySource Json → BySource Claimed → Option CrsOf
+crs_fact_of js cs = option_map (crs_by js cs) (source_counting (crs_defaults cs))
+
+abbrev pub json_sources : Option Json → ColumnTree → Option Element → BySource Json
+json_sources member c e = record { element = element_json e (Some c); geo = member; field = field_json e (Some c) }
+
+abbrev pub crs_fact_in : Version → Option Element → BySource Json → Option CrsOf
+crs_fact_in version e js = crs_fact_of js (crs_claims version e js)
+
+abbrev pub crs_fact : Version → Option Json → ColumnTree → Option Element → Option CrsOf
+crs_fact version member c e = crs_fact_in version e (json_sources member c e)
+
+-- ---- the edges
+
+-- what a member says of them
+abbrev pub member_edges : Version → Option Json → Option Text
+member_edges version None = None
+member_edges version (Some j) = said_edges version (get (codes "edges") j)
+
+-- what each source says, by the extension metadata of the element, the member and those of the field
+abbrev pub edges_claims : Version → Option Json → Option Element → Data → Data → BySource Text
+edges_claims version member e element field =
+    record { element = element_edges e element; geo = member_edges version member; field = field_edges e field }
+
+-- a source that says something says the default where it has no `edges`; an element always says them
+abbrev pub is_default_if : Bool → Option Text → Option Bool
+is_default_if is_default said = option_map (λ s. is_default) said
+
+abbrev pub are_absent : Option Data → Bool
+are_absent None = true
+are_absent (Some own.null) = true
+are_absent (Some d) = false
+
+abbrev pub has_no_edges : Option Json → Bool
+has_no_edges None = true
+has_no_edges (Some j) = if is_some (get (codes "edges") j) then false else true
+
+abbrev pub edges_defaults : Option Json → Data → BySource Text → BySource Bool
+edges_defaults member field ts = record {
+  element = is_default_if false ts.element;
+  geo = is_default_if (has_no_edges member) ts.geo;
+  field = is_default_if (are_absent (get_data (codes "edges") field)) ts.field;
+}
+
+abbrev pub edges_from : BySource Text → FactSource → Option EdgesOf
+edges_from ts from = option_map (λ s. record { from = from; edges = s; against = against text_verdict from ts }) (of_source from ts)
+
+abbrev pub edges_fact_of : BySource Text → BySource Bool → Option EdgesOf
+edges_fact_of ts ds = option_and_then (edges_from ts) (source_counting ds)
+
+abbrev pub edges_fact_in : Version → Option Json → Option Element → Data → Data → Option EdgesOf
+edges_fact_in version member e element field =
+    edges_fact_of (edges_claims version member e element field) (edges_defaults member field (edges_claims version member e element field))
+
+abbrev pub edges_fact : Version → Option Json → ColumnTree → Option Element → Option EdgesOf
+edges_fact version member c e = edges_fact_in version member e (element_metadata e (Some c)) (own_metadata (Some c))
+
+-- ---- the encoding
+
+-- what a member says, where the column has its layout
+abbrev pub member_encoding : Version → ColumnTree → Option Json → Option Text
+member_encoding version c None = None
+member_encoding version c (Some j) = layout_encoding version (Some c) j
+
+abbrev pub encodings : Version → Option Json → ColumnTree → Option Element → BySource Text
+encodings version member c e =
+    record { element = element_encoding e; geo = member_encoding version c member; field = field_encoding e (Some c) }
+
+-- that of the field, else of the member, else of the element
+abbrev pub encoding_from : BySource Text → Option FactSource
+encoding_from ts =
+    if is_some ts.field then Some of.Field
+    else if is_some ts.geo then Some of.Geo
+    else if is_some ts.element then Some of.Element
+    else None
+
+abbrev pub encoding_fact_of : BySource Text → Option EncodingFact
+encoding_fact_of ts = option_map (λ from. record { from = from; against = against text_verdict from ts }) (encoding_from ts)
+
+abbrev pub encoding_fact : Version → Option Json → ColumnTree → Option Element → Option EncodingFact
+encoding_fact version member c e = encoding_fact_of (encodings version member c e)
+
+-- ---- of columns
+
+-- the facts of a column with a member of `geo`, or none, and what its element says, if it says something
+abbrev pub column_facts : Version → Option Json → ColumnTree → Option Element → FactsOf
+column_facts version member c e =
+    record { crs = crs_fact version member c e; edges = edges_fact version member c e; encoding = encoding_fact version member c e }
+
+-- the JSON that a file has at the key `geo`; null where there is none
+abbrev pub json_at_geo : Source → Option Json
+json_at_geo unasked = None
+json_at_geo missing = None
+json_at_geo (value bytes) = if is_utf8 bytes then json_in bytes else None
+
+abbrev pub geo_json : Source → Json
+geo_json s = unwrap_or (json_at_geo s) null
+
+-- an object, and no other value
+abbrev pub if_object : Option Json → Option Json
+if_object None = None
+if_object (Some j) = if is_object j then Some j else None
+
+-- the member of the first column of a name, behind those before it
+abbrev pub member_for : Json → List ColumnTree → Text → Option Json
+member_for j before name = if_object (left_for j before name)
+
+-- the facts of columns behind those, in order
+abbrev pub facts_behind : Json → List ColumnTree → List (ColumnTree × Option Element) → List FactsOf
+facts_behind j before [] = []
+facts_behind j before (x ∷ xs) =
+    column_facts (version_of j) (member_for j before x.0.name) x.0 x.1 ∷ facts_behind j (before ++ x.0 ∷ []) xs
+
+-- the facts of the columns of a file that has that at the key `geo`, beside which its elements say that
+abbrev pub facts_of : Source → List ColumnTree → List Element → List FactsOf
+facts_of geo cs es = facts_behind (geo_json geo) [] (with_elements cs es)
+
+-- those of a column alone
+abbrev pub facts_alone : ColumnTree → FactsOf
+facts_alone c = column_facts (version_of null) None c None

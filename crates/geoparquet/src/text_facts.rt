@@ -1,0 +1,200 @@
+//! The edges and the encoding of a column that count, by which source, and what the others say
+//! against it.
+ghost use Rattle.std.specs.Prelude.{◌≡◌, IfOk, IfSome, option_map};
+ghost use Rattle.json.specs.Value.{value_view};
+ghost use Rattle.serde_json.specs.View.{view};
+ghost use Rattle.value_tokens.specs.Values.{IsReadable};
+ghost use Rattle.arrow_values.specs.Texts.{text_of};
+ghost use Rattle.arrow_columns.specs.Column.{column_tree};
+ghost use Rattle.geoparquet.specs.Facts.{are_absent, edges_fact, edges_fact_in, edges_from, edges_view, encoding_fact, encoding_from, has_no_edges, is_default_if, member_edges, member_encoding};
+ghost use Rattle.geoparquet.specs.Sources.{element_view};
+
+use crate::contradictions::{
+    element_edges, element_encoding, element_metadata, field_edges, field_encoding,
+    layout_encoding, own_metadata, said_edges,
+};
+use crate::fact_sources::{Against, FactSource, source_counting, text_from, texts_against};
+use crate::finding::Version;
+use arrow_columns::SchemaColumn;
+use json::Value;
+use parquet_columns::ElementClaim;
+use std::alloc::{AllocError, Global};
+
+/// The edges of a column that count.
+#[derive(Debug, Drop)]
+pub struct EdgesFact {
+    /// Which source says them.
+    pub from: FactSource,
+    /// The edges, by their word.
+    pub edges: String,
+    /// What the other sources say against them.
+    pub against: Against,
+}
+
+/// The encoding of a column that counts.
+#[derive(Clone, Copy, Debug, PartialEq, Eq)]
+pub struct EncodingFact {
+    /// Which source says it.
+    pub from: FactSource,
+    /// What the other sources say against it.
+    pub against: Against,
+}
+
+/// Returns the edges that a member says, if there is one.
+fn member_edges<'a>(version: Version, member: Option<&Value<'a>>) -> Option<&'a str>
+    ensures { text_of result ≡ member_edges version (option_map (λ v. value_view v.now) member.entry) }
+{
+    let Some(member) = member else {
+        return None;
+    };
+    said_edges(version, member.get("edges"))
+}
+
+/// Whether what a source says is a default, if it says something.
+fn is_default_if(is_default: bool, said: Option<&str>) -> Option<bool>
+    ensures { result ≡ is_default_if is_default (text_of said.entry) }
+{
+    match said {
+        Some(_) => Some(is_default),
+        None => None,
+    }
+}
+
+/// Whether extension metadata have no edges, or null.
+fn are_absent(found: Option<&serde_json::Value>) -> bool
+    ensures { result ≡ are_absent (option_map (λ v. view v.now) found.entry) }
+{
+    let Some(found) = found else {
+        return true;
+    };
+    matches!(found, serde_json::Value::Null)
+}
+
+/// Whether a member has no edges.
+fn has_no_edges(member: Option<&Value<'_>>) -> bool
+    ensures { result ≡ has_no_edges (option_map (λ v. value_view v.now) member.entry) }
+{
+    let Some(member) = member else {
+        return true;
+    };
+    member.get("edges").is_none()
+}
+
+/// Returns the edges that a source says. Errs only when out of memory.
+fn edges_from(
+    alloc: Global,
+    from: FactSource,
+    element: Option<&str>,
+    geo: Option<&str>,
+    field: Option<&str>,
+) -> Result<Option<EdgesFact>, AllocError>
+    ensures { IfOk result (λ fact. option_map edges_view fact ≡ edges_from (record { element = text_of element.entry; geo = text_of geo.entry; field = text_of field.entry }) from) }
+{
+    let Some(edges) = text_from(from, element, geo, field) else {
+        return Ok(None);
+    };
+    Ok(Some(EdgesFact {
+        from,
+        edges: String::from_str(alloc, edges)?,
+        against: texts_against(from, element, geo, field),
+    }))
+}
+
+/// Returns the edges that count, by the extension metadata of the element and of the field. Errs only
+/// when out of memory.
+fn edges_fact_in(
+    alloc: Global,
+    version: Version,
+    member: Option<&Value<'_>>,
+    claim: Option<&ElementClaim>,
+    metadata: &serde_json::Value,
+    own: &serde_json::Value,
+) -> Result<Option<EdgesFact>, AllocError>
+    ensures { IfOk result (λ fact. option_map edges_view fact ≡ edges_fact_in version (option_map (λ v. value_view v.now) member.entry) (option_map (λ e. element_view e.now) claim.entry) (view metadata.now) (view own.now)) }
+{
+    let element = element_edges(claim, metadata);
+    let geo = member_edges(version, member);
+    let field = field_edges(claim, own);
+    let from = source_counting(
+        is_default_if(false, element),
+        is_default_if(has_no_edges(member), geo),
+        is_default_if(are_absent(own.get("edges")), field),
+    );
+    match from {
+        Some(from) => edges_from(alloc, from, element, geo, field),
+        None => Ok(None),
+    }
+}
+
+/// Returns the edges of a column that count, by its member, if there is one, and what its element
+/// says (docs/FORMAT.md, 5). Errs only when out of memory.
+pub(crate) fn edges_fact(
+    alloc: Global,
+    version: Version,
+    member: Option<&Value<'_>>,
+    column: &SchemaColumn,
+    element: Option<&ElementClaim>,
+) -> Result<Option<EdgesFact>, AllocError>
+    ensures { IfOk result (λ fact. option_map edges_view fact ≡ edges_fact version (option_map (λ v. value_view v.now) member.entry) (column_tree column.now) (option_map (λ e. element_view e.now) element.entry)) }
+{
+    let metadata = element_metadata(alloc, element, Some(column))?;
+    let own = own_metadata(alloc, Some(column))?;
+    edges_fact_in(alloc, version, member, element, &metadata, &own)
+}
+
+/// Returns the encoding that a member says, where the column has its layout.
+fn member_encoding<'a>(
+    version: Version,
+    column: &SchemaColumn,
+    member: Option<&Value<'a>>,
+) -> Option<&'a str>
+    requires { IfSome member (λ v. IsReadable (value_view v.now)) }
+    ensures { text_of result ≡ member_encoding version (column_tree column.now) (option_map (λ v. value_view v.now) member.entry) }
+{
+    let Some(member) = member else {
+        return None;
+    };
+    layout_encoding(version, Some(column), member)
+}
+
+/// Returns the source of the encoding: the field, else the member, else the element.
+fn encoding_from(
+    element: Option<&str>,
+    geo: Option<&str>,
+    field: Option<&str>,
+) -> Option<FactSource>
+    ensures { result ≡ encoding_from (record { element = text_of element.entry; geo = text_of geo.entry; field = text_of field.entry }) }
+{
+    if field.is_some() {
+        Some(FactSource::Field)
+    } else if geo.is_some() {
+        Some(FactSource::Geo)
+    } else if element.is_some() {
+        Some(FactSource::Element)
+    } else {
+        None
+    }
+}
+
+/// Returns the source of the encoding of a column, by its member, if there is one, and what its
+/// element says (docs/FORMAT.md, 5).
+pub(crate) fn encoding_fact(
+    version: Version,
+    member: Option<&Value<'_>>,
+    column: &SchemaColumn,
+    element: Option<&ElementClaim>,
+) -> Option<EncodingFact>
+    requires { IfSome member (λ v. IsReadable (value_view v.now)) }
+    ensures { result ≡ encoding_fact version (option_map (λ v. value_view v.now) member.entry) (column_tree column.now) (option_map (λ e. element_view e.now) element.entry) }
+{
+    let claimed = element_encoding(element);
+    let geo = member_encoding(version, column, member);
+    let field = field_encoding(element, Some(column));
+    match encoding_from(claimed, geo, field) {
+        Some(from) => Some(EncodingFact {
+            from,
+            against: texts_against(from, claimed, geo, field),
+        }),
+        None => None,
+    }
+}

@@ -1,0 +1,64 @@
+"""Tests of the model of what counts of a column, by cases made by hand from docs/FORMAT.md, 5.7.
+
+Run by interop/test, or alone by `python3 -m unittest interop.test_geo_facts`, at the top of the
+repository.
+"""
+import json
+import unittest
+
+from . import geo_facts
+from .geo_findings import MISSING, UNASKED, Beside, Given
+
+MERCATOR = '{"type":"ProjectedCRS","name":"n","id":{"authority":"EPSG","code":3857}}'
+
+
+def column(metadata=None, name="geoarrow.wkb"):
+    held = {"ARROW:extension:name": name, "ARROW:extension:metadata": metadata}
+    held = {key: value for key, value in held.items() if value is not None}
+    return {"name": "g", "nullable": True, "type": "binary", **({"metadata": held} if held else {})}
+
+
+def geo(member):
+    return '{"version":"1.1.0","primary_column":"g","columns":{"g":{"encoding":"WKB","geometry_types":[]%s}}}' % member
+
+
+class Facts(unittest.TestCase):
+    def facts(self, given, *columns, elements=()):
+        return [{key: json.loads(text) for key, text in one.items()} for one in geo_facts.facts(given, columns, elements)]
+
+    def test_the_crs_of_geo_beside_an_extension_without_one(self):
+        (found,) = self.facts(geo(',"crs":' + MERCATOR), column("{}"))
+        self.assertEqual(found, {
+            "crs": json.loads(MERCATOR), "crs_from": "geo", "crs_type": "projjson", "edges": "planar", "edges_from": "geo",
+            "type_from": "field", "verdicts": {"edges": {"field": "agree"}, "encoding": {"geo": "agree"}}})
+
+    def test_what_is_said_counts_before_a_default(self):
+        (found,) = self.facts(geo(""), column('{"crs":"EPSG:3857","edges":"spherical"}'), elements=[Beside("{}")])
+        self.assertEqual((found["crs"], found["crs_from"]), ("EPSG:3857", "field"))
+        self.assertEqual((found["edges"], found["edges_from"]), ("planar", "element"))
+        self.assertEqual(found["verdicts"]["crs"], {"element": "contradict", "geo": "contradict"})
+        self.assertEqual(found["verdicts"]["edges"], {"field": "contradict", "geo": "agree"})
+
+    def test_a_crs_that_is_not_known(self):
+        (found,) = self.facts(geo(',"crs":null'), column())
+        self.assertEqual((found["crs"], found["crs_from"], "crs_type" in found), (None, "geo", False))
+
+    def test_a_field_alone_and_a_column_of_nobody(self):
+        (found,) = self.facts(UNASKED, column('{"crs":"4326","crs_type":"srid"}'))
+        self.assertEqual(found, {"crs": "4326", "crs_from": "field", "crs_type": "srid", "edges": "planar", "edges_from": "field", "type_from": "field"})
+        (found,) = self.facts(MISSING, column(name=None))
+        self.assertEqual(found, {"edges": "planar"})
+
+    def test_an_element_that_gives_its_column_all(self):
+        given = column('{"crs":"EPSG:3857","crs_type":"authority_code","edges":"spherical"}')
+        (found,) = self.facts(geo(',"edges":"spherical"'), given, elements=[Given(True)])
+        self.assertEqual((found["crs_from"], found["crs_type"], found["edges_from"], found["type_from"]), ("element", "authority_code", "element", "geo"))
+        self.assertEqual(found["verdicts"], {"crs": {"geo": "contradict"}, "edges": {"geo": "agree"}, "encoding": {"element": "agree"}})
+
+    def test_the_member_is_that_of_the_first_column_of_its_name(self):
+        one, other = self.facts(geo(',"crs":' + MERCATOR), column(), column())
+        self.assertEqual((one["crs_from"], other), ("geo", {"edges": "planar", "type_from": "field"}))
+
+
+if __name__ == "__main__":
+    unittest.main()
