@@ -38,6 +38,10 @@ WORDS = {text_in(row[0]): [text_in(cell) for cell in row[1:]]
          for row in tables("code | expected | help")}
 
 
+# The layout of each extension name, which the findings of a layout expect.
+LAYOUTS = {text_in(row[0]): text_in(row[1]) for row in tables("extension name | its layout in words")}
+
+
 def said(code, wanted=None, **parts):
     """A finding by the tables of its code, with what its rule wants there, and the parts that are its
     own."""

@@ -11,7 +11,7 @@ use Rattle.column_reports.specs.Weights.{Weighing}
 use Rattle.column_reports.specs.declared.report.ColumnReport.{ColumnReport}
 
 -- the report of a column of those facts, where types are inferred or not and that is asked of findings: the column itself, what is said of it, its facts, and
--- those of its warnings that are shown
+-- those of what is found of it that are shown
 pub record IsColumnReport (infer : Bool) (w : Weighing) (c : ColumnTree) (fs : FactsOf) (r : ColumnReport) : Type 0 where
   pub column : column_tree r.column ≡ c
   pub finding : IsFinding infer c r.finding

@@ -48,7 +48,7 @@ words_members f =
 abbrev pub finding_value : Option Text → Weighed → Json
 finding_value file w = object_of (rule_members file w ++ place_members w.finding ++ words_members w.finding)
 
--- of a column of which something is found: all of it
+-- of a column of which something is found: all of it that is shown
 abbrev pub findings_in : List Weighed → Option Json
 findings_in [] = None
 findings_in (f ∷ fs) = Some (array_of (map (finding_value None) (f ∷ fs)))

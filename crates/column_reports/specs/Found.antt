@@ -35,14 +35,14 @@ path_in (of.Text f) = []
 path_in (of.File f) = map string_bytes f.path.items
 path_in (of.Geo version f) = []
 
--- what has a pointer is in the extension metadata
-abbrev pub metadata_if : Option Text → Option Text
-metadata_if None = None
-metadata_if (Some pointer) = Some (codes "extension metadata")
+-- of a column, what has a pointer is in the extension metadata, and anything else in its field
+abbrev pub column_part : Option Text → Text
+column_part None = codes "field"
+column_part (Some pointer) = codes "extension metadata"
 
 -- the part of the file or of the column's metadata, as reports have it
 abbrev pub part_in : Finding → Option Text
-part_in (of.Column w) = metadata_if (option_map string_bytes w.pointer)
+part_in (of.Column w) = Some (column_part (option_map string_bytes w.pointer))
 part_in (of.Text f) = Some (codes "footer")
 part_in (of.File f) = Some (files.part_text f.place.part)
 part_in (of.Geo version f) = Some (codes "geo")
@@ -70,20 +70,21 @@ found_in (of.Text f) = Some (shown (spelled f.text.bytes.now))
 found_in (of.File f) = option_map string_bytes f.found
 found_in (of.Geo version f) = option_map string_bytes f.found
 
--- what is expected there: that of the code, and behind it in brackets what is wanted there, if it says more
+-- what is expected there: of a column the layout of a name, where one is wanted; else that of the code, and behind it in brackets what is
+-- wanted there, if it says more
 abbrev pub bracketed : Text → Option Text → Text
 bracketed expected None = expected
 bracketed expected (Some wanted) = geo.bracketed expected wanted
 
 abbrev pub expected_in : Finding → Text
-expected_in (of.Column w) = columns.warning_expected w.code
+expected_in (of.Column w) = columns.expected_at w.code w.wanted
 expected_in (of.Text f) = footers.expected_of f.code
 expected_in (of.File f) = bracketed (files.expected_of f.code) (option_map string_bytes f.wanted)
 expected_in (of.Geo version f) = geo.expected_text version f.code (option_map string_bytes f.wanted)
 
 -- what helps, if there is something to say
 abbrev pub help_in : Finding → Option Text
-help_in (of.Column w) = columns.warning_help w.code
+help_in (of.Column w) = columns.help_at w.code w.wanted (option_map string_bytes w.found)
 help_in (of.Text f) = Some (footers.help_of f.code)
 help_in (of.File f) = Some (files.help_of f.code)
 help_in (of.Geo version f) = geo.help_text version f.code (option_map string_bytes f.found)

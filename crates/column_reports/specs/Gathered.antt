@@ -7,7 +7,7 @@ use Rattle.geoparquet.specs.declared.finding.GeoReport.{GeoReport}
 use Rattle.column_reports.specs.declared.finding.Finding.{Finding}
 use Rattle.column_reports.specs.declared.finding.Finding.TheVariants.{Column, Text, File, Geo}
 
--- what is doubtful of a column
+-- what is found of a column
 abbrev pub of_warnings : List Warning → List Finding
 of_warnings ws = map Column ws
 

@@ -5,7 +5,6 @@ pub mod Objects
 pub mod FindingLines
 pub mod FindingWords
 pub mod Gathered
-pub mod Reasons
 pub mod FactMembers
 pub mod Report
 pub mod Summary

@@ -2,7 +2,7 @@
 ghost use Rattle.std.specs.Prelude.{◌≡◌, map, option_map, string_bytes};
 ghost use Rattle.arrow_values.specs.Texts.{text_of};
 ghost use Rattle.column_reports.specs.Found.{code_in, column_in, path_in};
-ghost use Rattle.column_reports.specs.Found.{metadata_if, part_in, pointer_in, byte_in, more_in};
+ghost use Rattle.column_reports.specs.Found.{column_part, part_in, pointer_in, byte_in, more_in};
 
 use crate::code::Code;
 use column_check::Warning;
@@ -13,7 +13,7 @@ use parquet_footer::FooterFinding;
 /// What is found of a column or of a file: a rule that is not kept, where, and what stands there.
 #[derive(Debug, Drop)]
 pub enum Finding<'a> {
-    /// What is doubtful of a column, in the report of that column (docs/FORMAT.md, 2.6).
+    /// What is wrong or doubtful of a column, in the report of that column (docs/FORMAT.md, 2.6).
     Column(Warning),
     /// A text of the footer of a Parquet file that is not UTF-8 (docs/FORMAT.md, 4.3).
     Text(FooterFinding<'a>),
@@ -61,14 +61,14 @@ impl<'a> Finding<'a> {
         }
     }
 
-    /// Returns the part of the file or of the column's metadata, as reports have it: `footer`,
-    /// `ARROW:schema`, `extension metadata` or `geo`, and what else `FilePart::text` of
-    /// `parquet_columns` returns.
+    /// Returns the part of the file or of the column, as reports have it: `footer`, `ARROW:schema`,
+    /// `field`, `extension metadata` or `geo`, and what else `FilePart::text` of `parquet_columns`
+    /// returns.
     pub fn part(&self) -> Option<&'static str>
         ensures { text_of result ≡ part_in self.now }
     {
         match self {
-            Finding::Column(warning) => metadata_if(&warning.pointer),
+            Finding::Column(warning) => Some(column_part(&warning.pointer)),
             Finding::Text(_) => Some("footer"),
             Finding::File(finding) => Some(finding.place.part.text()),
             Finding::Geo(_, _) => Some("geo"),
@@ -109,13 +109,13 @@ impl<'a> Finding<'a> {
     }
 }
 
-/// The extension metadata, where there is a pointer into them.
-fn metadata_if(pointer: &Option<String>) -> Option<&'static str>
-    ensures { text_of result ≡ metadata_if (option_map string_bytes pointer.now) }
+/// The extension metadata of a column, where there is a pointer into them, and else its field.
+fn column_part(pointer: &Option<String>) -> &'static str
+    ensures { result.now ≡ column_part (option_map string_bytes pointer.now) }
 {
     match pointer {
-        Some(_) => Some("extension metadata"),
-        None => None,
+        Some(_) => "extension metadata",
+        None => "field",
     }
 }
 

@@ -9,7 +9,7 @@ use parquet_columns::FileFinding;
 use parquet_footer::FooterFinding;
 use std::alloc::{AllocError, Global};
 
-/// Returns the warnings of a column as findings. Errs only when out of memory.
+/// Returns what is found of a column, as findings. Errs only when out of memory.
 pub(crate) fn of_warnings(
     alloc: Global,
     warnings: Vec<Warning>,

@@ -19,7 +19,7 @@ use std::alloc::{AllocError, Global};
 pub struct Options {
     /// Whether a column without an extension name is taken for what is inferred from its data type.
     pub infer: bool,
-    /// Whether the notes stand among the warnings (docs/FORMAT.md, 2.6).
+    /// Whether notes stand among the findings (docs/FORMAT.md, 2.6).
     pub notes: bool,
 }
 
@@ -33,11 +33,12 @@ pub struct ColumnReport {
     pub finding: column_check::Finding,
     /// What counts of its CRS, its edges and its encoding, and which source says it.
     pub facts: ColumnFacts,
-    /// What is found of it and shown: of what is doubtful, as `warnings` of `column_check` answers it.
+    /// What is found of it and shown: of why it is invalid and of what is doubtful, as `warnings` of
+    /// `column_check` answers it.
     pub findings: Vec<Weighed<'static>>,
 }
 
-/// Returns a column with what is said of it and what is doubtful of it, of a file that has nothing
+/// Returns a column with what is said of it and what is found of it, of a file that has nothing
 /// else to say of it: the facts are those that its field says. The scratch buffer is kept by the caller
 /// from column to column. Errs only when out of memory.
 ///
@@ -65,7 +66,7 @@ pub fn report_column(
     weighed_column(alloc, scratch, column, options.infer, &weights)
 }
 
-/// Returns a column with what is said of it and what is doubtful of it, as it counts by what is asked
+/// Returns a column with what is said of it and what is found of it, as it counts by what is asked
 /// of findings. `infer` and the scratch buffer are as those of [`report_column`]. Errs only when out
 /// of memory.
 pub fn weighed_column(
@@ -81,7 +82,7 @@ pub fn weighed_column(
     column_with(alloc, scratch, column, facts, infer, weights)
 }
 
-/// Returns a column of those facts with what is said of it and what is doubtful of it, as it counts
+/// Returns a column of those facts with what is said of it and what is found of it, as it counts
 /// by what is asked of findings. Errs only when out of memory.
 pub(crate) fn column_with(
     alloc: Global,
