@@ -15,6 +15,7 @@ from unittest import mock
 import geoarrow_fields
 from geoarrow_fields import (
     Column, Finding, InvalidColumns, Reason, Schema, SchemaError, canon, check, library, lines, read, write_schema)
+from geoarrow_fields.columns import columns_of
 
 from .shared import BROKEN, CANON, CRS, DATA, FOUND, NO_GEO_METADATA, OTHER, POINT, TEXT, TOP, said_of, with_crs
 
@@ -110,6 +111,12 @@ class Checks(unittest.TestCase):
         self.assertEqual(column.crs, {"type": "GeographicCRS", "name": "WGS 84", "id": {"authority": "OGC", "code": "CRS84"}, "scope": 1.5})
         self.assertEqual((column.crs_type, column.edges), ("projjson", "spherical"))
         self.assertEqual((column.crs_from, column.edges_from, column.type_from, column.verdicts), ("field", "field", "field", {}))
+        line = (  # (with a value of its own at each key)
+            '{"column":"a","crs":"b","crs_from":"element","crs_type":"c","edges":"d","edges_from":"geo","extension":"e","index":1,"state":"geometry","type":"f",'
+            '"type_from":"field","verdicts":{"crs":{"geo":"agree"}}}\n')
+        self.assertEqual(list(columns_of(line)), [Column(
+            name="a", index=1, state="geometry", type="f", extension="e", edges="d", crs_type="c", crs="b", crs_from="element", edges_from="geo",
+            type_from="field", verdicts={"crs": {"geo": "agree"}})])
         self.assertEqual((column.state, column.is_geometry, column.is_invalid), ("geometry", True, False))
         self.assertIn('"scope":1.50', column.json)
         (column,) = check([with_crs('{ "b" : 1.50 , "a" : "\\u00e9 \\n" , "b" : 2 }')])
