@@ -2,7 +2,7 @@
 """Checks many files, a report for each as it comes, and one summary: examples/many_files.py [--with dask|threads|loop] [--infer] PATH..
 
 A PATH is a file, or a folder with all files in it but those whose names begin with `_` or `.`; `-` is a list of paths on standard input. A report is a
-line of JSON (geoarrow_fields.files): the `file`, its number of `columns`, its `geometries`, its `invalid` columns and what is found in words, of its
+line of JSON (geoarrow_fields.files): the `file`, its number of `columns`, its `geometries`, the names of its `invalid` columns and what is found in words, of its
 columns and of the file, the `errors` apart from the `warnings`; and an `error` where it cannot be read, as one of 0 bytes, which never ends the run. The
 summary is the last line. How far the run is stands on standard error where that is a terminal, and standard output is not. The status is 2 where
 a file cannot be read, 1 where a column is invalid or what is found is an error, otherwise 0.

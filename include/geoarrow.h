@@ -67,7 +67,7 @@ uint8_t geoarrow_run(uint8_t command, const uint8_t *input, size_t input_len, ui
  * each finding beside the columns, in the footer of a Parquet file, in the schema that it stores and in GeoParquet metadata; each with
  * a line feed behind it. Where the file is refused, the line that says why (2.8).
  *
- * A finding is an object, a line of its own, or of a column an item of the array `warnings`, which is the last member of its line. Its
+ * A finding is an object, a line of its own, or of a column an item of the array `findings` of its line, those first that say why it is invalid. Its
  * keys, in this order, of which those that do not apply are left out (5.1): `severity`, that is `error`, `warning` or `note`, and
  * `code`; `file`; the place, that is `column`, `path`, an array of the names of child fields, `in`, the part of the file, `pointer`, a
  * JSON pointer into it, and `byte`, a number; `found`, what stands there, `expected` and `help`, in words; and `more`, how many more of

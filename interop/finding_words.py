@@ -31,17 +31,22 @@ def text_in(cell):
     return found and found[1]
 
 
-# How much each code weighs, but for those of `geo`; what is expected, and what helps.
+# How much each code weighs, but for those of `geo`; what is expected, and what helps: of a column (2.6), and of a file.
 WEIGHS = {text_in(row[0]): row[1] for head in ("code | weighs", "code | severity")
           for row in tables(head)}
-WORDS = {text_in(row[0]): [text_in(cell) for cell in row[1:]]
-         for row in tables("code | expected | help")}
+WORDS = {}
+for row in tables("code | expected | help"):
+    WORDS.setdefault(text_in(row[0]), []).append([text_in(cell) for cell in row[1:]])
+
+
+# The layout of each extension name, which the findings of a layout expect.
+LAYOUTS = {text_in(row[0]): text_in(row[1]) for row in tables("extension name | its layout in words")}
 
 
 def said(code, wanted=None, **parts):
     """A finding by the tables of its code, with what its rule wants there, and the parts that are its
     own."""
-    expected, advice = WORDS[code]
+    expected, advice = WORDS[code][0 if parts.get("in") in ("field", "extension metadata") else -1]
     expected = expected if wanted is None else f"{expected} ({wanted})"
     return {"severity": WEIGHS[code], "code": code, "expected": expected, "help": advice, **parts}
 

@@ -19,11 +19,21 @@ DEFINITIONS = (
     ("parquet_columns/specs/Codes.antt", "code_of", "severity_of", "expected_of", "help_of"))
 
 
+LAYOUTS = "column_check/specs/LayoutWords.antt"
+
+
 def rows(file, name):
     """The rows of a definition: the last word before `=`, and the text or the word behind it."""
     text = (CRATES / file).read_text(encoding="utf-8")
     found = re.findall(f"^{name} (\\S+) = (.*)$", text, re.M)
     return {left.split(".")[-1]: said_in(right) for left, right in found}
+
+
+def of_layouts(file, name):
+    """What a definition over codes has for the faults of layouts."""
+    text = (CRATES / file).read_text(encoding="utf-8")
+    (right,) = re.findall(f"^{name} \\(warnings.Layout fault\\) = (.*)$", text, re.M)
+    return said_in(right)
 
 
 def said_in(right):
@@ -33,16 +43,44 @@ def said_in(right):
 
 class Words(unittest.TestCase):
     def test_codes(self):
+        told = {}
         for file, *names in DEFINITIONS:
             codes, weights, expected, advice = (rows(file, name) for name in names)
             self.assertGreater(len(codes), 1)
             for key, code in codes.items():
-                with self.subTest(code):
-                    self.assertEqual(finding_words.WEIGHS[code], weights[key])
-                    self.assertEqual(finding_words.WORDS[code], [expected[key], advice[key]])
+                told.setdefault(code, []).append([expected[key], advice[key]])
+                self.assertEqual(finding_words.WEIGHS[code], weights[key], code)
+        for code, words in told.items():
+            with self.subTest(code):
+                self.assertEqual(finding_words.WORDS[code], words)
+
+    def test_a_code_of_two_tables(self):
+        expected = [finding_words.said("NestedGeometry", **{"in": part})["expected"] for part in ("field", "elements")]
+        self.assertEqual(expected, ["the name of a column alone", "a column at the root that is not REPEATED"])
+
+    def test_faults_of_layouts(self):
+        file, code_of, severity_of, expected_of, help_of = DEFINITIONS[0]
+        self.assertEqual(of_layouts(file, code_of), "fault_code fault")
+        self.assertEqual(of_layouts(file, help_of), "some (fault_help fault)")
+        advice = rows(LAYOUTS, "fault_help")
+        codes = rows(LAYOUTS, "fault_code")
+        self.assertEqual(len(codes), 11)
+        for key, code in codes.items():
+            with self.subTest(code):
+                self.assertEqual(finding_words.WEIGHS[code], of_layouts(file, severity_of))
+                words = [of_layouts(file, expected_of), advice[key]]
+                self.assertEqual(finding_words.WORDS[code], [words])
+
+    def test_layouts(self):
+        lists, others = rows(LAYOUTS, "lists_text"), rows(LAYOUTS, "layout_text")
+        told = {name.lower(): text for name, text in (*lists.items(), *others.items())}
+        told["box"] = told.pop("rect")
+        told = {f"geoarrow.{name}": text for name, text in told.items()}
+        self.assertEqual(told, finding_words.LAYOUTS)
 
     def test_each_code_has_words(self):
         told = {code for file, name, *_ in DEFINITIONS for code in rows(file, name).values()}
+        told |= set(rows(LAYOUTS, "fault_code").values())
         self.assertEqual(told, set(finding_words.WORDS))
 
 

@@ -4,14 +4,14 @@ The first example of the README: a table
   column     holds                                     CRS        edges
   id         int64
   outline    multipolygon interleaved XYZ              EPSG:4326  spherical
-      warning[NullableInner] at item: found nullable; expected not null
+      warning[NullableInner] at item, field: found nullable; expected not null
   any        geometry separated -                                 planar
   footprint  wkb - -                                              planar
   label      invalid geoarrow.wkb
-      well-known binary needs a binary type, and well-known text a text type
+      error[WrongStorage] field: found utf8; expected binary, large_binary or binary_view. For WKT use geoarrow.wkt.
   track      struct<x: float64 not null, y: float64..
   broken     invalid geoarrow.geometry
-      union has no members
+      error[EmptyUnion] field: found dense_union<>; expected union whose type ids are among 1 to 7, 11 to 17, 21 to 27 and 31 to 37. The union has no members.
   [1]
 
 Several files, each under its name; a CRS by its code, its name or its text; an extension; what is inferred; places of faults; names that control terminals
@@ -37,8 +37,8 @@ Several files, each under its name; a CRS by its code, its name or its text; an 
       warning[CrsNumber] extension metadata /crs: found 4326.5; expected an object or a text
   flag?[1m  extension arrow.bool8
   bad       invalid geoarrow.linestring
-      unexpected number of fields at v
-      unknown edges
+      error[BadFieldCount] at v, field: found struct<>; expected list<coordinates>. The number of the fields is that of no dimension.
+      error[UnknownEdges] extension metadata /edges: found 1; expected andoyer, karney, spherical, thomas or vincenty. Leave it out where edges are planar.
   two:
   column  holds              CRS  edges
   wkt     taken for wkt - -       planar
@@ -98,7 +98,7 @@ Columns of other types as lines, which are read back
   $ echo '{"metadata":{"ARROW:extension:name":"geoarrow.point"},"name":"p","nullable":true,"type":{"other":"map<e: null>"}}' | geoarrow_check -
   column  holds                   CRS  edges
   p       invalid geoarrow.point
-      no layout of GeoArrow has this type
+      error[UnsupportedType] field: found map<e: null>; expected coordinates. No layout of GeoArrow has this type.
   [1]
 
 What a column is expected to hold: parts in any order
@@ -165,12 +165,12 @@ Lines of JSON
 
   $ geoarrow_check --json --infer ../examples/schema.jsonl
   {"column":"id","file":"../examples/schema.jsonl","index":0,"state":"plain","type":"int64"}
-  {"column":"outline","crs":"EPSG:4326","crs_from":"field","crs_type":"authority_code","edges":"spherical","edges_from":"field","extension":"geoarrow.multipolygon","file":"../examples/schema.jsonl","index":1,"state":"geometry","type":"multipolygon interleaved XYZ","type_from":"field","warnings":[{"severity":"warning","code":"NullableInner","path":["item"],"found":"nullable","expected":"not null"}]}
+  {"column":"outline","crs":"EPSG:4326","crs_from":"field","crs_type":"authority_code","edges":"spherical","edges_from":"field","extension":"geoarrow.multipolygon","file":"../examples/schema.jsonl","findings":[{"severity":"warning","code":"NullableInner","path":["item"],"in":"field","found":"nullable","expected":"not null"}],"index":1,"state":"geometry","type":"multipolygon interleaved XYZ","type_from":"field"}
   {"column":"any","edges":"planar","extension":"geoarrow.geometry","file":"../examples/schema.jsonl","index":2,"state":"geometry","type":"geometry separated -","type_from":"field"}
   {"column":"footprint","edges":"planar","edges_from":"field","extension":"geoarrow.wkb","file":"../examples/schema.jsonl","index":3,"state":"geometry","type":"wkb - -","type_from":"field"}
-  {"column":"label","extension":"geoarrow.wkb","file":"../examples/schema.jsonl","index":4,"reasons":[{"code":"WrongStorage","message":"well-known binary needs a binary type, and well-known text a text type","path":[]}],"state":"invalid","type":"utf8"}
+  {"column":"label","extension":"geoarrow.wkb","file":"../examples/schema.jsonl","findings":[{"severity":"error","code":"WrongStorage","in":"field","found":"utf8","expected":"binary, large_binary or binary_view","help":"For WKT use geoarrow.wkt."}],"index":4,"state":"invalid","type":"utf8"}
   {"column":"track","edges":"planar","file":"../examples/schema.jsonl","index":5,"state":"inferred","type":"point separated XYM"}
-  {"column":"broken","extension":"geoarrow.geometry","file":"../examples/schema.jsonl","index":6,"reasons":[{"code":"EmptyUnion","message":"union has no members","path":[]}],"state":"invalid","type":"dense_union<>"}
+  {"column":"broken","extension":"geoarrow.geometry","file":"../examples/schema.jsonl","findings":[{"severity":"error","code":"EmptyUnion","in":"field","found":"dense_union<>","expected":"union whose type ids are among 1 to 7, 11 to 17, 21 to 27 and 31 to 37","help":"The union has no members."}],"index":6,"state":"invalid","type":"dense_union<>"}
   [1]
 
 Standard input has no name; a stream is told from lines by its first bytes
@@ -228,16 +228,16 @@ What is said with notes alone: a number in a CRS that is not whole
   column  holds    CRS        edges
   g       wkb - -  EPSG:4326  planar
   e       wkb - -             planar
-      warning[MetadataEmpty]: found ""; expected no metadata, or {}. It is read as no metadata.
+      warning[MetadataEmpty] extension metadata: found ""; expected no metadata, or {}. It is read as no metadata.
   column  holds    CRS        edges
   g       wkb - -  EPSG:4326  planar
       note[CrsNotWhole] extension metadata /crs: expected whole numbers. For this alone read and canon of geoarrow_fields refuse the field; other readers do not.
   e       wkb - -             planar
-      warning[MetadataEmpty]: found ""; expected no metadata, or {}. It is read as no metadata.
+      warning[MetadataEmpty] extension metadata: found ""; expected no metadata, or {}. It is read as no metadata.
   {"column":"g","crs":{"type":"GeographicCRS","name":"WGS 84","id":{"authority":"EPSG","code":4326},"scale":0.5},"crs_from":"field","edges":"planar","edges_from":"field","extension":"geoarrow.wkb","index":0,"state":"geometry","type":"wkb - -","type_from":"field"}
-  {"column":"e","edges":"planar","extension":"geoarrow.wkb","index":1,"state":"geometry","type":"wkb - -","type_from":"field","warnings":[{"severity":"warning","code":"MetadataEmpty","found":"\"\"","expected":"no metadata, or {}","help":"It is read as no metadata."}]}
-  {"column":"g","crs":{"type":"GeographicCRS","name":"WGS 84","id":{"authority":"EPSG","code":4326},"scale":0.5},"crs_from":"field","edges":"planar","edges_from":"field","extension":"geoarrow.wkb","index":0,"state":"geometry","type":"wkb - -","type_from":"field","warnings":[{"severity":"note","code":"CrsNotWhole","in":"extension metadata","pointer":"/crs","expected":"whole numbers","help":"For this alone read and canon of geoarrow_fields refuse the field; other readers do not."}]}
-  {"column":"e","edges":"planar","extension":"geoarrow.wkb","index":1,"state":"geometry","type":"wkb - -","type_from":"field","warnings":[{"severity":"warning","code":"MetadataEmpty","found":"\"\"","expected":"no metadata, or {}","help":"It is read as no metadata."}]}
+  {"column":"e","edges":"planar","extension":"geoarrow.wkb","findings":[{"severity":"warning","code":"MetadataEmpty","in":"extension metadata","pointer":"","found":"\"\"","expected":"no metadata, or {}","help":"It is read as no metadata."}],"index":1,"state":"geometry","type":"wkb - -","type_from":"field"}
+  {"column":"g","crs":{"type":"GeographicCRS","name":"WGS 84","id":{"authority":"EPSG","code":4326},"scale":0.5},"crs_from":"field","edges":"planar","edges_from":"field","extension":"geoarrow.wkb","findings":[{"severity":"note","code":"CrsNotWhole","in":"extension metadata","pointer":"/crs","expected":"whole numbers","help":"For this alone read and canon of geoarrow_fields refuse the field; other readers do not."}],"index":0,"state":"geometry","type":"wkb - -","type_from":"field"}
+  {"column":"e","edges":"planar","extension":"geoarrow.wkb","findings":[{"severity":"warning","code":"MetadataEmpty","in":"extension metadata","pointer":"","found":"\"\"","expected":"no metadata, or {}","help":"It is read as no metadata."}],"index":1,"state":"geometry","type":"wkb - -","type_from":"field"}
 
 Names of files that would control a terminal, or stand on two lines: above a table, and in all that is said
 
@@ -496,7 +496,8 @@ The status by what is found, notes too, of the files of a row each: how many, th
   >     geoarrow_check --quiet file
   >     echo $?
   > done | LC_ALL=C sort | uniq -c
-       48 0
+       52 0
+        1 1
         4 ArrowSchemaContradicts 1
         1 ArrowSchemaContradicts CrsContradicts 1
         2 ArrowSchemaContradicts GeoLayout 1
@@ -506,7 +507,7 @@ The status by what is found, notes too, of the files of a row each: how many, th
         1 ArrowSchemaNames GeoNotInFooter 0
         1 ArrowSchemaNames NameNotText 1
         2 ArrowSchemaUnreadable 1
-       12 CrsContradicts 1
+       14 CrsContradicts 1
         1 CrsContradicts GeoCrs 1
         1 CrsContradicts GeoOldVersion 1
         4 CrsKeyMissing 1
@@ -514,7 +515,11 @@ The status by what is found, notes too, of the files of a row each: how many, th
         2 CrsNotCompared 0
        11 EdgesContradict 1
         1 EdgesContradict EdgesOnProjected GeoColumnRepeated 1
-        2 EmptyGroup 0
+        3 ElementInvalid 1
+        1 ElementInvalid EmptyGroup 1
+        1 ElementInvalid NestedGeometry 1
+        1 EmptyGroup 0
+        1 EmptyGroup NestedGeometry 0
         2 EncodingContradicts 1
         1 EncodingContradicts GeoLayout 1
         1 GeoColumnMissing 1
@@ -529,7 +534,7 @@ The status by what is found, notes too, of the files of a row each: how many, th
         2 GeoCrs 1
         2 GeoEdges 1
         5 GeoEncoding 1
-        5 GeoLayout 1
+        6 GeoLayout 1
         1 GeoLayout LogicalTypeInvalid 1
         1 GeoNewVersion 0
         1 GeoNotInFooter 0
@@ -542,7 +547,8 @@ The status by what is found, notes too, of the files of a row each: how many, th
         1 GeoVersion 1
         1 KeyNotText 0
         3 LogicalTypeInvalid 1
-        3 NoGeoMetadata 0
+        1 NestedGeometry 0
+        5 NoGeoMetadata 0
         2 RepeatedKey 0
         1 TypesContradict 1
         1 UnknownAlgorithm 0
@@ -608,12 +614,29 @@ A note that is denied is shown, whether notes are or not; all warnings are no no
   0
 
   $ cd "$TMPDIR" && echo '{"metadata":{"ARROW:extension:metadata":"","ARROW:extension:name":"geoarrow.wkb"},"name":"e","nullable":true,"type":"binary"}' | geoarrow_check --json --deny MetadataEmpty -
-  {"column":"e","edges":"planar","extension":"geoarrow.wkb","index":0,"state":"geometry","type":"wkb - -","type_from":"field","warnings":[{"severity":"error","code":"MetadataEmpty","found":"\"\"","expected":"no metadata, or {}","help":"It is read as no metadata."}]}
+  {"column":"e","edges":"planar","extension":"geoarrow.wkb","findings":[{"severity":"error","code":"MetadataEmpty","in":"extension metadata","pointer":"","found":"\"\"","expected":"no metadata, or {}","help":"It is read as no metadata."}],"index":0,"state":"geometry","type":"wkb - -","type_from":"field"}
   [1]
 
-The reasons of an invalid column and those why a file is refused are no codes of findings; nothing is read
+Why a column is invalid is a finding too: it is allowed or denied as others are, and the column counts as before
 
-  $ for word in GeoTyps MixedWidths EmptyFile Warnings all ''
+  $ cd "$TMPDIR" && echo '{"metadata":{"ARROW:extension:name":"geoarrow.wkb"},"name":"label","nullable":true,"type":"utf8"}' > invalid
+  > for words in '' '--deny WrongStorage' '--allow WrongStorage' '--allow warnings'
+  > do
+  >     geoarrow_check --json $words invalid
+  >     echo $?
+  > done
+  {"column":"label","extension":"geoarrow.wkb","file":"invalid","findings":[{"severity":"error","code":"WrongStorage","in":"field","found":"utf8","expected":"binary, large_binary or binary_view","help":"For WKT use geoarrow.wkt."}],"index":0,"state":"invalid","type":"utf8"}
+  1
+  {"column":"label","extension":"geoarrow.wkb","file":"invalid","findings":[{"severity":"error","code":"WrongStorage","in":"field","found":"utf8","expected":"binary, large_binary or binary_view","help":"For WKT use geoarrow.wkt."}],"index":0,"state":"invalid","type":"utf8"}
+  1
+  {"column":"label","extension":"geoarrow.wkb","file":"invalid","index":0,"state":"invalid","type":"utf8"}
+  1
+  {"column":"label","extension":"geoarrow.wkb","file":"invalid","findings":[{"severity":"error","code":"WrongStorage","in":"field","found":"utf8","expected":"binary, large_binary or binary_view","help":"For WKT use geoarrow.wkt."}],"index":0,"state":"invalid","type":"utf8"}
+  1
+
+Why a file is refused has no code of findings; nothing is read
+
+  $ for word in GeoTyps EmptyFile Warnings all ''
   > do
   >     for option in --deny --allow
   >     do
@@ -625,8 +648,6 @@ The reasons of an invalid column and those why a file is refused are no codes of
     tip: a similar code exists: 'GeoTypes'
   error: 'GeoTyps' is no code
     tip: a similar code exists: 'GeoTypes'
-  error: 'MixedWidths' is no code
-  error: 'MixedWidths' is no code
   error: 'EmptyFile' is no code
   error: 'EmptyFile' is no code
   error: 'Warnings' is no code
@@ -648,7 +669,7 @@ The codes of findings, without a file: those of the tables of docs/FORMAT.md, in
 
   $ geoarrow_check --codes > "$TMPDIR/codes" && geoarrow_check --codes x --json | cmp - "$TMPDIR/codes"
 
-  $ for code in GeoEpoch CrsNotWhole KeyNotText RepeatedKey
+  $ for code in GeoEpoch CrsNotWhole KeyNotText RepeatedKey MixedWidths WrongStorage
   > do
   >     geoarrow_check --explain $code
   > done
@@ -668,6 +689,13 @@ The codes of findings, without a file: those of the tables of docs/FORMAT.md, in
   expected: one value of the key
   help: The last counts here; other readers take the first.
   docs/FORMAT.md, 4.5
+  error[MixedWidths]: list widths differ
+  expected: the layout of its extension name
+  help: A list and the list in it are of different widths.
+  docs/FORMAT.md, 2.6
+  error[WrongStorage]: well-known binary needs a binary type, and well-known text a text type
+  expected: the layout of its extension name
+  docs/FORMAT.md, 2.6
 
 A code of columns and of GeoParquet metadata alike: what is known of both
 

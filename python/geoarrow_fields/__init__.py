@@ -13,13 +13,13 @@ from typing import Any, Iterable, Union
 
 from . import library, sources
 from .c_schema import SchemaError
-from .columns import Column, Columns, Finding, Reason, columns_of
+from .columns import Column, Columns, Finding, columns_of
 from .library import Command
 from .refusals import InvalidColumns, RefusedSource, moved
 from .schema_lines import Schema, lines
 
 __all__ = [
-    "Column", "Columns", "Finding", "InvalidColumns", "Reason", "RefusedSource", "Schema", "SchemaError", "canon", "check", "lines", "read", "write_schema"]
+    "Column", "Columns", "Finding", "InvalidColumns", "RefusedSource", "Schema", "SchemaError", "canon", "check", "lines", "read", "write_schema"]
 
 __version__ = "2.0.0"
 
@@ -34,10 +34,10 @@ def check(source: Any, infer: bool = False, strict: bool = False, notes: bool = 
     - the bytes of one, or an object whose buffer they are, as an array of bytes;
     - lines in a list or a tuple;
     - an object that gives a schema, a field or an array over Arrow's C data interface, such as one of pyarrow or polars (`lines`).
-    Of a file only the bytes that say what its columns are are read. What is found in a column are its `warnings`; `findings` of what is answered are what is
-    found beside the columns, in the footer of a Parquet file, in the schema that it stores and in its GeoParquet metadata. With `infer`, a column without an
+    Of a file only the bytes that say what its columns are are read. What is found in a column are its `findings`, why it is invalid first; `findings` of what is answered
+    are what is found beside the columns, in the footer of a Parquet file, in the schema that it stores and in its GeoParquet metadata. With `infer`, a column without an
     extension name is taken for what is inferred from its data type. With `strict`, `InvalidColumns` is raised where one is invalid. With `notes`, what is only
-    worth to know is among the warnings of a column and the findings.
+    worth to know is among the findings.
 
     A list without lines and a schema without columns have no columns; a file or bytes that are empty, or blank lines alone, are refused.
 

@@ -9,24 +9,11 @@ from . import tables
 
 
 @dataclasses.dataclass(frozen=True)
-class Reason:
-    """Why a column is invalid: a code, what it says, and the names of the child fields from the column down to the data type at fault
-    (docs/FORMAT.md, 2.5)."""
-
-    code: str
-    message: str
-    path: Tuple[str, ...] = ()
-
-    def __str__(self) -> str:
-        return self.message + (f" at {'.'.join(self.path)}" if self.path else "")
-
-
-@dataclasses.dataclass(frozen=True)
 class Finding:
     """What is found in a file or in one of its columns: its severity, `error`, `warning` or `note`, and its code; the place, that is the name of the
     column, the names of the child fields down from it, the source, as `geo` or `footer`, the JSON pointer into it, and the byte; what stands there, what is
     expected, and what helps; and how many more there are of its code that are not told one by one. What does not apply is None, or empty, or 0. The
-    `warnings` of a column do not name it. `json` is the object of the report (docs/FORMAT.md, 5.1)."""
+    `findings` of a column do not name it. `json` is the object of the report (docs/FORMAT.md, 5.1)."""
 
     severity: str
     code: str
@@ -94,8 +81,7 @@ class Column(_OfALine):
     edges: Optional[str] = dataclasses.field(default_factory=_none)
     crs_type: Optional[str] = dataclasses.field(default_factory=_none)
     crs: Any = dataclasses.field(default_factory=_none)
-    reasons: Tuple[Reason, ...] = dataclasses.field(default_factory=tuple)
-    warnings: Tuple[Finding, ...] = dataclasses.field(default_factory=tuple)
+    findings: Tuple[Finding, ...] = dataclasses.field(default_factory=tuple)
     crs_from: Optional[str] = dataclasses.field(default_factory=_none)
     edges_from: Optional[str] = dataclasses.field(default_factory=_none)
     type_from: Optional[str] = dataclasses.field(default_factory=_none)
@@ -112,8 +98,8 @@ class Column(_OfALine):
 
     @property
     def is_error(self) -> bool:
-        """Whether it counts for the status: it is invalid, or one of its warnings is an error."""
-        return self.is_invalid or any(one.is_error for one in self.warnings)
+        """Whether it counts for the status: it is invalid, or one of its findings is an error."""
+        return self.is_invalid or any(one.is_error for one in self.findings)
 
     def __getattr__(self, name: str) -> Any:
         """An attribute that is not there yet: those of the line are made."""
@@ -171,8 +157,7 @@ def _attributes(line: str) -> Dict[str, Any]:
     return {
         "name": said["column"], "index": said["index"], "state": said["state"], "type": said["type"], "extension": known("extension"),
         "edges": known("edges"), "crs_type": known("crs_type"), "crs": known("crs"), "crs_from": known("crs_from"), "edges_from": known("edges_from"),
-        "type_from": known("type_from"), "verdicts": known("verdicts", {}), "reasons": _reasons(said["reasons"]) if "reasons" in said else (),
-        "warnings": tuple(_warnings(line)) if "warnings" in said else ()}
+        "type_from": known("type_from"), "verdicts": known("verdicts", {}), "findings": tuple(_findings(line)) if "findings" in said else ()}
 
 
 def _finding(line: str) -> Finding:
@@ -180,12 +165,12 @@ def _finding(line: str) -> Finding:
     return _finding_of(_json(line)[0], line)
 
 
-_WARNINGS = ',"warnings":['
+_FINDINGS = ',"findings":['
 
 
-def _warnings(line: str) -> Iterator[Finding]:
-    """The findings of the line of a column that has some: of its members their array is the last."""
-    at = line.rindex(_WARNINGS) + len(_WARNINGS)
+def _findings(line: str) -> Iterator[Finding]:
+    """The findings of the line of a column that has some: behind their array no member has such a key in it, as the CRS before it may."""
+    at = line.rindex(_FINDINGS) + len(_FINDINGS)
     while line[at - 1] != "]":
         said, end = _json(line, at)
         yield _finding_of(said, line[at:end])
@@ -200,10 +185,6 @@ def _finding_of(said: Dict[str, Any], text: str) -> Finding:
         known("expected"), known("help"), known("more", 0), text)
 
 
-def _reasons(said: List[Dict[str, Any]]) -> Tuple[Reason, ...]:
-    return tuple(Reason(one["code"], one["message"], tuple(one["path"])) for one in said)
-
-
 def _row(column: Column) -> tables.Row:
     """What a table shows of a column: its cells, and the lines below them."""
     holds = column.type
@@ -212,4 +193,4 @@ def _row(column: Column) -> tables.Row:
     elif column.state == "inferred":
         holds = f"taken for {column.type}"
     crs = "unknown" if column.crs is None and column.crs_from else tables.crs_name(column.crs)
-    return (column.name, holds, crs, column.edges or ""), [str(one) for one in (*column.reasons, *column.warnings)]
+    return (column.name, holds, crs, column.edges or ""), [str(one) for one in column.findings]

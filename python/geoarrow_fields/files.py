@@ -3,8 +3,8 @@
     reports(paths)         a report for each file; what is wrong with one is said in its report, and never raised
     paths_of(words)        the files that paths and folders name
 
-A report is a dict that JSON can hold: the `file`, its number of `columns`, its `geometries`, its `invalid` columns and what is found in words, of its columns and
-behind these of the file, the `errors` apart from the `warnings`; and an `error` where it cannot be read, else None.
+A report is a dict that JSON can hold: the `file`, its number of `columns`, its `geometries`, the names of its `invalid` columns and what is found in words, of its
+columns, with why they are invalid, and behind these of the file, the `errors` apart from the `warnings`; and an `error` where it cannot be read, else None.
 """
 import dataclasses
 import os
@@ -27,8 +27,8 @@ def report(path: str, infer: bool = False) -> Report:
     except Exception as error:  # whatever it is, the next file is checked
         return failed(path, error)
     geometries = [f"{one.name}: {one.type}" for one in columns if one.state in ("geometry", "inferred")]
-    invalid = [f"{one.name}: {', '.join(map(str, one.reasons))}" for one in columns if one.is_invalid]
-    of_columns = [dataclasses.replace(found, column=one.name) for one in columns for found in one.warnings]
+    invalid = [one.name for one in columns if one.is_invalid]
+    of_columns = [dataclasses.replace(found, column=one.name) for one in columns for found in one.findings]
     found = [*of_columns, *columns.findings]
     errors = [str(one) for one in found if one.is_error]
     warnings = [str(one) for one in found if not one.is_error]

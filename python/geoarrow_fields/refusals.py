@@ -49,7 +49,7 @@ class InvalidColumns(ValueError):
 
     def __init__(self, columns: List[Column]) -> None:
         self.columns = columns
-        super().__init__("; ".join(f"{one.name!r}: {', '.join(map(str, one.reasons))}" for one in columns))
+        super().__init__("; ".join(f"{one.name!r}: {', '.join(str(found) for found in one.findings if found.is_error)}" for one in columns))
 
     def __reduce__(self) -> Tuple[Any, ...]:
         return InvalidColumns, (self.columns,)

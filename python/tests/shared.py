@@ -17,6 +17,10 @@ OTHER = '{"name":"at","nullable":true,"type":{"other":"timestamp[ms, tz=UTC]"}}'
 BROKEN = '{"metadata":{"ARROW:extension:metadata":"{\\"edges\\":1}","ARROW:extension:name":"geoarrow.linestring"},"name":"b","nullable":true,"type":{"list":{"name":"v","nullable":true,"type":{"struct":[]}}}}'
 CRS = '{"metadata":{"ARROW:extension:metadata":"{\\"crs\\":{\\"type\\":\\"GeographicCRS\\",\\"name\\":\\"WGS 84\\",\\"id\\":{\\"authority\\":\\"OGC\\",\\"code\\":\\"CRS84\\"},\\"scope\\":1.50},\\"crs_type\\":\\"projjson\\",\\"edges\\":\\"spherical\\"}","ARROW:extension:name":"geoarrow.wkb"},"name":"g","nullable":true,"type":"binary"}'
 
+# Why BROKEN is invalid, in words (docs/FORMAT.md, 2.6).
+BROKEN_FOUND = (
+    "error[BadFieldCount] at v, field: found struct<>; expected list<coordinates>. The number of the fields is that of no dimension.",
+    "error[UnknownEdges] extension metadata /edges: found 1; expected andoyer, karney, spherical, thomas or vincenty. Leave it out where edges are planar.")
 # What is noted of CRS, in words (docs/FORMAT.md, 2.6).
 NOT_WHOLE = "note[CrsNotWhole] extension metadata /crs: expected whole numbers. For this alone read and canon of geoarrow_fields refuse the field; other readers do not."
 NO_GEO_METADATA = Finding("warning", "NoGeoMetadata", source="geo", pointer="", expected="metadata of GeoParquet at the key geo")

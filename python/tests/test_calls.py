@@ -14,10 +14,10 @@ from unittest import mock
 
 import geoarrow_fields
 from geoarrow_fields import (
-    Column, Finding, InvalidColumns, Reason, Schema, SchemaError, canon, check, library, lines, read, write_schema)
+    Column, Finding, InvalidColumns, Schema, SchemaError, canon, check, library, lines, read, write_schema)
 from geoarrow_fields.columns import columns_of
 
-from .shared import BROKEN, CANON, CRS, DATA, FOUND, NO_GEO_METADATA, OTHER, POINT, TEXT, TOP, said_of, with_crs
+from .shared import BROKEN, BROKEN_FOUND, CANON, CRS, DATA, FOUND, NO_GEO_METADATA, OTHER, POINT, TEXT, TOP, said_of, with_crs
 
 
 class Answers(unittest.TestCase):
@@ -44,9 +44,9 @@ class Answers(unittest.TestCase):
 
 class Checks(unittest.TestCase):
     def test_sources(self):
-        nullable = Finding("warning", "NullableInner", path=("xy",), found="nullable", expected="not null")
+        nullable = Finding("warning", "NullableInner", path=("xy",), source="field", found="nullable", expected="not null")
         wanted = [
-            Column("t", 0, "plain", "utf8"), Column("p", 1, "geometry", "point interleaved XY", "geoarrow.point", "planar", warnings=(nullable,), type_from="field")]
+            Column("t", 0, "plain", "utf8"), Column("p", 1, "geometry", "point interleaved XY", "geoarrow.point", "planar", findings=(nullable,), type_from="field")]
         text = f"{TEXT}\n{POINT}\n"
         stream = write_schema([TEXT, POINT])
         given = text.encode()
@@ -91,14 +91,14 @@ class Checks(unittest.TestCase):
                     self.assertEqual((found, found.findings), (wanted, wanted.findings))
 
     def test_notes(self):
-        self.assertEqual([one.code for one in check([CRS])[0].warnings], [])
-        self.assertEqual([one.code for one in check([CRS], notes=True)[0].warnings], ["CrsNotWhole"])
-        self.assertEqual([one.code for one in check([TEXT], infer=True, notes=True)[0].warnings], [])
+        self.assertEqual([one.code for one in check([CRS])[0].findings], [])
+        self.assertEqual([one.code for one in check([CRS], notes=True)[0].findings], ["CrsNotWhole"])
+        self.assertEqual([one.code for one in check([TEXT], infer=True, notes=True)[0].findings], [])
 
     def test_empty_metadata(self):
         line = CANON.replace('{"ARROW', '{"ARROW:extension:metadata":"","ARROW')
         (column,) = check([line])
-        self.assertEqual((column.state, [one.code for one in column.warnings]), ("geometry", ["MetadataEmpty"]))
+        self.assertEqual((column.state, [one.code for one in column.findings]), ("geometry", ["MetadataEmpty"]))
         self.assertEqual(read(line), "error arrow")
 
     def test_what_is_inferred(self):
@@ -125,29 +125,31 @@ class Checks(unittest.TestCase):
     def test_a_crs_with_the_largest_number(self):
         column, other = check([with_crs('{"a":%s,"b":7}' % ("1" * 309)), with_crs("1" * 310)])
         self.assertEqual(column.crs, {"a": int("1" * 309), "b": 7})
-        self.assertEqual([one.code for one in other.reasons], ["MetadataNotJson"])
+        self.assertEqual([one.code for one in other.findings], ["MetadataNotJson"])
 
     def test_reasons(self):
         (column,) = check([BROKEN])
-        self.assertEqual([one.code for one in column.reasons], ["BadFieldCount", "UnknownEdges"])
-        self.assertEqual(column.reasons[0], Reason("BadFieldCount", "unexpected number of fields", ("v",)))
+        self.assertEqual([one.code for one in column.findings], ["BadFieldCount", "UnknownEdges"])
+        self.assertEqual(column.findings[0], Finding(
+            "error", "BadFieldCount", path=("v",), source="field", found="struct<>", expected="list<coordinates>",
+            help="The number of the fields is that of no dimension."))
         self.assertIs(column.is_invalid, True)
         self.assertIs(column.is_geometry, False)
 
     def test_a_warning_that_stands_for_more(self):
         (column,) = check([TEXT.replace('"utf8"', '{"struct":[%s]}' % ",".join([CANON] * 20))])
         nested = Finding(
-            "warning", "NestedGeometry", path=(json.loads(CANON)["name"],), found="geoarrow.point", expected="the name of a column alone",
+            "warning", "NestedGeometry", path=(json.loads(CANON)["name"],), source="field", found="geoarrow.point", expected="the name of a column alone",
             help="GeoParquet takes columns at the root alone.")
-        self.assertEqual(column.warnings, (nested,) * 15 + (dataclasses.replace(nested, more=4),))
+        self.assertEqual(column.findings, (nested,) * 15 + (dataclasses.replace(nested, more=4),))
         self.assertEqual((column.is_invalid, column.is_error), (False, False))
-        self.assertEqual(column.json[-10:], ',"more":4}]}'[-10:])
+        self.assertIn(',"more":4}],"index":', column.json)
 
     def test_a_column_with_an_error(self):
         given = [CANON.replace('"type":"float64"', '"type":"int64"')]
         (column,) = check(given)
         self.assertEqual((column.state, column.is_invalid, column.is_error), ("geometry", False, True))
-        self.assertEqual([(one.severity, one.code) for one in column.warnings], [("error", "CoordinatesNotFloat")])
+        self.assertEqual([(one.severity, one.code) for one in column.findings], [("error", "CoordinatesNotFloat")])
         self.assertEqual(check(given, strict=True), [column])
 
     def test_strict(self):
@@ -155,7 +157,7 @@ class Checks(unittest.TestCase):
         with self.assertRaises(InvalidColumns) as caught:
             check([TEXT, BROKEN], strict=True)
         self.assertEqual([one.name for one in caught.exception.columns], ["b"])
-        self.assertEqual(str(caught.exception), "'b': unexpected number of fields at v, unknown edges")
+        self.assertEqual(str(caught.exception), f"'b': {', '.join(BROKEN_FOUND)}")
 
     def test_files_of_arrow(self):
         (column,) = check(DATA / "file.arrow")
@@ -192,7 +194,7 @@ class Checks(unittest.TestCase):
                 self.assertEqual(" & ".join(one.json for one in (*columns, *columns.findings)), wanted)
                 noted |= {one.code for one in columns.findings if one.severity == "note"}
                 self.assertFalse([one for one in check(file).findings if one.severity == "note"])
-                for one in (*columns.findings, *(found for column in columns for found in column.warnings)):
+                for one in (*columns.findings, *(found for column in columns for found in column.findings)):
                     self.assertEqual(said_of(one), one.json)
         self.assertIn("CrsNotCompared", noted)
 
@@ -252,7 +254,7 @@ class Columns(unittest.TestCase):
 
     def test_each_attribute_may_be_the_first(self):
         wanted = Column("t", 0, "plain", "utf8")
-        for name in ("name", "index", "state", "type", "extension", "edges", "crs_type", "crs", "reasons", "warnings", "crs_from", "edges_from", "type_from", "verdicts", "is_geometry", "is_invalid", "is_error"):
+        for name in ("name", "index", "state", "type", "extension", "edges", "crs_type", "crs", "findings", "crs_from", "edges_from", "type_from", "verdicts", "is_geometry", "is_invalid", "is_error"):
             (column,) = check([TEXT])
             self.assertEqual(getattr(column, name), getattr(wanted, name))
         for look in (repr, hash, dataclasses.asdict, lambda one: dataclasses.replace(one, name="u"), lambda one: pickle.loads(pickle.dumps(one)), copy.copy):

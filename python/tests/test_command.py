@@ -165,7 +165,7 @@ class Printed(unittest.TestCase):
         column = '{"column":"g","index":0,"state":"plain","type":"binary"}'
         error = '{"severity":"error","code":"GeoBbox","column":"g","in":"geo","pointer":"/columns/g/bbox","expected":"m"}'
         warning = '{"severity":"warning","code":"NoGeoMetadata","expected":"w"}'
-        doubtful, wrong = (column.replace("}", ',"warnings":[%s]}' % one) for one in (warning, error))
+        doubtful, wrong = (column.replace("}", ',"findings":[%s]}' % one) for one in (warning, error))
         for report, status in (
                 (f"{column}\n{column}\n{warning}\n", 0), (f"{column}\n{error}\n{error}\n{warning}\n", 1), (f"{doubtful}\n{warning}\n", 0),
                 (f"{doubtful}\n{wrong}\n{column}\n{warning}\n", 1)):

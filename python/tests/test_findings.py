@@ -25,9 +25,9 @@ def of_file(*objects):
 
 
 def of_column(*objects, **more):
-    """The column whose warnings are these objects."""
+    """The column whose findings are these objects."""
     members = json.dumps(more, separators=(",", ":"))[1:-1]
-    (column,) = columns_of(COLUMN % f'{"," if more else ""}{members},"warnings":[{",".join(objects)}]' + "\n")
+    (column,) = columns_of(COLUMN % f'{"," if more else ""}{members},"findings":[{",".join(objects)}]' + "\n")
     return column
 
 
@@ -48,7 +48,7 @@ def cases():
 
 class Findings(unittest.TestCase):
     def test_each_key_is_what_it_says(self):
-        for (one,) in (of_file(WHOLE), of_column(WHOLE).warnings):
+        for (one,) in (of_file(WHOLE), of_column(WHOLE).findings):
             self.assertEqual((one, one.json), (SAID, WHOLE))
             self.assertEqual(said_of(one), WHOLE)
         self.assertEqual([field.name for field in dataclasses.fields(Finding)], [
@@ -93,31 +93,31 @@ class Findings(unittest.TestCase):
             self.assertEqual(of_column(LEAST, said, LEAST).is_error, is_error)
 
     def test_a_column_that_is_invalid(self):
-        (invalid,) = columns_of(COLUMN.replace("plain", "invalid") % ',"reasons":[]' + "\n")
-        self.assertEqual((invalid.is_error, invalid.warnings), (True, ()))
+        (invalid,) = columns_of(COLUMN.replace("plain", "invalid") % "" + "\n")
+        self.assertEqual((invalid.is_error, invalid.findings), (True, ()))
 
 
 class OfColumns(unittest.TestCase):
     """The findings of the line of a column."""
 
     def test_each_has_its_object(self):
-        tricky = '{"severity":"error","code":"Two","path":["]}","\\"warnings\\":["],"found":",\\"warnings\\":[{}]","expected":"]"}'
+        tricky = '{"severity":"error","code":"Two","path":["]}","\\"findings\\":["],"found":",\\"findings\\":[{}]","expected":"]"}'
         column = of_column(WHOLE, tricky, LEAST)
-        self.assertEqual([one.json for one in column.warnings], [WHOLE, tricky, LEAST])
-        self.assertEqual([one.code for one in column.warnings], ["One", "Two", "One"])
-        self.assertEqual(column.warnings[1].path, ("]}", '"warnings":['))
-        self.assertEqual(column.warnings[1].found, ',"warnings":[{}]')
+        self.assertEqual([one.json for one in column.findings], [WHOLE, tricky, LEAST])
+        self.assertEqual([one.code for one in column.findings], ["One", "Two", "One"])
+        self.assertEqual(column.findings[1].path, ("]}", '"findings":['))
+        self.assertEqual(column.findings[1].found, ',"findings":[{}]')
 
     def test_a_crs_that_looks_like_findings(self):
-        crs = {"id": [1], "warnings": [json.loads(LEAST)]}
-        self.assertEqual([one.json for one in of_column(WHOLE, crs=crs).warnings], [WHOLE])
-        (column,) = columns_of(COLUMN % (',"crs":{"a":1,"warnings":[%s]}' % LEAST) + "\n")
-        self.assertEqual((column.warnings, column.crs), ((), {"a": 1, "warnings": [json.loads(LEAST)]}))
+        crs = {"id": [1], "findings": [json.loads(LEAST)]}
+        self.assertEqual([one.json for one in of_column(WHOLE, crs=crs).findings], [WHOLE])
+        (column,) = columns_of(COLUMN % (',"crs":{"a":1,"findings":[%s]}' % LEAST) + "\n")
+        self.assertEqual((column.findings, column.crs), ((), {"a": 1, "findings": [json.loads(LEAST)]}))
 
     def test_they_cross_processes(self):
         column = of_column(WHOLE, LEAST)
         other = pickle.loads(pickle.dumps(column))
-        self.assertEqual((other, [one.json for one in other.warnings]), (column, [WHOLE, LEAST]))
+        self.assertEqual((other, [one.json for one in other.findings]), (column, [WHOLE, LEAST]))
 
 
 class OfManyFiles(unittest.TestCase):
@@ -136,7 +136,7 @@ class Shared(unittest.TestCase):
     def test_each_case(self):
         for content, wanted in cases():
             columns = check(content, notes=True)
-            found = [(True, one) for column in columns for one in column.warnings] + [(False, one) for one in columns.findings]
+            found = [(True, one) for column in columns for one in column.findings] + [(False, one) for one in columns.findings]
             self.assertEqual([(of, one.json, str(one)) for of, one in found], wanted)
             self.assertEqual([said_of(one) for _, one in found], [said for _, said, _ in wanted])
             self.assertEqual([one.is_error for _, one in found], [said.startswith('{"severity":"error"') for _, said, _ in wanted])

@@ -16,7 +16,7 @@ from unittest import mock
 
 from geoarrow_fields import files
 
-from .shared import BROKEN, CRS, DATA, FOUND, TEXT, TOP
+from .shared import BROKEN, BROKEN_FOUND, CRS, DATA, FOUND, TEXT, TOP
 
 SCRIPT = TOP / "examples/many_files.py"
 NO_JSON = "line 1, byte 1: is no JSON, or nests more than 127 levels"
@@ -44,7 +44,7 @@ class ManyFiles(unittest.TestCase):
         (self.folder / "g").symlink_to("nowhere")
         shutil.copy(DATA / "geo.parquet", self.folder / "h")
         self.wanted = [
-            self.report("a", 2, ["g: wkb - -"]), self.report("b", 1, invalid=["b: unexpected number of fields at v, unknown edges"]),
+            self.report("a", 2, ["g: wkb - -"]), self.report("b", 1, errors=[one.replace("] ", "] column b, ", 1) for one in BROKEN_FOUND], invalid=["b"]),
             self.report("below/c", error="is empty"), self.report("d\n", 1), self.report("e", 1, ["g: linestring interleaved XYM"]),
             self.report("f", error=f"byte {(DATA / 'file.arrow').stat().st_size - 11}: no whole message"),
             self.report("g", error="No such file or directory"),
@@ -68,7 +68,7 @@ class ManyFiles(unittest.TestCase):
         found, last, status = self.ran("--with", way, self.folder)
         self.assertEqual(found, self.wanted)
         self.assertRegex(last, (
-            r"^8 files: 8 columns, 5 of them geometries; 1 files with invalid columns, 1 with errors found, 3 not read; \d+\.\d s$"))
+            r"^8 files: 8 columns, 5 of them geometries; 1 files with invalid columns, 2 with errors found, 3 not read; \d+\.\d s$"))
         self.assertEqual(status, 2)
 
     def test_a_loop(self):

@@ -156,7 +156,7 @@ class Refused(InAFolder):
         long = r"\u0001" * 30_000
         inside = ",".join(['{"metadata":{"ARROW:extension:name":"geoarrow.wkb"},"name":"k","nullable":true,"type":"binary"}'] * 16)
         struct = '{"struct":[{"name":"%s","nullable":true,"type":{"struct":[%s]}}]}' % (long, inside)
-        stream = write_schema([TEXT.replace('"utf8"', struct)])  # each of its sixteen warnings has the long name in its path
+        stream = write_schema([TEXT.replace('"utf8"', struct)])  # each of its sixteen findings has the long name in its path
         self.judge_each(stream, self.said("ReportTooLarge", "the report would have more than 1048576 bytes and 32 for each byte read"))
 
     def test_the_byte_of_an_arrow_file_is_that_of_the_file(self):

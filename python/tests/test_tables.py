@@ -6,7 +6,7 @@ import unittest
 from geoarrow_fields import Finding, check
 from geoarrow_fields.columns import columns_of
 
-from .shared import BROKEN, CRS, NO_GEO_METADATA, NOT_WHOLE, TEXT, TOP, with_crs
+from .shared import BROKEN, BROKEN_FOUND, CRS, NO_GEO_METADATA, NOT_WHOLE, TEXT, TOP, with_crs
 
 COLUMN = '{"column":"t","index":0,"state":"plain","type":"utf8"}'
 ERROR = '{"severity":"error","code":"GeoBbox","column":"t","in":"geo","pointer":"/columns/t/bbox","found":"[1]","expected":"m","help":"h?"}'
@@ -43,9 +43,9 @@ column  holds                        CRS        edges
 g       wkb - -                      OGC:CRS84  spherical
     %s
 b       invalid geoarrow.linestring
-    unexpected number of fields at v
-    unknown edges
-t       taken for wkt - -                       planar""" % NOT_WHOLE)
+    %s
+    %s
+t       taken for wkt - -                       planar""" % (NOT_WHOLE, *BROKEN_FOUND))
 
     def test_the_table_of_the_readme(self):
         readme = (TOP / "README.md").read_text()
@@ -116,7 +116,7 @@ class Html(unittest.TestCase):
         self.assertEqual(found.cells, [
             "column", "holds", "CRS", "edges",
             "g", "wkb - -", "OGC:CRS84", "spherical", "", NOT_WHOLE,
-            "b", "invalid geoarrow.linestring", "", "", "", "unexpected number of fields at v", "", "unknown edges",
+            "b", "invalid geoarrow.linestring", "", "", "", BROKEN_FOUND[0], "", BROKEN_FOUND[1],
             "t", "taken for wkt - -", "", "planar"])
         self.assertEqual(found.spans, [4] * 7)
 
@@ -126,7 +126,7 @@ class Html(unittest.TestCase):
         given.append(TEXT.replace('"name"', '"metadata":{"ARROW:extension:name":"<u>"},"name"'))
         found = Cells(check(given)._repr_html_())
         self.assertEqual(found.tags, {"table", "thead", "tbody", "tr", "th", "td"})
-        for text in ("<script>\"&amp;'</td>", "<b>", "unexpected number of fields at <i>", "extension <u>"):
+        for text in ("<script>\"&amp;'</td>", "<b>", BROKEN_FOUND[0].replace("at v", "at <i>"), "extension <u>"):
             self.assertIn(text, found.cells)
 
 

@@ -1,5 +1,5 @@
 -- A type is of a kind, or has one fault.
-use Rattle.std.proofs.Common.{◌≡◌, [], sym, ap, ◌∙◌}
+use Rattle.std.proofs.Common.{◌≡◌, []}
 use Rattle.arrow_values.specs.Tree.{Tree}
 use Rattle.arrow_columns.specs.Column.{TypeTree, known, other}
 use Rattle.geoarrow_layout.specs.declared.names.ExtensionName.{ExtensionName}
@@ -8,7 +8,7 @@ use Rattle.geoarrow_layout.specs.declared.fault.LayoutFault.{LayoutFault}
 use Rattle.geoarrow_layout.specs.declared.fault.LayoutFault.TheVariants.{UnexpectedType}
 use Rattle.geoarrow_layout.specs.Kinds.{name_text}
 use Rattle.geoarrow_layout.specs.Candidates.{IsAccepted}
-use Rattle.geoarrow_layout.specs.FaultAt.{Path, FaultAt, names_along}
+use Rattle.geoarrow_layout.specs.FaultAt.{Path, FaultAt}
 use Rattle.column_check.specs.Types.{TypeAccepted, HasTypeFault}
 use Rattle.column_check.specs.Unique.{SameTypeFault}
 use Rattle.column_check.specs.declared.data_type.TypeFault.{TypeFault}
@@ -20,7 +20,7 @@ pub type_apart : ((n : ExtensionName) (t : Tree) (p : Path) (fault : LayoutFault
 type_apart no_fault n (other s) k f h g = absurd h
 type_apart no_fault n (known t) k UnsupportedType h g = absurd g
 type_apart no_fault n (known t) k WrongStorage h g = no_fault n t [] UnexpectedType (k, h) g.1
-type_apart no_fault n (known t) k (Layout fault names) h g = no_fault n t g.1.0 fault (k, h) g.1.1
+type_apart no_fault n (known t) k (Layout fault path) h g = no_fault n t path.items fault (k, h) g.1
 
 -- two faults of a type under a name are the same
 pub one_type_fault : ((n : ExtensionName) (t : Tree) (p q : Path) (f g : LayoutFault) → FaultAt n t p f → FaultAt n t q g → (p ≡ q) × (f ≡ g))
@@ -31,8 +31,8 @@ one_type_fault one_fault n (other s) f g h k = absurd h
 one_type_fault one_fault n (known t) UnsupportedType g h k = absurd h
 one_type_fault one_fault n (known t) f UnsupportedType h k = absurd k
 one_type_fault one_fault n (known t) WrongStorage WrongStorage h k = tt
-one_type_fault one_fault n (known t) WrongStorage (Layout g others) h k = absurd (k.0 h.0)
-one_type_fault one_fault n (known t) (Layout f names) WrongStorage h k = absurd (h.0 k.0)
-one_type_fault one_fault n (known t) (Layout f names) (Layout g others) h k =
-    let same = one_fault n t h.1.0 k.1.0 f g h.1.1 k.1.1 in
-    (same.1, h.1.2 ∙ ap (names_along t) same.0 ∙ sym k.1.2)
+one_type_fault one_fault n (known t) WrongStorage (Layout g second) h k = absurd (k.0 h.0)
+one_type_fault one_fault n (known t) (Layout f path) WrongStorage h k = absurd (h.0 k.0)
+one_type_fault one_fault n (known t) (Layout f path) (Layout g second) h k =
+    let same = one_fault n t path.items second.items f g h.1 k.1 in
+    (same.1, same.0)

@@ -17,7 +17,7 @@ use Rattle.column_check.specs.declared.code.WarningCode.{WarningCode}
 
 -- places that go on from there
 abbrev beyond : Names → List Spot → List Spot
-beyond there spots = map (λ spot. (there ++ spot.0, spot.1, spot.2)) spots
+beyond there spots = map (λ spot. (there ++ spot.0, spot.1, spot.2, spot.3)) spots
 
 beyond_none : (spots : List Spot) → beyond [] spots ≡ spots
 beyond_none [] = refl
@@ -45,7 +45,7 @@ module _ (there : Names) {X : Type 0} (test : X → Bool) (text : X → Text) wh
   at_more parts others =
       ap (λ xs. beyond there (map (λ x. spot_at x.0 (text x.1)) xs)) (filter-append (λ x. test x.1) parts others)
       ∙ ap (beyond there) (map-append (λ x. spot_at x.0 (text x.1)) (filter (λ x. test x.1) parts) (filter (λ x. test x.1) others))
-      ∙ map-append (λ spot. (there ++ spot.0, spot.1, spot.2)) (spots_of test text parts) (spots_of test text others)
+      ∙ map-append (λ spot. (there ++ spot.0, spot.1, spot.2, spot.3)) (spots_of test text parts) (spots_of test text others)
 
   -- a field, behind which stand others
   pub at_field : (name : Text) (x : X) (parts : List (Names × X))

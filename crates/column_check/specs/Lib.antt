@@ -1,6 +1,8 @@
 pub mod Metadata
 pub mod Types
 pub mod OldNames
+pub mod ExtensionNames
+pub mod LayoutWords
 pub mod Finding
 pub mod Severities
 pub mod Unique
@@ -10,6 +12,7 @@ pub mod Parts
 pub mod Said
 pub mod CrsWarnings
 pub mod KeyWarnings
+pub mod ReasonFindings
 pub mod Warnings
 pub mod Walk
 pub mod WarningWords

@@ -3,6 +3,7 @@ use Rattle.std.specs.Prelude.{Bool, List, [], ◌∷◌, ◌++◌, map, Option, 
 use Rattle.std.specs.List.{filter}
 use Rattle.arrow_values.specs.Tree.{Text, Metadata, Tree, plain, list, large_list, fixed_size_list, struct, union, FieldTrees, no_fields, field, MemberTrees, no_members, member}
 use Rattle.arrow_values.specs.declared.tree.UnionMode.{UnionMode}
+use Rattle.geoarrow_layout.specs.declared.names.ExtensionName.{ExtensionName}
 
 -- the names of child fields, outermost first
 abbrev pub Names : Type 0
@@ -90,18 +91,18 @@ abbrev mutual
 
 -- ---- places
 
--- a place: the names of the child fields from the column down to it; or where it is in the extension metadata, as a JSON pointer; and what
--- stands there, as it is shown
+-- a place: the names of the child fields from the column down to it; or where it is in the extension metadata, as a JSON pointer; what
+-- stands there, as it is shown; and the extension name whose layout is wanted there, if one is
 abbrev pub Spot : Type 0
-Spot = Names × Option Text × Option Text
+Spot = Names × Option Text × Option Text × Option ExtensionName
 
 -- below a column, with what is shown
 abbrev pub spot_at : Names → Text → Spot
-spot_at way text = (way, None, Some text)
+spot_at way text = (way, None, Some text, None)
 
 -- in the extension metadata, with what is shown
 abbrev pub spot_in : Text → Option Text → Spot
-spot_in pointer text = ([], Some pointer, text)
+spot_in pointer text = ([], Some pointer, text, None)
 
 -- the places of the parts that pass the test, with what is shown of each
 abbrev pub spots_of : {X : Type 0} → (X → Bool) → (X → Text) → List (Names × X) → List Spot

@@ -1,15 +1,15 @@
--- A warning as contracts see it.
+-- What is found of a column, as contracts see it.
 use Rattle.std.specs.Prelude.{ℕ, zero, suc, ◌-◌, ◌^◌, min, List, [], ◌∷◌, length, map, Bool, option_map, if◌then◌else◌, string_bytes}
 use Rattle.column_check.specs.Parts.{Spot}
 use Rattle.column_check.specs.declared.code.WarningCode.{WarningCode}
 use Rattle.column_check.specs.declared.warning.Warning.{Warning}
 
--- a warning: what is doubtful, where it is and what stands there, and how many more of its code it stands for
+-- a finding: its code, where it is, what stands and what is wanted there, and how many more of its code it stands for
 abbrev pub Said : Type 0
 Said = WarningCode × Spot × ℕ
 
 abbrev pub said : Warning → Said
-said w = (w.code, (map string_bytes w.path.items, option_map string_bytes w.pointer, option_map string_bytes w.found), w.more)
+said w = (w.code, (map string_bytes w.path.items, option_map string_bytes w.pointer, option_map string_bytes w.found, w.wanted), w.more)
 
 -- one at a place, if the test holds
 abbrev pub said_if : WarningCode → Bool → Spot → List Said

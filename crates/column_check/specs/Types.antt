@@ -1,5 +1,5 @@
 -- Of which kind a column's type is under an extension name, and why it is of none.
-use Rattle.std.specs.Prelude.{◌≡◌, ⊤, [], map, Result, Ok, Err, string_bytes}
+use Rattle.std.specs.Prelude.{⊤, [], Result, Ok, Err}
 use Rattle.arrow_columns.specs.Column.{TypeTree, known, other}
 use Rattle.geoarrow_layout.specs.declared.names.ExtensionName.{ExtensionName}
 use Rattle.geoarrow_layout.specs.declared.names.ExtensionName.TheVariants.{Wkb, Wkt}
@@ -7,7 +7,7 @@ use Rattle.geoarrow_layout.specs.declared.native_kinds.Kind.{Kind}
 use Rattle.geoarrow_layout.specs.declared.fault.LayoutFault.TheVariants.{UnexpectedType}
 use Rattle.geoarrow_layout.specs.Kinds.{name_text}
 use Rattle.geoarrow_layout.specs.Shapes.{Accepts}
-use Rattle.geoarrow_layout.specs.FaultAt.{Path, FaultAt, names_along}
+use Rattle.geoarrow_layout.specs.FaultAt.{FaultAt}
 use Rattle.geoarrow_layout.specs.Inferred.{InferredAs}
 use Rattle.column_check.specs.declared.data_type.TypeFault.{TypeFault}
 use Rattle.column_check.specs.declared.data_type.TypeFault.TheVariants.{UnsupportedType, WrongStorage, Layout}
@@ -24,11 +24,11 @@ TypeAccepted n (known t) k = Accepts (name_text n) t k
 TypeAccepted n (other s) k = ⊥
 
 -- why the type is of no kind under the name: it is none of the 26 data types; it is no bytes or no text, under the name of
--- well-known binary or text; or it has a fault at the end of a path of child fields, of which the names are given
+-- well-known binary or text; or it has a fault at the end of that path of child fields
 abbrev pub HasTypeFault : ExtensionName → TypeTree → TypeFault → Type 0
 HasTypeFault n (other s) UnsupportedType = ⊤
 HasTypeFault n (known t) WrongStorage = IsSerialized n × FaultAt n t [] UnexpectedType
-HasTypeFault n (known t) (Layout fault names) = ¬ IsSerialized n × ((p : Path) × FaultAt n t p fault × (map string_bytes names.items ≡ names_along t p))
+HasTypeFault n (known t) (Layout fault path) = ¬ IsSerialized n × FaultAt n t path.items fault
 HasTypeFault n t f = ⊥
 
 -- what a type is read as under a name

@@ -1,5 +1,5 @@
 -- When two findings say the same.
-use Rattle.std.specs.Prelude.{◌≡◌, map, string_bytes, ⊤}
+use Rattle.std.specs.Prelude.{◌≡◌, ⊤}
 use Rattle.column_check.specs.Metadata.{values_of}
 use Rattle.column_check.specs.declared.data_type.TypeFault.{TypeFault}
 use Rattle.column_check.specs.declared.data_type.TypeFault.TheVariants.{UnsupportedType, WrongStorage, Layout}
@@ -13,11 +13,11 @@ use Rattle.column_check.specs.declared.finding.Finding.TheVariants.{Geometry, In
 abbrev pub SameGeometry : GeometryColumn → GeometryColumn → Type 0
 SameGeometry g h = (g.kind ≡ h.kind) × (values_of g.metadata ≡ values_of h.metadata) × (g.metadata.crs ≡ h.metadata.crs)
 
--- the same fault, on the way of the same names
+-- the same fault, on the same path
 abbrev pub SameTypeFault : TypeFault → TypeFault → Type 0
 SameTypeFault UnsupportedType UnsupportedType = ⊤
 SameTypeFault WrongStorage WrongStorage = ⊤
-SameTypeFault (Layout f names) (Layout g others) = (f ≡ g) × (map string_bytes names.items ≡ map string_bytes others.items)
+SameTypeFault (Layout f path) (Layout g other) = (f ≡ g) × (path.items ≡ other.items)
 SameTypeFault _ _ = ⊥
 
 abbrev pub SameReasons : Reasons → Reasons → Type 0

@@ -1,12 +1,25 @@
--- The warnings of a column (docs/FORMAT.md, 2.6): their codes, how much each weighs, what is doubtful, what is expected, and what helps.
+-- What is found of a column (docs/FORMAT.md, 2.6): the codes, how much each weighs, what is wrong or doubtful, what is expected, and what helps.
 use Rattle.std.specs.Prelude.{codes, Option, None, Some}
 use Rattle.arrow_values.specs.Tree.{Text}
+use Rattle.geoarrow_layout.specs.Faults.{fault_text}
+use Rattle.geoarrow_layout.specs.declared.names.ExtensionName.{ExtensionName}
+use Rattle.column_check.specs.LayoutWords.{fault_code, fault_help, layout_text, storage_help}
 use Rattle.column_check.specs.declared.code.Severity.{Severity}
 use Rattle.column_check.specs.declared.code.Severity.TheVariants.{Error, Warning, Note}
 use Rattle.column_check.specs.declared.code.WarningCode.{WarningCode}
 use Rattle.column_check.specs.declared.code.WarningCode.TheVariants as warnings
 
+-- ---- by the code
+
 abbrev pub warning_code : WarningCode → Text
+warning_code warnings.UnknownExtension = codes "UnknownExtension"
+warning_code warnings.UnsupportedType = codes "UnsupportedType"
+warning_code warnings.WrongStorage = codes "WrongStorage"
+warning_code (warnings.Layout fault) = fault_code fault
+warning_code warnings.MetadataNotJson = codes "MetadataNotJson"
+warning_code warnings.MetadataNotObject = codes "MetadataNotObject"
+warning_code warnings.UnknownCrsType = codes "UnknownCrsType"
+warning_code warnings.UnknownEdges = codes "UnknownEdges"
 warning_code warnings.OldExtensionName = codes "OldExtensionName"
 warning_code warnings.MetadataEmpty = codes "MetadataEmpty"
 warning_code warnings.MetadataKeyCase = codes "MetadataKeyCase"
@@ -27,6 +40,14 @@ warning_code warnings.UnionMode = codes "UnionMode"
 warning_code warnings.NestedGeometry = codes "NestedGeometry"
 
 abbrev pub severity_of : WarningCode → Severity
+severity_of warnings.UnknownExtension = Error
+severity_of warnings.UnsupportedType = Error
+severity_of warnings.WrongStorage = Error
+severity_of (warnings.Layout fault) = Error
+severity_of warnings.MetadataNotJson = Error
+severity_of warnings.MetadataNotObject = Error
+severity_of warnings.UnknownCrsType = Error
+severity_of warnings.UnknownEdges = Error
 severity_of warnings.OldExtensionName = Warning
 severity_of warnings.MetadataEmpty = Warning
 severity_of warnings.MetadataKeyCase = Warning
@@ -47,6 +68,14 @@ severity_of warnings.UnionMode = Warning
 severity_of warnings.NestedGeometry = Warning
 
 abbrev pub warning_message : WarningCode → Text
+warning_message warnings.UnknownExtension = codes "GeoArrow has no extension type of this name"
+warning_message warnings.UnsupportedType = codes "no layout of GeoArrow has this type"
+warning_message warnings.WrongStorage = codes "well-known binary needs a binary type, and well-known text a text type"
+warning_message (warnings.Layout fault) = fault_text fault
+warning_message warnings.MetadataNotJson = codes "metadata is not JSON"
+warning_message warnings.MetadataNotObject = codes "metadata is not an object"
+warning_message warnings.UnknownCrsType = codes "unknown crs_type"
+warning_message warnings.UnknownEdges = codes "unknown edges"
 warning_message warnings.OldExtensionName = codes "extension name is an old one"
 warning_message warnings.MetadataEmpty = codes "metadata is an empty text"
 warning_message warnings.MetadataKeyCase = codes "metadata key is one of the format's but for its letters"
@@ -67,6 +96,14 @@ warning_message warnings.UnionMode = codes "union is sparse"
 warning_message warnings.NestedGeometry = codes "child field has a GeoArrow extension name"
 
 abbrev pub warning_expected : WarningCode → Text
+warning_expected warnings.UnknownExtension = codes "geoarrow.point, geoarrow.linestring, geoarrow.polygon, geoarrow.multipoint, geoarrow.multilinestring, geoarrow.multipolygon, geoarrow.geometrycollection, geoarrow.geometry, geoarrow.box, geoarrow.wkb or geoarrow.wkt"
+warning_expected warnings.UnsupportedType = codes "the layout of its extension name"
+warning_expected warnings.WrongStorage = codes "the layout of its extension name"
+warning_expected (warnings.Layout fault) = codes "the layout of its extension name"
+warning_expected warnings.MetadataNotJson = codes "JSON"
+warning_expected warnings.MetadataNotObject = codes "an object"
+warning_expected warnings.UnknownCrsType = codes "projjson, wkt2:2019, authority_code or srid"
+warning_expected warnings.UnknownEdges = codes "andoyer, karney, spherical, thomas or vincenty"
 warning_expected warnings.OldExtensionName = codes "geoarrow.wkb or geoarrow.wkt"
 warning_expected warnings.MetadataEmpty = codes "no metadata, or {}"
 warning_expected warnings.MetadataKeyCase = codes "crs, crs_type or edges"
@@ -87,6 +124,14 @@ warning_expected warnings.UnionMode = codes "a dense union"
 warning_expected warnings.NestedGeometry = codes "the name of a column alone"
 
 abbrev pub warning_help : WarningCode → Option Text
+warning_help warnings.UnknownExtension = Some (codes "Names are compared letter by letter.")
+warning_help warnings.UnsupportedType = Some (codes "No layout of GeoArrow has this type.")
+warning_help warnings.WrongStorage = None
+warning_help (warnings.Layout fault) = Some (fault_help fault)
+warning_help warnings.MetadataNotJson = Some (codes "Keys and texts stand in double quotes.")
+warning_help warnings.MetadataNotObject = None
+warning_help warnings.UnknownCrsType = None
+warning_help warnings.UnknownEdges = Some (codes "Leave it out where edges are planar.")
 warning_help warnings.OldExtensionName = Some (codes "The column is read under the new name.")
 warning_help warnings.MetadataEmpty = Some (codes "It is read as no metadata.")
 warning_help warnings.MetadataKeyCase = Some (codes "The key is passed over.")
@@ -105,3 +150,15 @@ warning_help warnings.AxisNames = Some (codes "Readers go by place.")
 warning_help warnings.NullableInner = None
 warning_help warnings.UnionMode = None
 warning_help warnings.NestedGeometry = Some (codes "GeoParquet takes columns at the root alone.")
+
+-- ---- of a finding
+
+-- what is expected in place of what was found: the layout of a name, where one is wanted
+abbrev pub expected_at : WarningCode → Option ExtensionName → Text
+expected_at code (Some name) = layout_text name
+expected_at code None = warning_expected code
+
+-- what helps, by what is wanted and what was found
+abbrev pub help_at : WarningCode → Option ExtensionName → Option Text → Option Text
+help_at warnings.WrongStorage wanted found = storage_help wanted found
+help_at code wanted found = warning_help code

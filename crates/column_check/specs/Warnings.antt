@@ -1,4 +1,4 @@
--- What is doubtful of a column that is not invalid for it.
+-- What is found of a column: why it is invalid, if it is; and what is doubtful of it, which leaves it as it is.
 use Rattle.std.specs.Prelude.{◌≡◌, ◌==◌, ◌&&◌, ◌||◌, not, List, [], ◌∷◌, ◌++◌, length, map, codes, Bool, true, false, Option, None, Some}
 use Rattle.std.specs.Cmp.Lexicographic.{pointwise}
 use Rattle.std.specs.List.{list_all, list_any}
@@ -10,20 +10,19 @@ use Rattle.arrow_values.specs.declared.tree.UnionMode.TheVariants.{Sparse, Dense
 use Rattle.arrow_columns.specs.Column.{TypeTree, known, other, ColumnTree, name_on, metadata_on}
 use Rattle.geoarrow_layout.specs.declared.dimensions.Dimension.{Dimension}
 use Rattle.geoarrow_layout.specs.declared.dimensions.Dimension.TheVariants.{XY, XYZ, XYM, XYZM}
-use Rattle.geoarrow_layout.specs.declared.native_kinds.NativeKind.TheVariants.{Point, LineString, Polygon, MultiPoint, MultiLineString, MultiPolygon, GeometryCollection}
 use Rattle.geoarrow_layout.specs.declared.native_kinds.Kind.{Kind}
 use Rattle.geoarrow_layout.specs.declared.native_kinds.Kind.TheVariants.{Rect}
-use Rattle.geoarrow_layout.specs.declared.names.ExtensionName.{ExtensionName}
-use Rattle.geoarrow_layout.specs.declared.names.ExtensionName.TheVariants as names
 use Rattle.geoarrow_layout.specs.Kinds.{name_text}
 use Rattle.geoarrow_layout.specs.Shapes.{names_of, has_name}
 use Rattle.geoarrow_layout.specs.Layouts.{coordinate_names, box_names}
+use Rattle.column_check.specs.ExtensionNames.{extensions}
 use Rattle.column_check.specs.OldNames.{current_name, has_old_name}
 use Rattle.column_check.specs.States.{geometry_in}
 use Rattle.column_check.specs.Said.{Said, said, said_if, at_each}
 use Rattle.column_check.specs.CrsWarnings.{crs_warnings}
 use Rattle.column_check.specs.KeyWarnings.{key_warnings}
-use Rattle.column_check.specs.Parts.{Names, spots_of, coordinates_in, fields_in, nullable_in, unions_in}
+use Rattle.column_check.specs.ReasonFindings.{reasons_in}
+use Rattle.column_check.specs.Parts.{Names, spot_in, spots_of, coordinates_in, fields_in, nullable_in, unions_in}
 use Rattle.column_check.specs.Shown.{type_shown}
 use Rattle.column_check.specs.declared.finding.Finding.{Finding as ColumnFinding}
 use Rattle.column_check.specs.declared.finding.Geometry.{Geometry as GeometryColumn}
@@ -36,7 +35,7 @@ use Rattle.column_check.specs.declared.warning.Warning.{Warning}
 
 -- of an old one, which is shown
 abbrev pub name_warnings : Option Text → List Said
-name_warnings name = said_if OldExtensionName (has_old_name name) ([], None, name)
+name_warnings name = said_if OldExtensionName (has_old_name name) ([], None, name, None)
 
 -- ---- of the metadata text
 
@@ -48,7 +47,7 @@ is_empty_text (Some s) = false
 
 -- of an empty text, which is shown as two quotes
 abbrev pub text_warnings : Option Text → List Said
-text_warnings t = said_if MetadataEmpty (is_empty_text t) ([], None, Some (codes "\"\""))
+text_warnings t = said_if MetadataEmpty (is_empty_text t) (spot_in [] (Some (codes "\"\"")))
 
 -- ---- of the numbers of coordinates
 
@@ -116,12 +115,6 @@ is_doubtful code k t = has_doubtful code t
 
 -- ---- of fields below a column
 
--- the eleven extension names
-abbrev pub extensions : List ExtensionName
-extensions =
-    names.Native Point ∷ names.Native LineString ∷ names.Native Polygon ∷ names.Native MultiPoint ∷ names.Native MultiLineString ∷ names.Native MultiPolygon ∷ names.Native GeometryCollection
-    ∷ names.Geometry ∷ names.Rect ∷ names.Wkb ∷ names.Wkt ∷ []
-
 -- there is an extension name, and it is one of them, or an old one of them
 abbrev pub is_extension_name : Option Text → Bool
 is_extension_name None = false
@@ -178,7 +171,11 @@ geometry_warnings notes c None = []
 geometry_warnings notes c (Some g) =
     text_warnings (metadata_on c) ++ (key_warnings (metadata_on c) ++ (crs_warnings notes g.metadata ++ type_warnings g.kind c.data_type))
 
--- the warnings of a column of which that is said, with notes or without: those of its extension name, of its metadata text, of its CRS, of
+-- what is doubtful of a column of which that is said, with notes or without: of its extension name, of its metadata text, of its CRS, of
 -- its coordinates and what they are in, and of the fields below it
+abbrev pub doubtful_of : Bool → ColumnTree → ColumnFinding → List Said
+doubtful_of notes c f = name_warnings (name_on c) ++ (geometry_warnings notes c (geometry_in f) ++ nested_warnings c.data_type)
+
+-- what is found of it: the reasons for which it is invalid, and then what is doubtful
 abbrev pub AreWarnings : Bool → ColumnTree → ColumnFinding → List Warning → Type 0
-AreWarnings notes c f ws = map said ws ≡ name_warnings (name_on c) ++ (geometry_warnings notes c (geometry_in f) ++ nested_warnings c.data_type)
+AreWarnings notes c f ws = map said ws ≡ reasons_in c f ++ doubtful_of notes c f

@@ -1,6 +1,9 @@
-//! What may be doubtful of a column: codes, with their severities and words.
+//! What may be found of a column: codes, with their severities and words.
 ghost use Rattle.std.specs.Prelude.{◌≡◌, option_map};
+ghost use Rattle.column_check.specs.LayoutWords.{fault_code, fault_help};
 ghost use Rattle.column_check.specs.WarningWords.{severity_of, warning_code, warning_message, warning_expected, warning_help};
+
+use geoarrow_layout::LayoutFault;
 
 /// How much a finding weighs.
 #[derive(Clone, Copy, Debug, PartialEq, Eq)]
@@ -13,9 +16,27 @@ pub enum Severity {
     Note,
 }
 
-/// What a warning says.
+/// What a finding of a column says. Those up to [`WarningCode::UnknownEdges`] are the reasons for
+/// which a column is invalid.
 #[derive(Debug, Clone, Copy, PartialEq, Eq)]
 pub enum WarningCode {
+    /// The extension name begins with `geoarrow.`, in any letters, or with `ogc.`, and is none of the
+    /// eleven, nor an old one of them.
+    UnknownExtension,
+    /// The type is none of the 26 data types that a layout may have.
+    UnsupportedType,
+    /// The extension name is that of well-known binary or text, and the type is no bytes or no text.
+    WrongStorage,
+    /// The data type has that fault under the extension name (GeoArrow, "Native encoding").
+    Layout(LayoutFault),
+    /// The extension metadata are not JSON.
+    MetadataNotJson,
+    /// The extension metadata are JSON, but no object.
+    MetadataNotObject,
+    /// The value of `crs_type` is none of the format's.
+    UnknownCrsType,
+    /// The value of `edges` is none of the format's, and not `planar`.
+    UnknownEdges,
     /// The extension name is an old one, `ogc.wkb` or `ogc.wkt`, which is read as `geoarrow.wkb` or
     /// `geoarrow.wkt`; `from_extension_field` of `geoarrow_schema` refuses the column.
     OldExtensionName,
@@ -62,7 +83,25 @@ pub enum WarningCode {
 
 impl WarningCode {
     /// Each code, in the order of docs/FORMAT.md, 2.6.
-    pub const ALL: [WarningCode; 18] = [
+    pub const ALL: [WarningCode; 36] = [
+        WarningCode::UnknownExtension,
+        WarningCode::UnsupportedType,
+        WarningCode::WrongStorage,
+        WarningCode::Layout(LayoutFault::UnexpectedType),
+        WarningCode::Layout(LayoutFault::BadInterleavedName),
+        WarningCode::Layout(LayoutFault::BadSize),
+        WarningCode::Layout(LayoutFault::BadFieldNames),
+        WarningCode::Layout(LayoutFault::BadFieldCount),
+        WarningCode::Layout(LayoutFault::MixedWidths),
+        WarningCode::Layout(LayoutFault::BadTypeId),
+        WarningCode::Layout(LayoutFault::MemberDimension),
+        WarningCode::Layout(LayoutFault::EmptyUnion),
+        WarningCode::Layout(LayoutFault::SeveralCoordTypes),
+        WarningCode::Layout(LayoutFault::SeveralDimensions),
+        WarningCode::MetadataNotJson,
+        WarningCode::MetadataNotObject,
+        WarningCode::UnknownCrsType,
+        WarningCode::UnknownEdges,
         WarningCode::OldExtensionName,
         WarningCode::MetadataEmpty,
         WarningCode::MetadataKeyCase,
@@ -88,6 +127,14 @@ impl WarningCode {
         ensures { result.now ≡ warning_code self }
     {
         match self {
+            WarningCode::UnknownExtension => "UnknownExtension",
+            WarningCode::UnsupportedType => "UnsupportedType",
+            WarningCode::WrongStorage => "WrongStorage",
+            WarningCode::Layout(fault) => fault_code(fault),
+            WarningCode::MetadataNotJson => "MetadataNotJson",
+            WarningCode::MetadataNotObject => "MetadataNotObject",
+            WarningCode::UnknownCrsType => "UnknownCrsType",
+            WarningCode::UnknownEdges => "UnknownEdges",
             WarningCode::OldExtensionName => "OldExtensionName",
             WarningCode::MetadataEmpty => "MetadataEmpty",
             WarningCode::MetadataKeyCase => "MetadataKeyCase",
@@ -109,12 +156,20 @@ impl WarningCode {
         }
     }
 
-    /// Returns how much a warning of the code weighs (`docs/FORMAT.md`, 2.6).
+    /// Returns how much a finding of the code weighs (`docs/FORMAT.md`, 2.6).
     pub fn severity(self) -> Severity
         ensures { result ≡ severity_of self }
     {
         match self {
-            WarningCode::CrsMalformed
+            WarningCode::UnknownExtension
+            | WarningCode::UnsupportedType
+            | WarningCode::WrongStorage
+            | WarningCode::Layout(_)
+            | WarningCode::MetadataNotJson
+            | WarningCode::MetadataNotObject
+            | WarningCode::UnknownCrsType
+            | WarningCode::UnknownEdges
+            | WarningCode::CrsMalformed
             | WarningCode::CrsTypeContradicts
             | WarningCode::CoordinatesNotFloat
             | WarningCode::AxisOrder => Severity::Error,
@@ -123,11 +178,19 @@ impl WarningCode {
         }
     }
 
-    /// Returns what is doubtful.
+    /// Returns what is wrong or doubtful.
     pub fn message(self) -> &'static str
         ensures { result.now ≡ warning_message self }
     {
         match self {
+            WarningCode::UnknownExtension => "GeoArrow has no extension type of this name",
+            WarningCode::UnsupportedType => "no layout of GeoArrow has this type",
+            WarningCode::WrongStorage => STORAGE_MESSAGE,
+            WarningCode::Layout(fault) => fault.text(),
+            WarningCode::MetadataNotJson => "metadata is not JSON",
+            WarningCode::MetadataNotObject => "metadata is not an object",
+            WarningCode::UnknownCrsType => "unknown crs_type",
+            WarningCode::UnknownEdges => "unknown edges",
             WarningCode::OldExtensionName => "extension name is an old one",
             WarningCode::MetadataEmpty => "metadata is an empty text",
             WarningCode::MetadataKeyCase =>
@@ -150,11 +213,20 @@ impl WarningCode {
         }
     }
 
-    /// Returns what is expected in place of what was found (`docs/FORMAT.md`, 2.6).
+    /// Returns what is expected in place of what was found, where the finding wants no layout of its
+    /// own (`docs/FORMAT.md`, 2.6).
     pub fn expected(self) -> &'static str
         ensures { result.now ≡ warning_expected self }
     {
         match self {
+            WarningCode::UnknownExtension => NAMES,
+            WarningCode::UnsupportedType => "the layout of its extension name",
+            WarningCode::WrongStorage => "the layout of its extension name",
+            WarningCode::Layout(_) => "the layout of its extension name",
+            WarningCode::MetadataNotJson => "JSON",
+            WarningCode::MetadataNotObject => "an object",
+            WarningCode::UnknownCrsType => "projjson, wkt2:2019, authority_code or srid",
+            WarningCode::UnknownEdges => "andoyer, karney, spherical, thomas or vincenty",
             WarningCode::OldExtensionName => "geoarrow.wkb or geoarrow.wkt",
             WarningCode::MetadataEmpty => "no metadata, or {}",
             WarningCode::MetadataKeyCase => "crs, crs_type or edges",
@@ -181,6 +253,11 @@ impl WarningCode {
         ensures { option_map (λ text. text.now) result ≡ warning_help self }
     {
         match self {
+            WarningCode::UnknownExtension => Some("Names are compared letter by letter."),
+            WarningCode::UnsupportedType => Some("No layout of GeoArrow has this type."),
+            WarningCode::Layout(fault) => Some(fault_help(fault)),
+            WarningCode::MetadataNotJson => Some("Keys and texts stand in double quotes."),
+            WarningCode::UnknownEdges => Some("Leave it out where edges are planar."),
             WarningCode::OldExtensionName => Some("The column is read under the new name."),
             WarningCode::MetadataEmpty => Some("It is read as no metadata."),
             WarningCode::MetadataKeyCase => Some("The key is passed over."),
@@ -193,7 +270,10 @@ impl WarningCode {
             WarningCode::AxisOrder => Some("Readers go by place."),
             WarningCode::AxisNames => Some("Readers go by place."),
             WarningCode::NestedGeometry => Some("GeoParquet takes columns at the root alone."),
-            WarningCode::CrsWithoutType
+            WarningCode::WrongStorage
+            | WarningCode::MetadataNotObject
+            | WarningCode::UnknownCrsType
+            | WarningCode::CrsWithoutType
             | WarningCode::CrsNumber
             | WarningCode::CoordinatesNotFloat
             | WarningCode::CoordinatesNotDouble
@@ -202,6 +282,56 @@ impl WarningCode {
         }
     }
 }
+
+/// The code of a layout's fault.
+fn fault_code(fault: LayoutFault) -> &'static str
+    ensures { result.now ≡ fault_code fault }
+{
+    match fault {
+        LayoutFault::UnexpectedType => "UnexpectedType",
+        LayoutFault::BadInterleavedName => "BadInterleavedName",
+        LayoutFault::BadSize => "BadSize",
+        LayoutFault::BadFieldNames => "BadFieldNames",
+        LayoutFault::BadFieldCount => "BadFieldCount",
+        LayoutFault::MixedWidths => "MixedWidths",
+        LayoutFault::BadTypeId => "BadTypeId",
+        LayoutFault::MemberDimension => "MemberDimension",
+        LayoutFault::EmptyUnion => "EmptyUnion",
+        LayoutFault::SeveralCoordTypes => "SeveralCoordTypes",
+        LayoutFault::SeveralDimensions => "SeveralDimensions",
+    }
+}
+
+/// What helps where a layout has that fault.
+fn fault_help(fault: LayoutFault) -> &'static str
+    ensures { result.now ≡ fault_help fault }
+{
+    match fault {
+        LayoutFault::UnexpectedType => "The layout has no such type there.",
+        LayoutFault::BadInterleavedName => {
+            "The field of the list is named xy, xyz, xym or xyzm, by its dimension."
+        }
+        LayoutFault::BadSize => "The size of the list differs from the name of its field.",
+        LayoutFault::BadFieldNames => "The names of the fields are those of no dimension.",
+        LayoutFault::BadFieldCount => "The number of the fields is that of no dimension.",
+        LayoutFault::MixedWidths => "A list and the list in it are of different widths.",
+        LayoutFault::BadTypeId => "The layout has no member of that type id.",
+        LayoutFault::MemberDimension => "The dimension of the member differs from its type id.",
+        LayoutFault::EmptyUnion => "The union has no members.",
+        LayoutFault::SeveralCoordTypes => {
+            "The members have both interleaved and separated coordinates."
+        }
+        LayoutFault::SeveralDimensions => "The members are of several dimensions.",
+    }
+}
+
+/// The eleven extension names.
+const NAMES: &str =
+    "geoarrow.point, geoarrow.linestring, geoarrow.polygon, geoarrow.multipoint, geoarrow.multilinestring, geoarrow.multipolygon, geoarrow.geometrycollection, geoarrow.geometry, geoarrow.box, geoarrow.wkb or geoarrow.wkt";
+
+/// Which types the names of well-known binary and text need.
+const STORAGE_MESSAGE: &str =
+    "well-known binary needs a binary type, and well-known text a text type";
 
 /// The names of axes, and those of the bounds of a box.
 const AXES: &str =

@@ -1,8 +1,7 @@
 //! The kind of a column's type under an extension name, or why it is of none.
-ghost use Rattle.std.specs.Prelude.{◌≡◌, ◌↔◌, ◌++◌, IfOk, IsTrue, OnOk, map, string_bytes};
+ghost use Rattle.std.specs.Prelude.{◌↔◌, IfOk, IsTrue};
 ghost use Rattle.arrow_values.specs.View.{tree};
 ghost use Rattle.arrow_columns.specs.Column.{type_tree, known};
-ghost use Rattle.geoarrow_layout.specs.FaultAt.{names_along};
 ghost use Rattle.column_check.specs.Types.{IsSerialized, HasTypeFault, IsTypeRead};
 ghost use Rattle.geoarrow_layout.specs.declared.native_kinds.Kind.{Kind};
 ghost use Rattle.geoarrow_layout.specs.Kinds.{name_text};
@@ -10,7 +9,7 @@ ghost use Rattle.geoarrow_layout.specs.Shapes.{Accepts};
 
 use arrow_columns::AnyType;
 use arrow_values::DataType;
-use geoarrow_layout::{ExtensionName, Kind, LayoutFault, child_field, find_fault, parse_kind};
+use geoarrow_layout::{ExtensionName, Kind, LayoutFault, find_fault, parse_kind};
 use std::alloc::{AllocError, Global};
 
 /// Why a column's type is of no kind under an extension name (GeoArrow, "Native encoding").
@@ -20,8 +19,9 @@ pub enum TypeFault {
     UnsupportedType,
     /// The name is that of well-known binary or text, and the type is no bytes or no text.
     WrongStorage,
-    /// The data type has this fault, at the end of a path of child fields, outermost first, which are named.
-    Layout(LayoutFault, Vec<String>),
+    /// The data type has this fault at the end of a path of child fields, outermost first, as
+    /// `find_fault` of `geoarrow_layout` answers one.
+    Layout(LayoutFault, Vec<usize>),
 }
 
 /// The kind of which a column's type is under an extension name; or why it is of none. Errs only when out of memory.
@@ -61,8 +61,7 @@ fn fault_under(
             if is_serialized(name) {
                 return Ok(TypeFault::WrongStorage);
             }
-            let names = names_along(alloc, data_type, path.as_slice())?;
-            Ok(TypeFault::Layout(fault, names))
+            Ok(TypeFault::Layout(fault, path))
         }
     }
 }
@@ -72,37 +71,4 @@ fn is_serialized(name: ExtensionName) -> bool
     ensures { IsTrue result ↔ IsSerialized name }
 {
     matches!(name, ExtensionName::Wkb | ExtensionName::Wkt)
-}
-
-/// The names of the child fields on a path, as `find_fault` of `geoarrow_layout` answers one, outermost first, as far as there
-/// are fields. Errs only when out of memory.
-pub fn names_along(
-    alloc: Global,
-    data_type: &DataType,
-    path: &[usize],
-) -> Result<Vec<String>, AllocError>
-    ensures { IfOk result (λ names. map string_bytes names.items ≡ names_along (tree data_type.now) path.now) }
-{
-    let mut names = Vec::new(alloc);
-    push_names(alloc, &mut names, data_type, path)?;
-    Ok(names)
-}
-
-/// Adds the names of the child fields on a path.
-fn push_names(
-    alloc: Global,
-    names: &mut Vec<String>,
-    data_type: &DataType,
-    path: &[usize],
-) -> Result<(), AllocError>
-    ensures { OnOk result (map string_bytes names.new.items ≡ map string_bytes names.old.items ++ names_along (tree data_type.now) path.now) }
-{
-    let [place, rest @ ..] = path else {
-        return Ok(());
-    };
-    let Some(field) = child_field(data_type, *place) else {
-        return Ok(());
-    };
-    names.push(String::from_str(alloc, field.name())?)?;
-    push_names(alloc, names, field.data_type(), rest)
 }

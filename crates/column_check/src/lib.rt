@@ -2,9 +2,10 @@
 //!
 //! `geoarrow_columns` reports what `from_extension_field` answers; this report keeps every CRS, says what is wrong and where, and
 //! has no error but out of memory. The contract of [`inspect_column`] is the relation `IsFinding` between the column and what is said of it.
-//! [`warnings`] says what is doubtful of a column that is not invalid for it.
+//! [`warnings`] says what is found of a column: the reasons for which it is invalid, if it is, and what is doubtful of it.
 #![tactic(auto)]
 
+mod along;
 mod check;
 mod code;
 mod coordinates;
@@ -13,9 +14,11 @@ mod data_type;
 mod finding;
 mod key_case;
 pub mod laws;
+mod layout;
 mod malformed;
 mod metadata;
 mod old_names;
+mod reasons;
 mod said;
 mod severity;
 mod shown;
@@ -25,7 +28,7 @@ mod way;
 
 pub use check::{inspect_column, inspect_columns};
 pub use code::{Severity, WarningCode};
-pub use data_type::{TypeFault, kind_under, names_along};
+pub use data_type::{TypeFault, kind_under};
 pub use finding::{Finding, Geometry, Reasons};
 pub use metadata::{ColumnMetadata, MetadataFault, read_metadata};
 pub use warning::{Warning, warnings};

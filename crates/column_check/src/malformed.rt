@@ -147,8 +147,11 @@ fn tell_part(
     tell(warnings, rest, warning)
 }
 
-/// What stands at a place, if something does, as a warning shows it.
-fn found_at(alloc: Global, found: Option<&Value<'_>>) -> Result<Option<String>, AllocError>
+/// What stands at a place, if something does, as a finding shows it.
+pub(crate) fn found_at(
+    alloc: Global,
+    found: Option<&Value<'_>>,
+) -> Result<Option<String>, AllocError>
     requires { IfSome found (λ v. IsReadable (value_view v.now)) }
     ensures { IfOk result (λ text. option_map string_bytes text ≡ option_map shown_value (option_map (λ v. value_view v.now) found.entry)) }
 {

@@ -64,6 +64,7 @@ pub(crate) fn warning_in(
         path: Vec::new(alloc),
         pointer: Some(pointer),
         found,
+        wanted: None,
         more: 0,
     }
 }

@@ -1,23 +1,27 @@
-//! What is doubtful of a column that is not invalid for it.
-ghost use Rattle.std.specs.Prelude.{◌≡◌, ◌++◌, map, Some, IfOk, OnOk};
+//! What is found of a column.
+ghost use Rattle.std.specs.Prelude.{◌≡◌, ◌++◌, map, option_map, string_bytes, Some, IfOk, OnOk};
 ghost use Rattle.arrow_values.specs.Texts.{text_of};
 ghost use Rattle.arrow_values.specs.View.{tree};
 ghost use Rattle.arrow_columns.specs.Column.{column_tree, type_tree};
 ghost use Rattle.column_check.specs.Said.{said};
 ghost use Rattle.column_check.specs.Warnings.{name_warnings, is_empty_text, text_warnings, coordinate_warnings, nullable_warnings, type_warnings, geometry_warnings, nested_warnings, AreWarnings};
+ghost use Rattle.column_check.specs.WarningWords.{expected_at, help_at};
 
 use crate::code::WarningCode;
 use crate::crs::push_crs;
 use crate::finding::{Finding, Geometry};
 use crate::key_case::push_keys;
+use crate::layout::{layout_text, storage_help};
 use crate::old_names::is_old_name;
+use crate::reasons::push_reasons;
+use crate::said::push_shown;
 use crate::walk::{Inner, Sought, push_sought};
 use arrow_columns::{AnyType, SchemaColumn};
 use arrow_values::DataType;
-use geoarrow_layout::Kind;
+use geoarrow_layout::{ExtensionName, Kind};
 use std::alloc::{AllocError, Global};
 
-/// A warning: what is doubtful of a column, and where.
+/// A finding of a column: what is wrong or doubtful of it, and where.
 #[derive(Debug, Drop)]
 pub struct Warning {
     /// What it says.
@@ -29,14 +33,39 @@ pub struct Warning {
     /// What stands there: a type's notation, a word, or JSON without blanks; at most 120 characters of it, and
     /// `..` behind them where there are more. `None` where the code alone says it.
     pub found: Option<String>,
+    /// The extension name whose layout is wanted there, where one is.
+    pub wanted: Option<ExtensionName>,
     /// How many more of its code there are that are not told one by one; 0 except in the sixteenth.
     pub more: usize,
 }
 
-/// Returns what is doubtful of a column of which that is said, and leaves the finding as it is
-/// (`docs/FORMAT.md`, 2.6): in the order of `WarningCode`, and under one code from left to right, a
-/// field before those below it; of one code at most sixteen, of which the last says how many more
-/// there are. Of the metadata text, of a CRS, of coordinates and of what they are in it speaks where
+impl Warning {
+    /// Returns what is expected in place of what is found: the layout of a name, where one is wanted,
+    /// and else what the code says (`docs/FORMAT.md`, 2.6).
+    pub fn expected(&self) -> &'static str
+        ensures { result.now ≡ expected_at self.now.code self.now.wanted }
+    {
+        match self.wanted {
+            Some(name) => layout_text(name),
+            None => self.code.expected(),
+        }
+    }
+
+    /// Returns what helps, where there is something to say (`docs/FORMAT.md`, 2.6).
+    pub fn help(&self) -> Option<&'static str>
+        ensures { option_map (λ text. text.now) result ≡ help_at self.now.code self.now.wanted (option_map string_bytes self.now.found) }
+    {
+        match self.code {
+            WarningCode::WrongStorage => storage_help(self.wanted, self.found.as_deref()),
+            code => code.help(),
+        }
+    }
+}
+
+/// Returns what is found of a column of which that is said (`docs/FORMAT.md`, 2.6): in the order of
+/// `WarningCode`, so the reasons for which it is invalid before what is doubtful, which leaves what is
+/// said as it is; and under one code from left to right, a field before those below it; of one code at
+/// most sixteen, of which the last says how many more there are. Of the metadata text, of a CRS, of coordinates and of what they are in it speaks where
 /// the finding is of geometries; of the extension name and of fields below the column always. `notes` asks for the notes too.
 /// Errs only when out of memory.
 ///
@@ -55,6 +84,9 @@ pub fn warnings(
     ensures { IfOk result (λ them. AreWarnings notes (column_tree column.now) finding.now them.items) }
 {
     let mut warnings = Vec::new(alloc);
+    if let Finding::Invalid(reasons) = finding {
+        push_reasons(alloc, &mut warnings, column, reasons)?;
+    }
     push_name(alloc, &mut warnings, column.extension_type_name())?;
     if let Some(geometry) = finding.geometry() {
         push_geometry(alloc, &mut warnings, column, geometry, notes)?;
@@ -90,6 +122,7 @@ fn push_name(
         path: Vec::new(alloc),
         pointer: None,
         found: Some(found),
+        wanted: None,
         more: 0,
     })?;
     Ok(())
@@ -179,18 +212,15 @@ fn push_text(
 ) -> Result<(), AllocError>
     ensures { OnOk result (map said warnings.new.items ≡ map said warnings.old.items ++ text_warnings (text_of text.entry)) }
 {
-    if !is_empty_text(text) {
-        return Ok(());
-    }
-    let found = String::from_str(alloc, "\"\"")?;
-    warnings.push(Warning {
-        code: WarningCode::MetadataEmpty,
-        path: Vec::new(alloc),
-        pointer: None,
-        found: Some(found),
-        more: 0,
-    })?;
-    Ok(())
+    let holds = is_empty_text(text);
+    push_shown(
+        alloc,
+        warnings,
+        WarningCode::MetadataEmpty,
+        "",
+        "\"\"",
+        holds,
+    )
 }
 
 /// Whether there is a text, and it is empty.

@@ -117,6 +117,7 @@ fn warning_at(
         path,
         pointer: None,
         found: Some(found),
+        wanted: None,
         more: 0,
     })
 }

@@ -1,5 +1,4 @@
 mod Adding
-mod Places
 mod Joined
 pub mod Reported
 pub mod Whole

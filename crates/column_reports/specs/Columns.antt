@@ -4,18 +4,19 @@ use Rattle.arrow_columns.specs.Column.{ColumnTree, column_tree}
 use Rattle.column_check.specs.Finding.{IsFinding}
 use Rattle.column_check.specs.Warnings.{AreWarnings}
 use Rattle.column_check.specs.declared.warning.Warning.{Warning}
-use Rattle.geoparquet.specs.Facts.{FactsOf, facts_view}
+use Rattle.geoparquet.specs.Facts.{facts_view}
 use Rattle.column_reports.specs.Gathered.{of_warnings}
+use Rattle.column_reports.specs.Named.{Known}
 use Rattle.column_reports.specs.Weighed.{weighed}
 use Rattle.column_reports.specs.Weights.{Weighing}
 use Rattle.column_reports.specs.declared.report.ColumnReport.{ColumnReport}
 
--- the report of a column of those facts, where types are inferred or not and that is asked of findings: the column itself, what is said of it, its facts, and
--- those of its warnings that are shown
-pub record IsColumnReport (infer : Bool) (w : Weighing) (c : ColumnTree) (fs : FactsOf) (r : ColumnReport) : Type 0 where
+-- the report of a column of which that is known, where types are inferred or not and that is asked of findings: the column itself, what is said of it,
+-- its facts, and those of what is found of it that are told and shown
+pub record IsColumnReport (infer : Bool) (w : Weighing) (c : ColumnTree) (k : Known) (r : ColumnReport) : Type 0 where
   pub column : column_tree r.column ≡ c
   pub finding : IsFinding infer c r.finding
-  pub facts : facts_view r.facts ≡ fs
+  pub facts : facts_view r.facts ≡ k.facts
   pub warnings : List Warning
   pub are : AreWarnings true c r.finding warnings
-  pub findings : r.findings.items ≡ weighed w (of_warnings warnings)
+  pub findings : r.findings.items ≡ weighed w (of_warnings k c warnings)

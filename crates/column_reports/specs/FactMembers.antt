@@ -8,7 +8,6 @@ use Rattle.crs_identity.specs.declared.verdict.Verdict.TheVariants.{Agree, Contr
 use Rattle.geoparquet.specs.Facts.{FactsOf, CrsOf, EdgesOf}
 use Rattle.geoparquet.specs.FactSources.{source_word}
 use Rattle.geoparquet.specs.declared.fact_sources.Against.{Against}
-use Rattle.geoparquet.specs.declared.fact_sources.FactSource.{FactSource}
 use Rattle.geoparquet.specs.declared.text_facts.EncodingFact.{EncodingFact}
 use Rattle.value_tokens.specs.Values.{or_null}
 use Rattle.column_reports.specs.Objects.{object_of, member_if, string_if}

@@ -15,7 +15,7 @@ use Rattle.column_files.specs.declared.geo.GeoText.TheVariants.{Absent, Footer, 
 use Rattle.column_files.specs.declared.opening.File.{File}
 use Rattle.column_files.specs.declared.columns.FileFault.{FileFault}
 use Rattle.column_files.specs.declared.columns.FileFault.TheVariants.{ReportTooLarge, OutOfMemory}
-use Rattle.geoparquet.specs.Facts.{FactsOf, facts_of}
+use Rattle.geoparquet.specs.Facts.{facts_of}
 use Rattle.geoparquet.specs.Findings.{finding}
 use Rattle.geoparquet.specs.GeoColumns.{AreGeoColumns}
 use Rattle.geoparquet.specs.GeoFindings.{AreGeoFindings}
@@ -26,6 +26,7 @@ use Rattle.parquet_columns.specs.Claims.{claim}
 use Rattle.column_reports.specs.Columns.{IsColumnReport}
 use Rattle.column_reports.specs.FindingLines.{findings_text}
 use Rattle.column_reports.specs.Gathered.{of_file}
+use Rattle.column_reports.specs.Named.{Known, all_known, all_named_by}
 use Rattle.column_reports.specs.Report.{report}
 use Rattle.column_reports.specs.Summary.{IsSummary}
 use Rattle.column_reports.specs.Weighed.{weighed}
@@ -34,8 +35,8 @@ use Rattle.column_reports.specs.declared.file.FileReport.{FileReport}
 use Rattle.column_reports.specs.declared.report.ColumnReport.{ColumnReport}
 use Rattle.column_reports.specs.declared.report.Options.{Options}
 
--- each of the columns, which have those facts, has its report
-abbrev pub AreReported : Bool → Weighing → List (ColumnTree × FactsOf) → List ColumnReport → Type 0
+-- each of the columns, of which that is known, has its report
+abbrev pub AreReported : Bool → Weighing → List (ColumnTree × Known) → List ColumnReport → Type 0
 AreReported infer w [] [] = ⊤
 AreReported infer w (x ∷ xs) (r ∷ rs) = IsColumnReport infer w x.0 x.1 r × AreReported infer w xs rs
 AreReported infer w _ _ = ⊥
@@ -67,10 +68,11 @@ AreColumnsBy (Some geo) cs made = AreGeoColumns geo cs made
 -- the report of a file that was opened, where types are inferred or not and that is asked of findings
 pub record IsReport (infer : Bool) (w : Weighing) (opened : File) (r : FileReport) : Type 0 where
   pub form : r.form ≡ opened.form
-  -- its columns by the metadata, each with its report, which has the facts of the columns that the file denotes
+  -- its columns by the metadata, each with its report, which has the facts of the columns that the file denotes, and tells of whoever names them
   pub by : List ColumnTree
   pub are_by : AreColumnsBy (text_in opened.geo) (map column_tree opened.columns.items) by
-  pub columns : AreReported infer w (zip by (facts_of (source_in opened.form opened.geo) (map column_tree opened.columns.items) (map claim opened.elements.items))) r.columns.items
+  pub columns : AreReported infer w (zip by (all_known (facts_of (source_in opened.form opened.geo) (map column_tree opened.columns.items) (map claim opened.elements.items))
+      (all_named_by (map column_tree opened.columns.items) (map claim opened.elements.items)))) r.columns.items
   -- what the metadata are found to be, of the columns that the file denotes
   pub geo : GeoReport
   pub is_geo : AreGeoFindings (source_in opened.form opened.geo) (map column_tree opened.columns.items) (map claim opened.elements.items) geo.version (map finding geo.findings.items)

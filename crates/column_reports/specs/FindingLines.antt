@@ -7,7 +7,7 @@ use Rattle.arrow_values.specs.Tree.{Text}
 use Rattle.column_check.specs.Severities.{severity_text}
 use Rattle.column_reports.specs.Codes.{word_of}
 use Rattle.column_reports.specs.Found.{code_in, column_in, path_in, part_in, pointer_in, byte_in, found_in, expected_in, help_in, more_in}
-use Rattle.column_reports.specs.Objects.{array_of, object_of, member_if, string_if, number_if}
+use Rattle.column_reports.specs.Objects.{array_of, object_of, string_if, number_if}
 use Rattle.column_reports.specs.declared.finding.Finding.{Finding}
 use Rattle.column_reports.specs.declared.weighed.Weighed.{Weighed}
 
@@ -48,7 +48,7 @@ words_members f =
 abbrev pub finding_value : Option Text → Weighed → Json
 finding_value file w = object_of (rule_members file w ++ place_members w.finding ++ words_members w.finding)
 
--- of a column of which something is found: all of it
+-- of a column of which something is found: all of it that is shown
 abbrev pub findings_in : List Weighed → Option Json
 findings_in [] = None
 findings_in (f ∷ fs) = Some (array_of (map (finding_value None) (f ∷ fs)))

@@ -5,7 +5,7 @@ pub mod Objects
 pub mod FindingLines
 pub mod FindingWords
 pub mod Gathered
-pub mod Reasons
+pub mod Named
 pub mod FactMembers
 pub mod Report
 pub mod Summary

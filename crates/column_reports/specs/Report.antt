@@ -1,6 +1,6 @@
 -- The report of a column: what is said of it, as a JSON value.
 use Rattle.std.specs.Prelude.{ℕ, List, ◌++◌, codes, decimal, Option, None, Some}
-use Rattle.json.specs.Json.{Json, number, string}
+use Rattle.json.specs.Json.{Json, number}
 use Rattle.arrow_values.specs.Tree.{Text}
 use Rattle.arrow_columns.specs.Column.{ColumnTree, column_tree, name_on}
 use Rattle.arrow_columns.specs.Notation.{type_text}
@@ -14,8 +14,7 @@ use Rattle.column_check.specs.States.{geometry_in}
 use Rattle.geoparquet.specs.Facts.{FactsOf, facts_view}
 use Rattle.column_reports.specs.FactMembers.{crs_fact_in, crs_members, edges_members_in, encoding_word_in, facts_in, verdicts_in}
 use Rattle.column_reports.specs.FindingLines.{findings_in}
-use Rattle.column_reports.specs.Objects.{array_of, object_of, member_if, string_if}
-use Rattle.column_reports.specs.Reasons.{reasons_of}
+use Rattle.column_reports.specs.Objects.{object_of, member_if, string_if}
 use Rattle.column_reports.specs.declared.report.ColumnReport.{ColumnReport}
 use Rattle.column_reports.specs.declared.weighed.Weighed.{Weighed}
 
@@ -35,13 +34,8 @@ abbrev pub type_word : ColumnTree → Option GeometryColumn → Text
 type_word c (Some g) = kind_text g.kind
 type_word c None = type_text c.data_type
 
--- of an invalid column: its reasons
-abbrev pub reasons_in : ColumnFinding → Option Json
-reasons_in (Invalid r) = Some (array_of (reasons_of r))
-reasons_in f = None
-
--- the members, in the order of their keys: the column, its CRS and its edges; names; the column's place and what is found of it; its source, and what the
--- others say
+-- the members, in the order of their keys: the column, its CRS and its edges; names; what is found of it, and its place; its state, its type and source, and
+-- what the others say
 abbrev pub names_of : Option Text → ColumnTree → List (Text × Json)
 names_of file c = string_if (codes "extension") (name_on c) ++ string_if (codes "file") file
 
@@ -53,13 +47,12 @@ said_of c fs =
 
 abbrev pub found_of : ℕ → ColumnFinding → Text → Option FactsOf → List Weighed → List (Text × Json)
 found_of index f word fs ws =
-    member_if (codes "index") (Some (number (decimal index)))
-    ++ member_if (codes "reasons") (reasons_in f)
+    member_if (codes "findings") (findings_in ws)
+    ++ member_if (codes "index") (Some (number (decimal index)))
     ++ string_if (codes "state") (Some (state_word f))
     ++ string_if (codes "type") (Some word)
     ++ string_if (codes "type_from") (encoding_word_in fs)
     ++ member_if (codes "verdicts") (verdicts_in fs)
-    ++ member_if (codes "warnings") (findings_in ws)
 
 abbrev pub members_of : Option Text → ℕ → ColumnTree → ColumnFinding → Option FactsOf → List Weighed → List (Text × Json)
 members_of file index c f fs ws =

@@ -5,6 +5,7 @@ ghost use Rattle.arrow_values.specs.Texts.{text_of};
 ghost use Rattle.arrow_columns.specs.Column.{column_tree};
 ghost use Rattle.column_check.specs.States.{is_invalid, is_geometry};
 ghost use Rattle.geoparquet.specs.Facts.{facts_view};
+ghost use Rattle.column_reports.specs.Named.{all_known};
 ghost use Rattle.column_reports.specs.FileReport.{AreReported, IsReport, Reports};
 ghost use Rattle.column_reports.specs.Summary.{has_error};
 ghost use Rattle.column_reports.specs.Weights.{plain, weighing};
@@ -12,6 +13,7 @@ ghost use Rattle.column_reports.specs.Weights.{plain, weighing};
 use crate::gathered::of_file;
 use crate::geo::{columns_by, source_of};
 use crate::lines::json_lines;
+use crate::named::{NamedBy, all_named_by};
 use crate::report::{ColumnReport, Options, column_with};
 use crate::summary::{Summary, has_error};
 use crate::weighed::{Weighed, weigh};
@@ -82,10 +84,11 @@ pub fn weighed_report<'a>(
     let source = source_of(form, &geo);
     let checked = check_geo(alloc, source, columns.as_slice(), elements.as_slice())?;
     let facts = geo_facts(alloc, source, columns.as_slice(), elements.as_slice())?;
+    let named = all_named_by(alloc, columns.as_slice(), elements.as_slice())?;
     let found = of_file(alloc, texts, findings, checked)?;
     let findings = weigh(alloc, weights, found)?;
     let columns = columns_by(alloc, &geo, columns)?;
-    let columns = report_columns(alloc, columns, facts, infer, weights)?;
+    let columns = report_columns(alloc, columns, facts, named, infer, weights)?;
     let summary = summary_of(columns.as_slice(), findings.as_slice());
     Ok(FileReport {
         form,
@@ -95,20 +98,23 @@ pub fn weighed_report<'a>(
     })
 }
 
-/// Returns the reports of columns of those facts, in order. Errs only when out of memory.
+/// Returns the reports of columns of those facts, which have their extension names by those, in order.
+/// Errs only when out of memory.
 fn report_columns(
     alloc: Global,
     columns: Vec<SchemaColumn>,
     facts: Vec<ColumnFacts>,
+    named: Vec<NamedBy>,
     infer: bool,
     weights: &Weights,
 ) -> Result<Vec<ColumnReport>, AllocError>
-    ensures { IfOk result (λ reported. AreReported infer (weighing weights.now) (zip (map column_tree columns.items) (map facts_view facts.items)) reported.items) }
+    ensures { IfOk result (λ reported. AreReported infer (weighing weights.now) (zip (map column_tree columns.items) (all_known (map facts_view facts.items) named.items)) reported.items) }
 {
     let mut scratch = Scratch::new(alloc);
     let mut reported = Vec::new(alloc);
-    for (column, facts) in columns.into_iter().zip(facts.into_iter()) {
-        let said = column_with(alloc, &mut scratch, column, facts, infer, weights)?;
+    let known = facts.into_iter().zip(named.into_iter());
+    for (column, (facts, by)) in columns.into_iter().zip(known) {
+        let said = column_with(alloc, &mut scratch, column, facts, by, infer, weights)?;
         reported.push(said)?;
     }
     Ok(reported)

@@ -2,9 +2,10 @@
 ghost use Rattle.std.specs.Prelude.{◌≡◌, map, option_map, string_bytes};
 ghost use Rattle.arrow_values.specs.Texts.{text_of};
 ghost use Rattle.column_reports.specs.Found.{code_in, column_in, path_in};
-ghost use Rattle.column_reports.specs.Found.{metadata_if, part_in, pointer_in, byte_in, more_in};
+ghost use Rattle.column_reports.specs.Found.{column_part, part_in, pointer_in, byte_in, more_in};
 
 use crate::code::Code;
+use crate::named::NamedBy;
 use column_check::Warning;
 use geoparquet::{GeoFinding, Version};
 use parquet_columns::FileFinding;
@@ -13,8 +14,9 @@ use parquet_footer::FooterFinding;
 /// What is found of a column or of a file: a rule that is not kept, where, and what stands there.
 #[derive(Debug, Drop)]
 pub enum Finding<'a> {
-    /// What is doubtful of a column, in the report of that column (docs/FORMAT.md, 2.6).
-    Column(Warning),
+    /// What is wrong or doubtful of a column, in the report of that column (docs/FORMAT.md, 2.6);
+    /// and who gives the column its extension metadata.
+    Column(NamedBy, Warning),
     /// A text of the footer of a Parquet file that is not UTF-8 (docs/FORMAT.md, 4.3).
     Text(FooterFinding<'a>),
     /// What is found of the schemas and the keys of a Parquet file (docs/FORMAT.md, 4.5).
@@ -30,7 +32,7 @@ impl<'a> Finding<'a> {
         ensures { result ≡ code_in self.now }
     {
         match self {
-            Finding::Column(warning) => Code::Column(warning.code),
+            Finding::Column(_, warning) => Code::Column(warning.code),
             Finding::Text(finding) => Code::Text(finding.code),
             Finding::File(finding) => Code::File(finding.code),
             Finding::Geo(_, finding) => Code::Geo(finding.code),
@@ -43,7 +45,7 @@ impl<'a> Finding<'a> {
         ensures { text_of result ≡ column_in self.now }
     {
         match self {
-            Finding::Column(_) | Finding::Text(_) => None,
+            Finding::Column(_, _) | Finding::Text(_) => None,
             Finding::File(finding) => finding.column.as_deref(),
             Finding::Geo(_, finding) => finding.column.as_deref(),
         }
@@ -55,20 +57,20 @@ impl<'a> Finding<'a> {
         ensures { map string_bytes result.now ≡ path_in self.now }
     {
         match self {
-            Finding::Column(warning) => warning.path.as_slice(),
+            Finding::Column(_, warning) => warning.path.as_slice(),
             Finding::File(finding) => finding.path.as_slice(),
             Finding::Text(_) | Finding::Geo(_, _) => &[],
         }
     }
 
-    /// Returns the part of the file or of the column's metadata, as reports have it: `footer`,
-    /// `ARROW:schema`, `extension metadata` or `geo`, and what else `FilePart::text` of
+    /// Returns the part of the file or of the column, as reports have it: `footer`, `ARROW:schema`,
+    /// `field`, `extension metadata`, `elements` or `geo`, and what else `FilePart::text` of
     /// `parquet_columns` returns.
     pub fn part(&self) -> Option<&'static str>
         ensures { text_of result ≡ part_in self.now }
     {
         match self {
-            Finding::Column(warning) => metadata_if(&warning.pointer),
+            Finding::Column(by, warning) => Some(column_part(*by, &warning.pointer)),
             Finding::Text(_) => Some("footer"),
             Finding::File(finding) => Some(finding.place.part.text()),
             Finding::Geo(_, _) => Some("geo"),
@@ -81,7 +83,7 @@ impl<'a> Finding<'a> {
         ensures { text_of result ≡ pointer_in self.now }
     {
         match self {
-            Finding::Column(warning) => warning.pointer.as_deref(),
+            Finding::Column(_, warning) => warning.pointer.as_deref(),
             Finding::Text(_) | Finding::File(_) => None,
             Finding::Geo(_, finding) => Some(finding.pointer.as_str()),
         }
@@ -94,7 +96,7 @@ impl<'a> Finding<'a> {
         match self {
             Finding::Text(finding) => Some(finding.text.byte as u64),
             Finding::File(finding) => wide(finding.place.byte),
-            Finding::Column(_) | Finding::Geo(_, _) => None,
+            Finding::Column(_, _) | Finding::Geo(_, _) => None,
         }
     }
 
@@ -103,19 +105,21 @@ impl<'a> Finding<'a> {
         ensures { result ≡ more_in self.now }
     {
         match self {
-            Finding::Column(warning) => warning.more,
+            Finding::Column(_, warning) => warning.more,
             Finding::Text(_) | Finding::File(_) | Finding::Geo(_, _) => 0,
         }
     }
 }
 
-/// The extension metadata, where there is a pointer into them.
-fn metadata_if(pointer: &Option<String>) -> Option<&'static str>
-    ensures { text_of result ≡ metadata_if (option_map string_bytes pointer.now) }
+/// The extension metadata of a column, where there is a pointer into them, or the elements, where
+/// these are what one denotes; and else its field.
+fn column_part(by: NamedBy, pointer: &Option<String>) -> &'static str
+    ensures { result.now ≡ column_part by (option_map string_bytes pointer.now) }
 {
-    match pointer {
-        Some(_) => Some("extension metadata"),
-        None => None,
+    match (pointer, by) {
+        (None, _) => "field",
+        (Some(_), NamedBy::Element) => "elements",
+        (Some(_), _) => "extension metadata",
     }
 }
 

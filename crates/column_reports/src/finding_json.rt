@@ -59,12 +59,12 @@ pub(crate) fn put_findings(
     out: &mut Writer,
     findings: &[Weighed<'_>],
 ) -> Result<(), AllocError>
-    ensures { OnOk result (AddsMembers (member_if (codes "warnings") (findings_in findings.now)) out.old out.new) }
+    ensures { OnOk result (AddsMembers (member_if (codes "findings") (findings_in findings.now)) out.old out.new) }
 {
     if findings.is_empty() {
         return Ok(());
     }
-    out.key("warnings")?;
+    out.key("findings")?;
     out.begin_array()?;
     for finding in findings {
         put_finding(alloc, out, None, finding)?;

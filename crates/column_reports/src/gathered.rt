@@ -1,26 +1,74 @@
 //! What is found by each source, one behind another.
 ghost use Rattle.std.specs.Prelude.{◌≡◌, ◌++◌, IfOk, OnOk};
-ghost use Rattle.column_reports.specs.Gathered.{of_warnings, of_texts, of_footer, of_geo, of_file};
+ghost use Rattle.std.specs.List.{list_any};
+ghost use Rattle.arrow_columns.specs.Column.{column_tree};
+ghost use Rattle.geoparquet.specs.Facts.{facts_view};
+ghost use Rattle.column_reports.specs.Named.{is_told, is_told_beside_geo, known};
+ghost use Rattle.column_reports.specs.Gathered.{if_told, of_warnings, of_texts, of_footer, is_of_letters, if_first, of_geo, of_file};
 
 use crate::finding::Finding;
-use column_check::Warning;
-use geoparquet::GeoReport;
-use parquet_columns::FileFinding;
+use crate::named::NamedBy;
+use arrow_columns::SchemaColumn;
+use column_check::{Warning, WarningCode};
+use geoparquet::{ColumnFacts, EncodingFact, GeoCode, GeoFinding, GeoReport, Version};
+use parquet_columns::{FileCode, FileFinding};
 use parquet_footer::FooterFinding;
 use std::alloc::{AllocError, Global};
 
-/// Returns the warnings of a column as findings. Errs only when out of memory.
+/// Returns what is found of a column of those facts, which has its extension name by that, as
+/// findings, but what is told of its member of `columns`. Errs only when out of memory.
 pub(crate) fn of_warnings(
     alloc: Global,
+    by: NamedBy,
+    facts: &ColumnFacts,
+    column: &SchemaColumn,
     warnings: Vec<Warning>,
 ) -> Result<Vec<Finding<'static>>, AllocError>
-    ensures { IfOk result (λ all. all.items ≡ of_warnings warnings.items) }
+    ensures { IfOk result (λ all. all.items ≡ of_warnings (known (facts_view facts.now, by)) (column_tree column.now) warnings.items) }
 {
     let mut all = Vec::new(alloc);
     for warning in warnings {
-        all.push(Finding::Column(warning))?;
+        add_told(&mut all, by, facts, column, warning)?;
     }
     Ok(all)
+}
+
+/// Adds a finding of a column, if it is told of it.
+fn add_told(
+    all: &mut Vec<Finding<'static>>,
+    by: NamedBy,
+    facts: &ColumnFacts,
+    column: &SchemaColumn,
+    warning: Warning,
+) -> Result<(), AllocError>
+    ensures { OnOk result (all.new.items ≡ all.old.items ++ if_told (known (facts_view facts.now, by)) (column_tree column.now) warning) }
+{
+    if is_told(by, facts, column, &warning) {
+        all.push(Finding::Column(by, warning))?;
+    }
+    Ok(())
+}
+
+/// Whether a finding is told of a column to which its member of `columns` gives its extension name:
+/// none is of the extension metadata, and of a layout that is not that of the encoding only what
+/// lies below.
+fn is_told_beside_geo(encoding: Option<EncodingFact>, warning: &Warning) -> bool
+    ensures { result ≡ is_told_beside_geo encoding warning.now }
+{
+    warning.pointer.is_none()
+        && (encoding.is_some() || matches!(warning.code, WarningCode::NestedGeometry))
+}
+
+/// Whether a finding is told of a column.
+fn is_told(by: NamedBy, facts: &ColumnFacts, column: &SchemaColumn, warning: &Warning) -> bool
+    ensures { result ≡ is_told (known (facts_view facts.now, by)) (column_tree column.now) warning.now }
+{
+    match by {
+        NamedBy::Geo => {
+            column.extension_type_name().is_none() || is_told_beside_geo(facts.encoding, warning)
+        }
+        NamedBy::Field | NamedBy::Element => true,
+    }
 }
 
 /// Returns what is found of a file beside its columns: of the texts of its footer, of its schemas
@@ -34,8 +82,9 @@ pub(crate) fn of_file<'a>(
     ensures { IfOk result (λ all. all.items ≡ of_file texts.entry.items found.items report) }
 {
     let mut all = of_texts(alloc, texts.as_slice())?;
+    let said = has_letters(found.as_slice());
     add_footer(&mut all, found)?;
-    add_geo(&mut all, report)?;
+    add_geo(&mut all, said, report)?;
     Ok(all)
 }
 
@@ -60,13 +109,43 @@ fn add_footer<'a>(all: &mut Vec<Finding<'a>>, found: Vec<FileFinding>) -> Result
     Ok(())
 }
 
-/// Adds what is found of GeoParquet metadata.
-fn add_geo<'a>(all: &mut Vec<Finding<'a>>, report: GeoReport) -> Result<(), AllocError>
-    ensures { OnOk result (all.new.items ≡ all.old.items ++ of_geo report) }
+/// Whether a finding is of a key that is `geo` but for its letters.
+fn is_of_letters(finding: &FileFinding) -> bool
+    ensures { result ≡ is_of_letters finding.now }
+{
+    matches!(finding.code, FileCode::NoGeoMetadata)
+}
+
+/// Whether a key that is `geo` but for its letters is found.
+fn has_letters(found: &[FileFinding]) -> bool
+    ensures { result ≡ list_any is_of_letters found.now }
+{
+    found.iter().any(|finding| is_of_letters(finding))
+}
+
+/// Adds what is found of GeoParquet metadata, but that they are missing, where that is said.
+fn add_geo<'a>(all: &mut Vec<Finding<'a>>, said: bool, report: GeoReport) -> Result<(), AllocError>
+    ensures { OnOk result (all.new.items ≡ all.old.items ++ of_geo said report) }
 {
     let GeoReport { version, findings } = report;
     for finding in findings {
-        all.push(Finding::Geo(version, finding))?;
+        add_first(all, said, version, finding)?;
     }
+    Ok(())
+}
+
+/// Adds a finding, but that metadata are missing, where that is said.
+fn add_first<'a>(
+    all: &mut Vec<Finding<'a>>,
+    said: bool,
+    version: Version,
+    finding: GeoFinding,
+) -> Result<(), AllocError>
+    ensures { OnOk result (all.new.items ≡ all.old.items ++ if_first said version finding) }
+{
+    if said && matches!(finding.code, GeoCode::NoMetadata) {
+        return Ok(());
+    }
+    all.push(Finding::Geo(version, finding))?;
     Ok(())
 }

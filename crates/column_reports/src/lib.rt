@@ -1,6 +1,6 @@
 //! What is said of a column of a schema, as one value: [`report_column`] makes it of what
 //! `inspect_column` and `warnings` of `column_check` answer, [`json_line`] writes it as a line of JSON,
-//! and [`Summary`] keeps what counts of it for the status; beside them its parts in words for people.
+//! and [`Summary`] keeps what counts of it for the status.
 //! The report of a file, [`FileReport`], is made by one call, [`report_of`]: its columns, what is found
 //! of the file, and what counts for the status; [`json_lines`] writes it. All that is found, of a column
 //! or of a file, is a [`Finding`], which [`finding_line`] writes as JSON and [`finding_words`] in words;
@@ -18,9 +18,8 @@ mod gathered;
 mod geo;
 mod line;
 mod lines;
-mod plain;
+mod named;
 mod put;
-mod reasons;
 mod report;
 mod said;
 mod sentence;
@@ -37,8 +36,8 @@ pub use finding::Finding;
 pub use finding_json::finding_line;
 pub use line::json_line;
 pub use lines::json_lines;
+pub use named::NamedBy;
 pub use parquet_columns::report_budget;
-pub use plain::reason_words;
 pub use report::{ColumnReport, Options, report_column, weighed_column};
 pub use sentence::finding_words;
 pub use shown_lines::finding_lines;

@@ -12,7 +12,6 @@ ghost use Rattle.column_reports.specs.Report.{said_of, names_of, found_of, repor
 use crate::fact_members::{encoding_word, put_crs, put_edges, put_verdicts};
 use crate::finding_json::put_findings;
 use crate::put::{put_number, put_text, put_text_if};
-use crate::reasons::put_reasons;
 use crate::report::ColumnReport;
 use crate::words::{state_word, type_word};
 use arrow_columns::SchemaColumn;
@@ -58,25 +57,24 @@ const LINE_ROOM: usize = 512;
 /// let line = json_line(alloc, &mut scratch, Some("a.arrow"), 0, &report)?;
 /// assert_eq!(rt; line.as_str(), r#"{"column":"geom","crs":"EPSG:4326","crs_from":"field","edges":"planar","edges_from":"field","extension":"geoarrow.wkb","file":"a.arrow","index":0,"state":"geometry","type":"wkb - -","type_from":"field"}"#);
 ///
-/// let path = vec![in alloc; String::from_str(alloc, "x\ny")?]?;
-/// let fault = TypeFault::Layout(LayoutFault::BadSize, path);
-/// let finding = column_check::Finding::Invalid(Reasons::DataType(fault));
-/// let (column, facts) = (report.column, report.facts);
-/// let report = ColumnReport { column, finding, facts, findings: Vec::new(alloc) };
+/// let data_type = AnyType::Data(DataType::Utf8);
+/// let SchemaColumn { name, nullable, metadata, .. } = report.column;
+/// let column = SchemaColumn { name, nullable, data_type, metadata };
+/// let report = report_column(alloc, &mut scratch, column, options)?;
 /// let line = json_line(alloc, &mut scratch, None, 0, &report)?;
-/// assert_eq!(rt; line.as_str(), r#"{"column":"geom","extension":"geoarrow.wkb","index":0,"reasons":[{"code":"BadSize","message":"list size differs from the field name","path":["x\ny"]}],"state":"invalid","type":"binary"}"#);
+/// assert_eq!(rt; line.as_str(), r#"{"column":"geom","extension":"geoarrow.wkb","findings":[{"severity":"error","code":"WrongStorage","in":"field","found":"utf8","expected":"binary, large_binary or binary_view","help":"For WKT use geoarrow.wkt."}],"index":0,"state":"invalid","type":"utf8"}"#);
 ///
 /// let path = vec![in alloc; String::from_str(alloc, "child")?]?;
 /// let code = WarningCode::NestedGeometry;
 /// let found = Some(String::from_str(alloc, "geoarrow.wkb")?);
-/// let warning = Warning { code, path, pointer: None, found, more: 0 };
-/// let warned = Weighed { severity: Severity::Warning, finding: Finding::Column(warning) };
+/// let warning = Warning { code, path, pointer: None, found, wanted: None, more: 0 };
+/// let warned = Weighed { severity: Severity::Warning, finding: Finding::Column(NamedBy::Field, warning) };
 /// let findings = vec![in alloc; warned]?;
 /// let finding = column_check::Finding::Extension;
 /// let (column, facts) = (report.column, report.facts);
 /// let report = ColumnReport { column, finding, facts, findings };
 /// let line = json_line(alloc, &mut scratch, None, 0, &report)?;
-/// assert_eq!(rt; line.as_str(), r#"{"column":"geom","extension":"geoarrow.wkb","index":0,"state":"extension","type":"binary","warnings":[{"severity":"warning","code":"NestedGeometry","path":["child"],"found":"geoarrow.wkb","expected":"the name of a column alone","help":"GeoParquet takes columns at the root alone."}]}"#);
+/// assert_eq!(rt; line.as_str(), r#"{"column":"geom","extension":"geoarrow.wkb","findings":[{"severity":"warning","code":"NestedGeometry","path":["child"],"in":"field","found":"geoarrow.wkb","expected":"the name of a column alone","help":"GeoParquet takes columns at the root alone."}],"index":0,"state":"extension","type":"utf8"}"#);
 /// ```
 pub fn json_line(
     alloc: Global,
@@ -144,11 +142,10 @@ fn put_found(
 ) -> Result<(), AllocError>
     ensures { OnOk result (AddsMembers (found_of index said.now.finding word.now (option_map (λ f. facts_view f.now) facts.entry) said.now.findings.items) out.old out.new) }
 {
+    put_findings(alloc, out, said.findings.as_slice())?;
     put_number(out, "index", index as u64)?;
-    put_reasons(out, &said.finding)?;
     put_text(out, "state", state_word(&said.finding))?;
     put_text(out, "type", word)?;
     put_text_if(out, "type_from", encoding_word(facts))?;
-    put_verdicts(out, facts)?;
-    put_findings(alloc, out, said.findings.as_slice())
+    put_verdicts(out, facts)
 }

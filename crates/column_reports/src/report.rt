@@ -1,11 +1,13 @@
 //! What is said of a column, as one value.
 ghost use Rattle.std.specs.Prelude.{IfOk};
 ghost use Rattle.arrow_columns.specs.Column.{column_tree};
-ghost use Rattle.geoparquet.specs.Facts.{facts_alone, facts_view};
+ghost use Rattle.geoparquet.specs.Facts.{facts_view};
 ghost use Rattle.column_reports.specs.Columns.{IsColumnReport};
+ghost use Rattle.column_reports.specs.Named.{known, known_alone};
 ghost use Rattle.column_reports.specs.Weights.{plain, weighing};
 
 use crate::gathered::of_warnings;
+use crate::named::NamedBy;
 use crate::weighed::{Weighed, weigh};
 use crate::weights::Weights;
 use arrow_columns::SchemaColumn;
@@ -19,7 +21,7 @@ use std::alloc::{AllocError, Global};
 pub struct Options {
     /// Whether a column without an extension name is taken for what is inferred from its data type.
     pub infer: bool,
-    /// Whether the notes stand among the warnings (docs/FORMAT.md, 2.6).
+    /// Whether notes stand among the findings (docs/FORMAT.md, 2.6).
     pub notes: bool,
 }
 
@@ -33,11 +35,12 @@ pub struct ColumnReport {
     pub finding: column_check::Finding,
     /// What counts of its CRS, its edges and its encoding, and which source says it.
     pub facts: ColumnFacts,
-    /// What is found of it and shown: of what is doubtful, as `warnings` of `column_check` answers it.
+    /// What is found of it and shown: of why it is invalid and of what is doubtful, as `warnings` of
+    /// `column_check` answers it.
     pub findings: Vec<Weighed<'static>>,
 }
 
-/// Returns a column with what is said of it and what is doubtful of it, of a file that has nothing
+/// Returns a column with what is said of it and what is found of it, of a file that has nothing
 /// else to say of it: the facts are those that its field says. The scratch buffer is kept by the caller
 /// from column to column. Errs only when out of memory.
 ///
@@ -59,13 +62,13 @@ pub fn report_column(
     column: SchemaColumn,
     options: Options,
 ) -> Result<ColumnReport, AllocError>
-    ensures { IfOk result (IsColumnReport options.infer (plain options.notes) (column_tree column) (facts_alone (column_tree column))) }
+    ensures { IfOk result (IsColumnReport options.infer (plain options.notes) (column_tree column) (known_alone (column_tree column))) }
 {
     let weights = Weights::new(alloc, options.notes);
     weighed_column(alloc, scratch, column, options.infer, &weights)
 }
 
-/// Returns a column with what is said of it and what is doubtful of it, as it counts by what is asked
+/// Returns a column with what is said of it and what is found of it, as it counts by what is asked
 /// of findings. `infer` and the scratch buffer are as those of [`report_column`]. Errs only when out
 /// of memory.
 pub fn weighed_column(
@@ -75,27 +78,37 @@ pub fn weighed_column(
     infer: bool,
     weights: &Weights,
 ) -> Result<ColumnReport, AllocError>
-    ensures { IfOk result (IsColumnReport infer (weighing weights.now) (column_tree column) (facts_alone (column_tree column))) }
+    ensures { IfOk result (IsColumnReport infer (weighing weights.now) (column_tree column) (known_alone (column_tree column))) }
 {
     let facts = field_facts(alloc, &column)?;
-    column_with(alloc, scratch, column, facts, infer, weights)
+    column_with(
+        alloc,
+        scratch,
+        column,
+        facts,
+        NamedBy::Field,
+        infer,
+        weights,
+    )
 }
 
-/// Returns a column of those facts with what is said of it and what is doubtful of it, as it counts
-/// by what is asked of findings. Errs only when out of memory.
+/// Returns a column of those facts, which has its extension name by that, with what is said of it and
+/// what is found of it, as it counts by what is asked of findings. Errs only when out of memory.
 pub(crate) fn column_with(
     alloc: Global,
     scratch: &mut Scratch,
     column: SchemaColumn,
     facts: ColumnFacts,
+    by: NamedBy,
     infer: bool,
     weights: &Weights,
 ) -> Result<ColumnReport, AllocError>
-    ensures { IfOk result (IsColumnReport infer (weighing weights.now) (column_tree column) (facts_view facts)) }
+    ensures { IfOk result (IsColumnReport infer (weighing weights.now) (column_tree column) (known (facts_view facts, by))) }
 {
     let finding = inspect_column(alloc, scratch, &column, infer)?;
     let warnings = warnings(alloc, &column, &finding, true)?;
-    let findings = weigh(alloc, weights, of_warnings(alloc, warnings)?)?;
+    let told = of_warnings(alloc, by, &facts, &column, warnings)?;
+    let findings = weigh(alloc, weights, told)?;
     Ok(ColumnReport {
         column,
         finding,

@@ -22,20 +22,21 @@ impl<'a> Finding<'a> {
         ensures { IfOk result (λ text. option_map string_bytes text ≡ found_in self.now) }
     {
         match self {
-            Finding::Column(warning) => copied(alloc, warning.found.as_deref()),
+            Finding::Column(_, warning) => copied(alloc, warning.found.as_deref()),
             Finding::Text(finding) => Ok(Some(bytes_shown(alloc, finding.text.bytes)?)),
             Finding::File(finding) => copied(alloc, finding.found.as_deref()),
             Finding::Geo(_, finding) => copied(alloc, finding.found.as_deref()),
         }
     }
 
-    /// Returns what is expected in place of what is found, in words: that of the code, and behind
-    /// it in brackets what is wanted there, if it says more. Errs only when out of memory.
+    /// Returns what is expected in place of what is found, in words: of a column the layout of its
+    /// extension name, where that is wanted; else that of the code, and behind it in brackets what is
+    /// wanted there, if it says more. Errs only when out of memory.
     pub fn expected(&self, alloc: Global) -> Result<String, AllocError>
         ensures { IfOk result (λ text. string_bytes text ≡ expected_in self.now) }
     {
         match self {
-            Finding::Column(warning) => String::from_str(alloc, warning.code.expected()),
+            Finding::Column(_, warning) => String::from_str(alloc, warning.expected()),
             Finding::Text(finding) => String::from_str(alloc, finding.code.expected()),
             Finding::File(finding) => {
                 bracketed(alloc, finding.code.expected(), finding.wanted.as_deref())
@@ -49,7 +50,7 @@ impl<'a> Finding<'a> {
         ensures { IfOk result (λ text. option_map string_bytes text ≡ help_in self.now) }
     {
         match self {
-            Finding::Column(warning) => copied(alloc, warning.code.help()),
+            Finding::Column(_, warning) => copied(alloc, warning.help()),
             Finding::Text(finding) => copied(alloc, Some(finding.code.help())),
             Finding::File(finding) => copied(alloc, Some(finding.code.help())),
             Finding::Geo(version, finding) => finding.help(alloc, *version),

@@ -18,9 +18,9 @@ use std::alloc::{AllocError, Global};
 /// let path = vec![in alloc; String::from_str(alloc, "rings")?, String::from_str(alloc, "vertices")?]?;
 /// let found = Some(String::from_str(alloc, "nullable")?);
 /// let code = WarningCode::NullableInner;
-/// let finding = Finding::Column(Warning { code, path, pointer: None, found, more: 4 });
+/// let finding = Finding::Column(NamedBy::Field, Warning { code, path, pointer: None, found, wanted: None, more: 4 });
 /// let finding = Weighed { severity: Severity::Warning, finding };
-/// let text = "warning[NullableInner] at rings.vertices, and 4 more: found nullable; expected not null";
+/// let text = "warning[NullableInner] at rings.vertices, field, and 4 more: found nullable; expected not null";
 /// assert_eq!(rt; finding_words(alloc, &finding)?.as_str(), text);
 ///
 /// let finding = GeoFinding {

@@ -8,7 +8,6 @@ use Rattle.column_check.specs.declared.finding.Finding.TheVariants.{Geometry, In
 use Rattle.column_check.specs.States.{geometry_in}
 use Rattle.geoparquet.specs.Facts.{FactsOf, facts_view}
 use Rattle.column_reports.specs.FactMembers.{facts_in}
-use Rattle.column_reports.specs.Reasons.{words_of}
 use Rattle.column_reports.specs.Report.{type_word}
 use Rattle.column_reports.specs.FindingWords.{finding_words}
 use Rattle.column_reports.specs.declared.report.ColumnReport.{ColumnReport}
@@ -28,21 +27,16 @@ held c Plain = shown (type_word c None)
 held c (Invalid r) = codes "invalid " ++ shown (extension_word c)
 held c Extension = codes "extension " ++ shown (extension_word c)
 
--- the reasons of an invalid column
-abbrev pub reasons_in : ColumnFinding → List Text
-reasons_in (Invalid r) = words_of r
-reasons_in f = []
-
 -- the facts of geometries
 abbrev pub facts_of : ColumnReport → Option FactsOf
 facts_of r = facts_in (geometry_in r.finding) (facts_view r.facts)
 
--- the row: the column's name, what it holds, of geometries their CRS and edges, in cells that are cut; and as notes the reasons and the findings
+-- the row: the column's name, what it holds, of geometries their CRS and edges, in cells that are cut; and as notes what is found of it
 abbrev pub row_of : ColumnReport → Line
 row_of r = record {
   name = cut (shown (column_tree r.column).name);
   holds = cut (held (column_tree r.column) r.finding);
   crs = unwrap_or (option_map crs_that_counts (facts_of r)) [];
   edges = unwrap_or (option_map edges_that_count (facts_of r)) [];
-  notes = map shown (reasons_in r.finding ++ map finding_words r.findings.items);
+  notes = map shown (map finding_words r.findings.items);
 }

@@ -5,7 +5,7 @@ ghost use Rattle.arrow_columns.specs.Column.{column_tree};
 ghost use Rattle.geoparquet.specs.Facts.{facts_view};
 ghost use Rattle.column_reports.specs.FindingWords.{finding_words};
 ghost use Rattle.file_check.specs.Table.{line_of, cut};
-ghost use Rattle.file_check.specs.Columns.{extension_word, facts_of, held, reasons_in, row_of};
+ghost use Rattle.file_check.specs.Columns.{extension_word, facts_of, held, row_of};
 ghost use Rattle.file_check.specs.Crs.{crs_that_counts, edges_that_count};
 ghost use Rattle.file_check.specs.Shown.{shown};
 
@@ -15,14 +15,13 @@ use crate::table::Row;
 use crate::text::shown;
 use arrow_columns::SchemaColumn;
 use column_check::Finding;
-use column_reports::{ColumnReport, Weighed, finding_words, reason_words, type_word};
+use column_reports::{ColumnReport, Weighed, finding_words, type_word};
 use geoparquet::ColumnFacts;
 use std::alloc::{AllocError, Global};
 
 /// Returns the row of a column: its name; the kind, coordinate type and dimension of geometries, or
 /// the type of another column, and `invalid` or `extension` with the extension name; the CRS and the
-/// edges of geometries that count; and below it the reasons and the findings (`docs/FORMAT.md`, 2.5 to
-/// 2.7).
+/// edges of geometries that count; and below it what is found of it (`docs/FORMAT.md`, 2.5 to 2.7).
 /// Cells are cut by [`cut`], and control characters are shown as `?`. Errs only when out of memory.
 pub fn row_of(alloc: Global, report: &ColumnReport) -> Result<Row, AllocError>
     ensures { IfOk result (λ row. line_of row ≡ row_of report.now) }
@@ -33,7 +32,7 @@ pub fn row_of(alloc: Global, report: &ColumnReport) -> Result<Row, AllocError>
         holds: held_cell(alloc, &report.column, finding)?,
         crs: crs_cell(alloc, facts_of(report))?,
         edges: edges_cell(alloc, facts_of(report))?,
-        notes: notes_of(alloc, finding, report.findings.as_slice())?,
+        notes: notes_of(alloc, report.findings.as_slice())?,
     })
 }
 
@@ -119,28 +118,12 @@ fn edges_cell(alloc: Global, facts: Option<&ColumnFacts>) -> Result<String, Allo
     }
 }
 
-/// The reasons of an invalid column.
-fn reasons_in(alloc: Global, finding: &Finding) -> Result<Vec<String>, AllocError>
-    ensures { IfOk result (λ words. map string_bytes words.items ≡ reasons_in finding.now) }
+/// What is found of a column, as its row shows it.
+fn notes_of(alloc: Global, found: &[Weighed<'_>]) -> Result<Vec<String>, AllocError>
+    ensures { IfOk result (λ notes. map string_bytes notes.items ≡ map shown (map finding_words found.now)) }
 {
-    match finding {
-        Finding::Invalid(reasons) => reason_words(alloc, reasons),
-        _ => Ok(Vec::new(alloc)),
-    }
-}
-
-/// The reasons of a column, and what is found of it.
-fn notes_of(
-    alloc: Global,
-    finding: &Finding,
-    found: &[Weighed<'_>],
-) -> Result<Vec<String>, AllocError>
-    ensures { IfOk result (λ notes. map string_bytes notes.items ≡ map shown (reasons_in finding.now ++ map finding_words found.now)) }
-{
-    let reasons = reasons_in(alloc, finding)?;
     let found = words_of(alloc, found)?;
     let mut notes = Vec::new(alloc);
-    add_shown(alloc, &mut notes, reasons.as_slice())?;
     add_shown(alloc, &mut notes, found.as_slice())?;
     Ok(notes)
 }

@@ -2,8 +2,8 @@
 //! hexadecimal digits.
 use arrow_columns::SchemaColumn;
 use parquet_columns::{
-    ColumnsError, ElementClaim, ElementFault, FileColumns, FileFinding, SchemaError, columns_of,
-    read_file,
+    ColumnsError, ElementClaim, ElementColumns, ElementFault, FileColumns, FileFinding,
+    SchemaError, columns_of, read_file,
 };
 use parquet_footer::{
     Footer, FooterError, FooterFinding, FooterText, KeyValue, LogicalType, SchemaElement,
@@ -68,7 +68,7 @@ fn answer_bytes(it: &mut Asked<'_>, bytes: &[u8], key: &str) {
     }
 }
 
-/// Says the columns of the footer that some bytes are.
+/// Says the columns of the schema in the footer that some bytes are.
 fn answer_columns(it: &mut Asked<'_>, bytes: &[u8]) {
     match &*ManuallyDrop::new(read_footer(it.alloc, bytes)) {
         Ok(footer) => {
@@ -195,14 +195,20 @@ fn say_answer(said: &mut Said, read: &Result<Footer<'_>, FooterError>) {
     }
 }
 
-/// Says columns in Arrow's notation, or the rule that is broken and by which element; out of memory is no answer.
-fn say_columns(said: &mut Said, made: &Result<Vec<SchemaColumn>, ColumnsError>) {
+/// Says columns in Arrow's notation, and the rules that are broken in them, by which elements; or why there are none. Out of memory is no answer.
+fn say_columns(said: &mut Said, made: &Result<ElementColumns, ColumnsError>) {
     match made {
-        Ok(columns) => {
-            for (at, column) in columns.iter().enumerate() {
+        Ok(made) => {
+            for (at, column) in made.columns.iter().enumerate() {
                 said.push(if at > 0 { "; " } else { "" });
                 let notation = column.notation(said.alloc);
                 said.made(notation);
+            }
+            for broken in &made.faults {
+                let ElementFault { rule, at } = broken.fault;
+                said.push(" | ");
+                said.push(broken.column.as_str());
+                say!(said, " {rule:?} {at}");
             }
         }
         Err(ColumnsError::Broken(fault)) => {

@@ -6,8 +6,7 @@
 use column_check::read_metadata;
 use column_files::{FileFault, Form, open, open_end};
 use column_reports::{
-    ColumnReport, Options, Weighed, finding_words, reason_words, report_column, report_file,
-    report_of,
+    ColumnReport, Options, Weighed, finding_words, report_column, report_file, report_of,
 };
 use json::Scratch;
 use parquet_columns::SchemaError;
@@ -46,8 +45,7 @@ pub fn answer(it: &mut Asked<'_>) {
         },
         "columns_of_end" => end(it),
         "crs" => crs(it),
-        "reason_words" => words(it, reasons_of(it.alloc, text.as_str())),
-        "warning_words" => words(it, warnings_of(it.alloc, text.as_str())),
+        "column_words" => words(it, column_words(it.alloc, text.as_str())),
         _ => it.no_command(),
     }
 }
@@ -106,19 +104,8 @@ fn report(it: &mut Asked<'_>, bytes: &[u8], infer: bool, notes: bool) {
     }
 }
 
-/// The reasons of the first column that some lines denote, in words; none where it is not invalid.
-fn reasons_of(alloc: Global, text: &str) -> Result<Vec<String>, FileFault> {
-    match first_report(alloc, text)? {
-        Some(report) => match &report.finding {
-            column_check::Finding::Invalid(reasons) => Ok(reason_words(alloc, reasons)?),
-            _ => Ok(Vec::new(alloc)),
-        },
-        None => Ok(Vec::new(alloc)),
-    }
-}
-
-/// The warnings of the first column that some lines denote, in words.
-fn warnings_of(alloc: Global, text: &str) -> Result<Vec<String>, FileFault> {
+/// What is found of the first column that some lines denote, in words, notes among them.
+fn column_words(alloc: Global, text: &str) -> Result<Vec<String>, FileFault> {
     match first_report(alloc, text)? {
         Some(report) => Ok(words_of(alloc, report.findings.as_slice())?),
         None => Ok(Vec::new(alloc)),

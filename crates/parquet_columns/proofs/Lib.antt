@@ -11,6 +11,7 @@ mod Maps
 mod Named
 mod Names
 mod Parts
+mod Placed
 mod Spending
 mod Steps
 mod Utf8

@@ -3,17 +3,16 @@ use Rattle.std.proofs.Common.{◌≡◌, ◌≢◌, ◌==◌, true, false, ℕ, 
 use Rattle.std.specs.List.{slice_get}
 use Rattle.std.proofs.lemmas.Bool.Decides.{nat_tests}
 use Rattle.std.proofs.lemmas.List.{length-map}
-use Rattle.arrow_columns.specs.Column.{ColumnTree}
 use Rattle.std.proofs.lemmas.Option.{slice_get-map, slice_get_past, slice_get_read}
 use Rattle.parquet_footer.specs.declared.element.SchemaElement.{SchemaElement}
 use Rattle.parquet_footer.specs.Element.{Element, element}
 use Rattle.parquet_columns.specs.declared.fault.ElementFault.{ElementFault}
-use Rattle.parquet_columns.specs.declared.fault.SchemaRule.TheVariants.{Root, Children, Depth}
+use Rattle.parquet_columns.specs.declared.fault.SchemaRule.TheVariants.{Children, Depth}
 use Rattle.parquet_columns.specs.declared.fault.ColumnsError.{ColumnsError}
 use Rattle.parquet_columns.specs.declared.fault.ColumnsError.TheVariants.{Broken, OutOfMemory}
 use Rattle.parquet_columns.specs.Fault.{◌>>=◌, Says}
-use Rattle.parquet_columns.specs.Nodes.{NodeTree, column_of}
-use Rattle.parquet_columns.specs.Columns.{HeadTree, element_at, head_at, children_of, finished, nodes_by, node_at, used_up, columns_of}
+use Rattle.parquet_columns.specs.Nodes.{NodeTree}
+use Rattle.parquet_columns.specs.Columns.{HeadTree, element_at, head_at, children_of, finished, nodes_by, node_at}
 
 -- an error was handed on
 pub said : {X A : Type 0} (view : X → A) (there : Result A ElementFault) (r : Result X ColumnsError) (e : ColumnsError) → r ≡ Err e → Says view there (Err e) → Says view there r
@@ -112,43 +111,3 @@ module _ (read : ℕ → Result (NodeTree × ℕ) ElementFault) (front : List No
       let k : count - i ≡ 0 = omega arith in
       let here : with_front front (nodes_by read at (count - i)) ≡ Ok (front, at) = rw k (ap (λ (ys : List NodeTree). Ok (ys, at)) (append-nil front)) in
       sym so_far ∙ here
-
--- the root, and what is below it
-pub no_root : (es : List SchemaElement) → length es ≡ 0 → columns_of (map element es) ≡ Err (record { rule = Root; at = 0 })
-unfolding columns_of
-no_root [] none = refl
-no_root (e ∷ es) none = absurd (omega arith)
-
-module _ (d : SchemaElement) where
-  pub root_fails : (es : List SchemaElement) → 0 < length es → (get_or es 0 d).num_children ≡ None → columns_of (map element es) ≡ Err (record { rule = Root; at = 0 })
-  unfolding columns_of
-  root_fails [] some is = absurd (omega arith)
-  root_fails (x ∷ es) some is = rw is refl
-
-  pub root_says : (es : List SchemaElement) (n : ℕ) → 0 < length es → (get_or es 0 d).num_children ≡ Some n → columns_of (map element es) ≡ (nodes_by (node_at 64 (map element es)) 1 n >>= used_up (map element es))
-  unfolding columns_of
-  root_says [] n some is = absurd (omega arith)
-  root_says (x ∷ es) n some is = rw is refl
-
-  module _ (es : List SchemaElement) (n : ℕ) (some : 0 < length es) (is : (get_or es 0 d).num_children ≡ Some n) where
-    abbrev children : Result (List NodeTree × ℕ) ElementFault
-    children = nodes_by (node_at 64 (map element es)) 1 n
-
-    pub below_fails : {X Y : Type 0} (view : X → List NodeTree × ℕ) (over : Y → List ColumnTree) (e : ColumnsError) → Says view children (Err e) → Says over (columns_of (map element es)) (Err e)
-    below_fails view over e f = subst (λ r. Says over r (Err e)) (sym (root_says es n some is)) (first_fails view over children (used_up (map element es)) e f)
-
-    module _ (b : List NodeTree × ℕ) (are : children ≡ Ok b) where
-      then_used : columns_of (map element es) ≡ used_up (map element es) b
-      then_used = root_says es n some is ∙ ap (λ r. r >>= used_up (map element es)) are
-
-      pub left_over : b.1 ≢ length es → columns_of (map element es) ≡ Err (record { rule = Children; at = b.1 })
-      left_over not =
-          let count = length-map es element in
-          let no : (b.1 == length (map element es)) ≡ false = grind (arith, nat_tests, not, count) in
-          then_used ∙ rw no refl
-
-      pub used : b.1 ≡ length es → columns_of (map element es) ≡ Ok (map column_of b.0)
-      used all =
-          let count = length-map es element in
-          let yes : (b.1 == length (map element es)) ≡ true = grind (arith, nat_tests, all, count) in
-          then_used ∙ rw yes refl

@@ -1,5 +1,5 @@
 -- What the geometry types of elements say beside columns (docs/FORMAT.md, 4.6).
-use Rattle.std.specs.Prelude.{ℕ, ◌+◌, Bool, List, [], ◌∷◌, length, codes, Option, None, Some, is_some, string_bytes}
+use Rattle.std.specs.Prelude.{ℕ, ◌+◌, Bool, List, [], ◌∷◌, length, codes, Option, None, Some, is_some, string_bytes, if◌then◌else◌}
 use Rattle.arrow_values.specs.Tree.{Text}
 use Rattle.arrow_columns.specs.Column.{ColumnTree, name_on}
 use Rattle.geoarrow_meta.specs.declared.edges.Edges.{Edges}
@@ -7,6 +7,7 @@ use Rattle.geoarrow_meta.specs.declared.edges.Edges.TheVariants.{Andoyer, Karney
 use Rattle.parquet_footer.specs.Element.{Element}
 use Rattle.parquet_footer.specs.Footer.{Pairing}
 use Rattle.parquet_columns.specs.Budget.{size_of}
+use Rattle.parquet_columns.specs.Unreadable.{is_unreadable}
 use Rattle.parquet_columns.specs.Geometry.{GeometrySays, geometry_of, crs_in, text_with, given}
 use Rattle.parquet_columns.specs.declared.claim.ElementClaim.{ElementClaim}
 use Rattle.parquet_columns.specs.declared.claim.ElementClaim.TheVariants.{Silent, Given, Beside}
@@ -37,7 +38,7 @@ abbrev pub own_text : List Pairing → Option Text → Option Edges → Text
 own_text pairs None edges = edges_alone edges
 own_text pairs (Some crs) edges = text_with (crs_in pairs (Some crs)) edges
 
--- what a geometry type says beside a column, by the column's extension name
+-- what a geometry type says beside a column that is read, by the column's extension name
 abbrev pub claim_by : List Pairing → Option Text → Option GeometrySays → Claim
 claim_by pairs name None = silent
 claim_by pairs None (Some g) = gives (is_some g.crs)
@@ -45,7 +46,7 @@ claim_by pairs (Some name) (Some g) = beside (own_text pairs g.crs g.edges)
 
 abbrev pub claim_of : List Pairing → Option Element → ColumnTree → Claim
 claim_of pairs None c = silent
-claim_of pairs (Some e) c = claim_by pairs (name_on c) (geometry_of e)
+claim_of pairs (Some e) c = if is_unreadable c.data_type then silent else claim_by pairs (name_on c) (geometry_of e)
 
 -- for each column that of the element at its place
 abbrev pub claims : List Pairing → List Element → List ColumnTree → List Claim

@@ -1,8 +1,9 @@
 -- The columns of a schema, whose elements stand depth first, the root first.
-use Rattle.std.specs.Prelude.{ℕ, zero, suc, ◌+◌, Bool, false, List, [], ◌∷◌, length, map, Option, Some, None, Result, Ok, nat_lt, ◌==◌, if◌then◌else◌}
+use Rattle.std.specs.Prelude.{ℕ, zero, suc, ◌+◌, Bool, false, List, [], ◌∷◌, map, flat_map, string_bytes, Option, Some, None, Result, Ok, Err, nat_lt, if◌then◌else◌}
 use Rattle.std.specs.List.{slice_get}
 use Rattle.arrow_values.specs.Tree.{Text}
-use Rattle.arrow_columns.specs.Column.{ColumnTree}
+use Rattle.std.specs.Str.Lossy.{utf8_lossy}
+use Rattle.arrow_columns.specs.Column.{ColumnTree, column_tree}
 use Rattle.parquet_footer.specs.declared.element.PhysicalType.{PhysicalType}
 use Rattle.parquet_footer.specs.declared.element.Repetition.{Repetition}
 use Rattle.parquet_footer.specs.Element.{Element, element}
@@ -11,6 +12,8 @@ use Rattle.parquet_columns.specs.declared.annotation.Annotation.TheVariants.{Pla
 use Rattle.parquet_columns.specs.declared.columns.Kind.{Kind}
 use Rattle.parquet_columns.specs.declared.columns.Kind.TheVariants.{Leaf, Group}
 use Rattle.parquet_columns.specs.declared.columns.Head.{Head}
+use Rattle.parquet_columns.specs.declared.columns.ColumnFault.{ColumnFault}
+use Rattle.parquet_columns.specs.declared.columns.ElementColumns.{ElementColumns}
 use Rattle.parquet_columns.specs.declared.fault.ElementFault.{ElementFault}
 use Rattle.parquet_columns.specs.declared.fault.SchemaRule.TheVariants.{Root, Children, Element as NoElement, Repetition as NoRepetition, Depth}
 use Rattle.parquet_columns.specs.Fault.{breaks, ◌>>=◌}
@@ -18,6 +21,8 @@ use Rattle.parquet_columns.specs.Meaning.{meaning_of}
 use Rattle.parquet_columns.specs.Leaf.{leaf_type}
 use Rattle.parquet_columns.specs.Annotation.{annotation_of}
 use Rattle.parquet_columns.specs.Nodes.{ShapeTree, typed, NodeTree, group_shape, list_shape, map_shape, column_of}
+use Rattle.parquet_columns.specs.Unreadable.{unreadable_column}
+use Rattle.parquet_columns.specs.Places.{Child, children_of_root}
 
 -- an element is a leaf, which says how its values are stored, or a group, which says how many children it has
 abbrev pub has_children : Option ℕ → Bool
@@ -104,14 +109,47 @@ abbrev pub root_count : Option ℕ → Result ℕ ElementFault
 root_count None = breaks Root 0
 root_count (Some n) = Ok n
 
--- the columns, which use up the elements
-abbrev pub used_up : List Element → List NodeTree × ℕ → Result (List ColumnTree) ElementFault
-used_up es below = if below.1 == length es then Ok (map column_of below.0) else breaks Children below.1
+-- the rule that is broken in the column of a name
+pub record FaultTree : Type 0 where
+  pub column : Text
+  pub fault : ElementFault
 
--- the first element is the root, which says how many columns there are
-unfoldable pub columns_of : List Element → Result (List ColumnTree) ElementFault
+-- the columns of a schema, and the rules that are broken in them
+pub record ColumnTrees : Type 0 where
+  pub columns : List ColumnTree
+  pub faults : List FaultTree
+
+abbrev pub fault_tree : ColumnFault → FaultTree
+fault_tree f = record { column = string_bytes f.column; fault = f.fault }
+
+abbrev pub column_trees : ElementColumns → ColumnTrees
+column_trees made = record { columns = map column_tree made.columns.items; faults = map fault_tree made.faults.items }
+
+-- each child of the root is read for itself, with all that is below it
+abbrev pub read_column : Text → Result (NodeTree × ℕ) ElementFault → ColumnTree
+read_column name (Ok n) = column_of n.0
+read_column name (Err fault) = unreadable_column name
+
+abbrev pub read_fault : Text → Result (NodeTree × ℕ) ElementFault → List FaultTree
+read_fault name (Ok n) = []
+read_fault name (Err fault) = record { column = utf8_lossy name; fault = fault } ∷ []
+
+abbrev pub column_at : List Element → Child → ColumnTree
+column_at es c = read_column c.name (node_at 64 es c.at)
+
+abbrev pub faults_at : List Element → Child → List FaultTree
+faults_at es c = read_fault c.name (node_at 64 es c.at)
+
+abbrev pub columns_at : List Element → List Child → ColumnTrees
+columns_at es cs = record { columns = map (column_at es) cs; faults = flat_map (faults_at es) cs }
+
+-- the first element is the root, which says how many columns there are; its children use up the elements
+abbrev pub columns_below : List Element → Option ℕ → List Element → Result ColumnTrees ElementFault
+columns_below all count es = do
+  n ← root_count count
+  cs ← children_of_root n es
+  Ok (columns_at all cs)
+
+unfoldable pub columns_of : List Element → Result ColumnTrees ElementFault
 columns_of [] = breaks Root 0
-columns_of (root ∷ es) = do
-  n ← root_count root.num_children
-  below ← nodes_by (node_at 64 (root ∷ es)) 1 n
-  used_up (root ∷ es) below
+columns_of (root ∷ es) = columns_below (root ∷ es) root.num_children es

@@ -1,5 +1,5 @@
 -- What is found of the elements of a schema (docs/FORMAT.md, 4.5).
-use Rattle.std.specs.Prelude.{ℕ, zero, suc, ◌+◌, ◌==◌, ◌&&◌, Bool, true, false, List, [], ◌∷◌, ◌++◌, codes, Option, Some, None, is_some, if◌then◌else◌}
+use Rattle.std.specs.Prelude.{ℕ, zero, suc, ◌+◌, ◌==◌, ◌&&◌, Bool, true, false, List, [], ◌∷◌, ◌++◌, codes, Option, Some, None, is_some, not, ◌||◌, if◌then◌else◌}
 use Rattle.std.specs.Fmt.{decimal}
 use Rattle.std.specs.Str.{bytes_eq}
 use Rattle.std.specs.Str.Lossy.{utf8_lossy}
@@ -10,12 +10,13 @@ use Rattle.parquet_footer.specs.Logical.{Logical, geometry, geography}
 use Rattle.parquet_footer.specs.Element.{Element}
 use Rattle.parquet_footer.specs.Footer.{Pairing}
 use Rattle.parquet_columns.specs.Keys.{text_at}
-use Rattle.parquet_columns.specs.Geometry.{colon_parts, count_of}
+use Rattle.parquet_columns.specs.Geometry.{colon_parts, count_of, is_repeated}
 use Rattle.parquet_columns.specs.Values.{compact_of}
 use Rattle.parquet_columns.specs.Storage.{is_group, storage_of, is_stored, storage_text}
+use Rattle.parquet_columns.specs.Resolved.{is_geometry_type}
 use Rattle.parquet_columns.specs.TypeNames.{type_name, physical_name}
 use Rattle.parquet_columns.specs.declared.code.FileCode.{FileCode}
-use Rattle.parquet_columns.specs.declared.code.FileCode.TheVariants.{EmptyGroup, LogicalTypeInvalid, UnknownAlgorithm, CrsKeyMissing}
+use Rattle.parquet_columns.specs.declared.code.FileCode.TheVariants.{EmptyGroup, LogicalTypeInvalid, UnknownAlgorithm, CrsKeyMissing, NestedGeometry}
 use Rattle.parquet_columns.specs.declared.code.FilePart.TheVariants.{Elements}
 use Rattle.parquet_columns.specs.declared.finding.FilePlace.{FilePlace}
 use Rattle.parquet_columns.specs.Findings.{Finding}
@@ -87,9 +88,23 @@ missing_by pairs is_column e (Some key) = if is_some (compact_of (text_at key pa
 abbrev pub missing_key : List Pairing → Bool → Element → List Finding
 missing_key pairs is_column e = missing_by pairs is_column e (key_of (logical_crs e.logical_type))
 
+-- a geometry type below a column, or of a REPEATED element: the type, and the CRS if it names one
+abbrev pub crs_part : Option Text → Text
+crs_part None = []
+crs_part (Some crs) = codes "(" ++ (crs ++ codes ")")
+
+abbrev pub geometry_text : Element → Text
+geometry_text e = type_name e ++ crs_part (logical_crs e.logical_type)
+
+abbrev pub is_nested : Bool → Element → Bool
+is_nested is_column e = is_geometry_type e.logical_type && (not is_column || is_repeated e.storage.repetition)
+
+abbrev pub nested_geometry : Bool → Element → List Finding
+nested_geometry is_column e = if is_nested is_column e then of_element NestedGeometry is_column e (geometry_text e) None ∷ [] else []
+
 -- a type is looked into where it goes with the physical type
 abbrev pub geometry_findings : List Pairing → Bool → Element → List Finding
-geometry_findings pairs is_column e = unknown_algorithm is_column e ++ missing_key pairs is_column e
+geometry_findings pairs is_column e = unknown_algorithm is_column e ++ (missing_key pairs is_column e ++ nested_geometry is_column e)
 
 abbrev pub type_findings : List Pairing → Bool → Element → List Finding
 type_findings pairs is_column e = if is_stored (storage_of e) e then geometry_findings pairs is_column e else invalid_type is_column e ∷ []

@@ -24,6 +24,7 @@ use Rattle.parquet_footer.specs.Element.{Element}
 use Rattle.parquet_footer.specs.Footer.{Pairing}
 use Rattle.parquet_footer.specs.Logical.{Logical, geometry, geography}
 use Rattle.parquet_columns.specs.Keys.{text_at}
+use Rattle.parquet_columns.specs.Unreadable.{is_unreadable}
 
 -- a CRS by the tokens that it is written with, and its type
 pub record TypedCrs : Type 0 where
@@ -109,14 +110,14 @@ denoted pairs g = text_with (crs_in pairs g.crs) g.edges
 abbrev pub extension_text : List Pairing → Element → Option Text
 extension_text pairs e = option_map (denoted pairs) (geometry_of e)
 
--- the extension metadata that a column is given: those that its element denotes, if it has no extension name
+-- the extension metadata that a column is given: those that its element denotes, if it is read and has no extension name
 abbrev pub given_by : Option Text → Option Text → Option Text
 given_by None text = text
 given_by (Some name) text = None
 
 abbrev pub given : List Pairing → Option Element → ColumnTree → Option Text
 given pairs None c = None
-given pairs (Some e) c = given_by (name_on c) (extension_text pairs e)
+given pairs (Some e) c = if is_unreadable c.data_type then None else given_by (name_on c) (extension_text pairs e)
 
 -- with extension metadata that it is given, a column has the name of well-known binary
 abbrev pub marked_by : Option Text → ColumnTree → ColumnTree

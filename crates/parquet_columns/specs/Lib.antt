@@ -3,6 +3,8 @@ pub mod Meaning
 pub mod Leaf
 pub mod Annotation
 pub mod Nodes
+pub mod Unreadable
+pub mod Places
 pub mod Columns
 pub mod Budget
 pub mod SchemaFault
@@ -18,6 +20,8 @@ pub mod Claims
 pub mod Marks
 pub mod Codes
 pub mod Findings
+pub mod GeoKeys
+pub mod Invalid
 pub mod Stored
 pub mod Reads
 pub mod Typed

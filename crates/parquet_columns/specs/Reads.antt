@@ -1,13 +1,10 @@
 -- Which columns a footer denotes, and a file, and what is found in it; or why they denote none.
 use Rattle.std.specs.Prelude.{◌≡◌, ℕ, ◌+◌, ◌-◌, ◌≤◌, ◌<◌, List, [], ◌∷◌, ◌++◌, length, take, drop, map, Option, Some, None, Result, Ok, Err, ⊤, nat_lt, if◌then◌else◌}
 use Rattle.std.specs.Borrow.{Bor}
-use Rattle.std.specs.declared.vec.Vec.{Vec}
-use Rattle.std.specs.declared.alloc.Global.{Global}
 use Rattle.arrow_values.specs.Tree.{Text, Metadata}
 use Rattle.arrow_values.specs.Texts.{text_of, text_at}
 use Rattle.arrow_values.specs.View.{texts_of}
 use Rattle.arrow_columns.specs.Column.{ColumnTree, column_tree}
-use Rattle.arrow_columns.specs.declared.column.SchemaColumn.{SchemaColumn}
 use Rattle.parquet_footer.specs.Spelled.{Spelled}
 use Rattle.parquet_footer.specs.Element.{Element}
 use Rattle.parquet_footer.specs.Footer.{Contents, Pairing, footer_at}
@@ -16,13 +13,16 @@ use Rattle.parquet_footer.specs.Tail.{length_at}
 use Rattle.parquet_footer.specs.declared.fault.Fault as footers
 use Rattle.parquet_footer.specs.declared.fault.FooterError.{FooterError}
 use Rattle.parquet_footer.specs.declared.fault.FooterError.TheVariants.{NotParquet, Invalid}
-use Rattle.parquet_columns.specs.Columns.{columns_of}
+use Rattle.parquet_columns.specs.Columns.{FaultTree, ColumnTrees, column_trees, columns_of}
+use Rattle.parquet_columns.specs.Invalid.{invalid_elements}
+use Rattle.parquet_columns.specs.declared.columns.ElementColumns.{ElementColumns}
 use Rattle.parquet_columns.specs.declared.fault.ElementFault as elements
 use Rattle.parquet_columns.specs.Keys.{schema_key, value_of}
 use Rattle.parquet_columns.specs.Budget.{budget}
 use Rattle.parquet_columns.specs.Geometry.{root_children, marked_columns}
 use Rattle.parquet_columns.specs.Claims.{Claim, claim, claims, made_bytes}
 use Rattle.parquet_columns.specs.Findings.{Finding, finding, of_file, first_other, other_names, unreadable, geo_key, repeated_keys}
+use Rattle.parquet_columns.specs.GeoKeys.{other_geo_findings}
 use Rattle.parquet_columns.specs.Resolved.{resolved_from, resolved_columns, resolved_findings}
 use Rattle.parquet_columns.specs.Elements.{findings_below}
 use Rattle.parquet_columns.specs.declared.code.FileCode.TheVariants.{GeoNotInFooter}
@@ -35,9 +35,9 @@ use Rattle.parquet_columns.specs.declared.footer.Unmarked.{Unmarked}
 use Rattle.parquet_columns.specs.declared.error.SchemaError.{SchemaError}
 use Rattle.parquet_columns.specs.declared.error.SchemaError.TheVariants.{Footer, Cut, Elements, Budget, OutOfMemory}
 
--- what is made of the elements: their columns, or the rule that they break
-abbrev pub IsBuilt : Result (List ColumnTree) elements.ElementFault → Result (Vec SchemaColumn Global) SchemaError → Type 0
-IsBuilt there (Ok columns) = there ≡ Ok (map column_tree columns.items)
+-- what is made of the elements: their columns, or why their tree has no shape
+abbrev pub IsBuilt : Result ColumnTrees elements.ElementFault → Result ElementColumns SchemaError → Type 0
+IsBuilt there (Ok made) = there ≡ Ok (column_trees made)
 IsBuilt there (Err (Elements fault)) = there ≡ Err fault
 IsBuilt there (Err OutOfMemory) = ⊤
 IsBuilt there (Err _) = ⊥
@@ -92,31 +92,35 @@ chosen c (Some (Unreadable fault)) cs = record { columns = cs; findings = unread
 abbrev pub made_of : Contents → List ColumnTree → ℕ
 made_of c cs = made_bytes c.key_value_metadata (root_children c.schema) cs
 
--- columns of geometry types have the extension that their elements denote, or the elements say it beside them; and what is found of the elements
--- and of repeated keys comes behind
-abbrev pub read_with : Contents → Choice → Read
-read_with c read = record {
+-- columns of geometry types have the extension that their elements denote, or the elements say it beside them; and what is found of columns that are not
+-- read, of the elements and of keys comes behind
+abbrev pub found_with : Contents → List FaultTree → List Finding
+found_with c faults = invalid_elements c.schema faults ++ findings_below c.key_value_metadata c.schema ++ (other_geo_findings c.key_value_metadata ++ repeated_keys c.key_value_metadata)
+
+abbrev pub read_with : Contents → List FaultTree → Choice → Read
+read_with c faults read = record {
   columns = marked_columns c.key_value_metadata (root_children c.schema) read.columns;
   elements = claims c.key_value_metadata (root_children c.schema) read.columns;
-  findings = read.findings ++ findings_below c.key_value_metadata c.schema ++ repeated_keys c.key_value_metadata;
+  findings = read.findings ++ found_with c faults;
 }
 
 -- what is read of a footer of so many bytes, by the columns that are chosen, within the budget
-abbrev pub IsReadWith : ℕ → Contents → Choice → Result FooterColumns SchemaError → Type 0
-IsReadWith n c read (Ok r) = (made_of c read.columns ≤ budget n) × (read_of r ≡ read_with c read)
-IsReadWith n c read (Err Budget) = budget n < made_of c read.columns
-IsReadWith n c read (Err OutOfMemory) = ⊤
-IsReadWith n c read (Err _) = ⊥
+abbrev pub IsReadWith : ℕ → Contents → List FaultTree → Choice → Result FooterColumns SchemaError → Type 0
+IsReadWith n c faults read (Ok r) = (made_of c read.columns ≤ budget n) × (read_of r ≡ read_with c faults read)
+IsReadWith n c faults read (Err Budget) = budget n < made_of c read.columns
+IsReadWith n c faults read (Err OutOfMemory) = ⊤
+IsReadWith n c faults read (Err _) = ⊥
 
 -- by what is stored
-abbrev pub IsReadBy : ℕ → Contents → List ColumnTree → Result FooterColumns SchemaError → Type 0
-IsReadBy n c cs r = (stored : Option Stored) × AreStored (value_of schema_key c.key_value_metadata) stored × IsReadWith n c (chosen c stored cs) r
+abbrev pub IsReadBy : ℕ → Contents → ColumnTrees → Result FooterColumns SchemaError → Type 0
+IsReadBy n c made r =
+    (stored : Option Stored) × AreStored (value_of schema_key c.key_value_metadata) stored × IsReadWith n c made.faults (chosen c stored made.columns) r
 
 -- what is read of a footer of so many bytes, by the elements of its schema
 abbrev pub IsFooterRead : ℕ → Contents → Result FooterColumns SchemaError → Type 0
 IsFooterRead n c (Err OutOfMemory) = ⊤
 IsFooterRead n c (Err (Elements fault)) = columns_of c.schema ≡ Err fault
-IsFooterRead n c r = (cs : List ColumnTree) × (columns_of c.schema ≡ Ok cs) × IsReadBy n c cs r
+IsFooterRead n c r = (made : ColumnTrees) × (columns_of c.schema ≡ Ok made) × IsReadBy n c made r
 
 -- the footer at the end of a file: its length and the magic stand behind it, in eight bytes
 abbrev pub footer_before : List ℕ → Result ℕ FooterError → Result (List ℕ) SchemaError

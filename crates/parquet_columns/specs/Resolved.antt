@@ -11,6 +11,7 @@ use Rattle.parquet_columns.specs.declared.code.FileCode.TheVariants.{ArrowSchema
 use Rattle.parquet_columns.specs.declared.code.FilePart.TheVariants.{StoredMessage}
 use Rattle.parquet_columns.specs.Findings.{Finding}
 use Rattle.parquet_columns.specs.Fits.{type_fits}
+use Rattle.parquet_columns.specs.Unreadable.{is_unreadable}
 
 -- a column may hold geometries: its element is of a geometry type, or its field has an extension name of GeoArrow or an old one
 abbrev pub is_geometry_type : Option Logical → Bool
@@ -51,9 +52,12 @@ abbrev pub resolve_by : Bool → ColumnTree → ColumnTree → ColumnTree × Opt
 resolve_by true c s = (s, None)
 resolve_by false c s = (bare c, Some (contradiction c s))
 
+-- one whose element's column is not read stays so
 abbrev pub resolve : Option Element → Option ColumnTree → ColumnTree → ColumnTree × Option Finding
 resolve e None s = (s, None)
-resolve e (Some c) s = if may_hold e s then resolve_by (type_fits c.data_type s.data_type) c s else (s, None)
+resolve e (Some c) s =
+    if is_unreadable c.data_type then (bare c, None) else
+    if may_hold e s then resolve_by (type_fits c.data_type s.data_type) c s else (s, None)
 
 -- each stored column by the element and the element's column at its place
 abbrev pub resolved_from : ℕ → List Element → List ColumnTree → List ColumnTree → List (ColumnTree × Option Finding)

@@ -8,16 +8,16 @@ use Rattle.parquet_columns.specs.declared.error.SchemaError.{SchemaError}
 use Rattle.parquet_columns.specs.declared.error.SchemaError.TheVariants as errors
 use Rattle.parquet_footer.specs.Rules as footer
 
--- the code of a rule, as reports have it
+-- the code of a rule, as reports have it: a file that breaks one of the first two is refused, one that breaks another has a finding
 abbrev pub rule_code : SchemaRule → Text
 rule_code rules.Root = codes "SchemaRoot"
 rule_code rules.Children = codes "SchemaChildren"
-rule_code rules.Element = codes "SchemaElement"
-rule_code rules.Repetition = codes "SchemaRepetition"
-rule_code rules.Length = codes "SchemaLength"
-rule_code rules.List = codes "SchemaList"
-rule_code rules.Map = codes "SchemaMap"
-rule_code rules.Depth = codes "SchemaDepth"
+rule_code rules.Element = codes "ElementInvalid"
+rule_code rules.Repetition = codes "ElementInvalid"
+rule_code rules.Length = codes "ElementInvalid"
+rule_code rules.List = codes "ElementInvalid"
+rule_code rules.Map = codes "ElementInvalid"
+rule_code rules.Depth = codes "ElementInvalid"
 
 -- what is wrong where a rule is broken
 abbrev pub rule_message : SchemaRule → Text
@@ -29,6 +29,17 @@ rule_message rules.Length = codes "a fixed length that is not there or too large
 rule_message rules.List = codes "a list without one repeated element"
 rule_message rules.Map = codes "a map without one repeated group"
 rule_message rules.Depth = codes "nested too deep"
+
+-- what a rule asks
+abbrev pub rule_wanted : SchemaRule → Text
+rule_wanted rules.Root = codes "a group"
+rule_wanted rules.Children = codes "as many elements as there are children"
+rule_wanted rules.Element = codes "a physical type, or a number of children"
+rule_wanted rules.Repetition = codes "required, optional or repeated"
+rule_wanted rules.Length = codes "a length below 2147483648"
+rule_wanted rules.List = codes "one repeated element"
+rule_wanted rules.Map = codes "one repeated group"
+rule_wanted rules.Depth = codes "at most 64 levels"
 
 -- the code of why a file has no columns, and what is wrong
 abbrev pub error_code : SchemaError → Text

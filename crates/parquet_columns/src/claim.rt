@@ -7,6 +7,7 @@ ghost use Rattle.parquet_columns.specs.Says.{says};
 ghost use Rattle.parquet_columns.specs.Claims.{claim, edges_alone, own_text, claim_by, claim_of, claim_size};
 
 use crate::geometry::{GeometrySays, geometry_of, text_with};
+use crate::unreadable::is_unreadable;
 use crate::values::KeyValues;
 use arrow_columns::SchemaColumn;
 use geoarrow_meta::Edges;
@@ -17,7 +18,8 @@ use std::alloc::{AllocError, Global};
 /// (`docs/FORMAT.md`, 4.6).
 #[derive(Debug, Drop)]
 pub enum ElementClaim {
-    /// Nothing: the element is of no geometry type, or is none that 4.6 speaks of.
+    /// Nothing: the element is of no geometry type, is none that 4.6 speaks of, or its column is
+    /// not read.
     Silent,
     /// The column has its extension name and metadata from the element, as its field has no extension
     /// name of its own.
@@ -93,6 +95,9 @@ pub(crate) fn claim_of<'a>(
     let Some(child) = child else {
         return Ok(ElementClaim::Silent);
     };
+    if is_unreadable(&column.data_type) {
+        return Ok(ElementClaim::Silent);
+    }
     claim_by(
         alloc,
         values,

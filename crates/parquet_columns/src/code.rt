@@ -17,6 +17,8 @@ pub enum FileCode {
     /// The key `geo` stands in the metadata of the schema at `ARROW:schema`, and has no value in
     /// the footer.
     GeoNotInFooter,
+    /// An element of a column breaks a rule of the schema, so that the column is not read.
+    ElementInvalid,
     /// A group has no children.
     EmptyGroup,
     /// A logical or converted type stands on a physical type that it does not go with.
@@ -26,21 +28,28 @@ pub enum FileCode {
     /// The CRS of a geometry type is `projjson:KEY`, and the key has no value that is a JSON
     /// object.
     CrsKeyMissing,
+    /// An element below a column, or one that is REPEATED, is GEOMETRY or GEOGRAPHY.
+    NestedGeometry,
+    /// A key is `geo` but for the case of its letters, and `geo` has no value.
+    NoGeoMetadata,
     /// The key `geo` or `ARROW:schema` stands several times with a value.
     RepeatedKey,
 }
 
 impl FileCode {
     /// Each code, in the order of docs/FORMAT.md, 4.5.
-    pub const ALL: [FileCode; 9] = [
+    pub const ALL: [FileCode; 12] = [
         FileCode::ArrowSchemaUnreadable,
         FileCode::ArrowSchemaNames,
         FileCode::ArrowSchemaContradicts,
         FileCode::GeoNotInFooter,
+        FileCode::ElementInvalid,
         FileCode::EmptyGroup,
         FileCode::LogicalTypeInvalid,
         FileCode::UnknownAlgorithm,
         FileCode::CrsKeyMissing,
+        FileCode::NestedGeometry,
+        FileCode::NoGeoMetadata,
         FileCode::RepeatedKey,
     ];
 
@@ -53,10 +62,13 @@ impl FileCode {
             Self::ArrowSchemaNames => "ArrowSchemaNames",
             Self::ArrowSchemaContradicts => "ArrowSchemaContradicts",
             Self::GeoNotInFooter => "GeoNotInFooter",
+            Self::ElementInvalid => "ElementInvalid",
             Self::EmptyGroup => "EmptyGroup",
             Self::LogicalTypeInvalid => "LogicalTypeInvalid",
             Self::UnknownAlgorithm => "UnknownAlgorithm",
             Self::CrsKeyMissing => "CrsKeyMissing",
+            Self::NestedGeometry => "NestedGeometry",
+            Self::NoGeoMetadata => "NoGeoMetadata",
             Self::RepeatedKey => "RepeatedKey",
         }
     }
@@ -70,10 +82,13 @@ impl FileCode {
             Self::ArrowSchemaNames => Severity::Warning,
             Self::ArrowSchemaContradicts => Severity::Error,
             Self::GeoNotInFooter => Severity::Warning,
+            Self::ElementInvalid => Severity::Error,
             Self::EmptyGroup => Severity::Warning,
             Self::LogicalTypeInvalid => Severity::Error,
             Self::UnknownAlgorithm => Severity::Warning,
             Self::CrsKeyMissing => Severity::Error,
+            Self::NestedGeometry => Severity::Warning,
+            Self::NoGeoMetadata => Severity::Warning,
             Self::RepeatedKey => Severity::Warning,
         }
     }
@@ -91,12 +106,17 @@ impl FileCode {
                 "the type of a field at ARROW:schema does not fit the element, of a column that may hold geometries",
             Self::GeoNotInFooter =>
                 "geo stands in the metadata of the schema at ARROW:schema, and has no value in the footer",
+            Self::ElementInvalid => "an element of the column breaks a rule of the schema",
             Self::EmptyGroup => "a group has no children",
             Self::LogicalTypeInvalid =>
                 "a logical or converted type stands on a physical type that it does not go with",
             Self::UnknownAlgorithm => "the algorithm of a GEOGRAPHY has a number other than 0 to 4",
             Self::CrsKeyMissing =>
                 "the CRS of a geometry type is projjson:KEY, and KEY has no value that is a JSON object",
+            Self::NestedGeometry =>
+                "an element below a column, or one that is REPEATED, is GEOMETRY or GEOGRAPHY",
+            Self::NoGeoMetadata =>
+                "a key is geo but for the case of its letters, and geo has no value",
             Self::RepeatedKey => "geo or ARROW:schema stands several times with a value",
         }
     }
@@ -110,10 +130,13 @@ impl FileCode {
             Self::ArrowSchemaNames => "the names of the elements, in their order",
             Self::ArrowSchemaContradicts => "a type that the element has",
             Self::GeoNotInFooter => "geo among the keys of the footer",
+            Self::ElementInvalid => "an element that keeps the rule",
             Self::EmptyGroup => "children",
             Self::LogicalTypeInvalid => "the physical type of that type",
             Self::UnknownAlgorithm => "0 to 4, spherical, vincenty, thomas, andoyer or karney",
             Self::CrsKeyMissing => "a key whose value is PROJJSON",
+            Self::NestedGeometry => "a column at the root that is not REPEATED",
+            Self::NoGeoMetadata => "geo",
             Self::RepeatedKey => "one value of the key",
         }
     }
@@ -131,10 +154,14 @@ impl FileCode {
                 "Readers that follow the stored schema cannot read the column; its type here is that of the element.",
             Self::GeoNotInFooter =>
                 "Readers of GeoParquet look in the footer; it is not used here.",
+            Self::ElementInvalid => "The column is not read, the others are.",
             Self::EmptyGroup => "It is a struct of no fields.",
             Self::LogicalTypeInvalid => "Other readers refuse the file; the type is ignored here.",
             Self::UnknownAlgorithm => "The edges are not known; they are taken as spherical.",
             Self::CrsKeyMissing => "The text is kept as the CRS, and no reader knows it.",
+            Self::NestedGeometry => "GeoParquet takes columns at the root alone.",
+            Self::NoGeoMetadata =>
+                "Readers of GeoParquet look for geo in small letters; it is not used here.",
             Self::RepeatedKey => "The last counts here; other readers take the first.",
         }
     }

@@ -1,19 +1,23 @@
 //! The columns of a schema.
-ghost use Rattle.std.specs.Prelude.{◌≡◌, ◌<◌, length, IfOk, map};
+ghost use Rattle.std.specs.Prelude.{◌≡◌, ◌<◌, ◌++◌, ◌∷◌, [], length, IfOk, OnOk, map};
+ghost use Rattle.std.specs.Str.Lossy.{utf8_lossy};
 ghost use Rattle.arrow_columns.specs.Column.{column_tree};
 ghost use Rattle.parquet_footer.specs.Element.{element};
 ghost use Rattle.parquet_columns.specs.Fault.{Says, map_ok};
 ghost use Rattle.parquet_columns.specs.Nodes.{shape_tree, node_tree};
-ghost use Rattle.parquet_columns.specs.Columns.{kind_at, head_tree, head_at, children_of, leaf_shape, shape_at, nodes_by, node_at, columns_of};
+ghost use Rattle.parquet_columns.specs.Columns.{kind_at, head_tree, head_at, children_of, leaf_shape, shape_at, nodes_by, node_at, fault_tree, column_trees, column_at, faults_at, columns_at, columns_below, columns_of};
+ghost use Rattle.parquet_columns.specs.Places.{child};
 
 use crate::annotation::{Annotation, annotation_of};
 use crate::fault::{ColumnsError, ElementFault, SchemaRule};
 use crate::leaf::leaf_type;
 use crate::meaning::meaning_of;
-use crate::nodes::{Node, Shape, columns_of_nodes, group_shape, list_shape, map_shape};
+use crate::nodes::{Node, Shape, column_of, group_shape, list_shape, map_shape};
+use crate::places::{Child, children_of_root};
+use crate::unreadable::unreadable_column;
 use arrow_columns::SchemaColumn;
 use parquet_footer::{Footer, PhysicalType, Repetition, SchemaElement};
-use std::alloc::Global;
+use std::alloc::{AllocError, Global};
 
 /// How deep the elements of a schema may be nested below its root: a child of the root is 1 deep, its children are 2 deep.
 pub const NESTING_LIMIT: usize = 64;
@@ -174,45 +178,136 @@ fn read_nodes<'a>(
     Ok((found, at))
 }
 
+/// The columns that the children of a root are, and the rules that are broken in them.
+#[derive(Debug, Drop)]
+pub struct ElementColumns {
+    /// A column for each child of the root, in their order.
+    pub columns: Vec<SchemaColumn>,
+    /// Those with an element that breaks a rule, in their order.
+    pub faults: Vec<ColumnFault>,
+}
+
+/// The rule that is broken in a column.
+#[derive(Debug, Drop)]
+pub struct ColumnFault {
+    /// The name of the column.
+    pub column: String,
+    /// The rule, and by which element.
+    pub fault: ElementFault,
+}
+
 /// The columns of the schema in the footer of a Parquet file, with the types that Arrow's libraries give its leaves and
 /// groups (`docs/FORMAT.md`, 4.4): a group is a struct, a LIST a list, a MAP a map; a column of a required or repeated
 /// element is not nullable, and a repeated element is a list of values that are not null. The key `ARROW:schema` is not
 /// looked at. Metadata are empty.
 ///
+/// A child of the root that breaks a rule, or below which an element does, is a nullable column of the type `unreadable`,
+/// and the first rule that is broken in it is among the faults, with the element's place, counted from the root, which is
+/// 0. At most 64 levels of elements are read.
+///
 /// ```rust
 /// let bytes = [0x29, 0x2c, 0x48, 1, b'r', 0x15, 2, 0, 0x15, 10, 0x25, 0, 0x18, 1, b'x', 0, 0];
 /// let footer = read_footer(alloc, &bytes)?;
-/// let columns = columns_of(alloc, &footer)?;
-/// assert_eq!(rt; columns.len(), 1);
-/// let text = columns[0].notation(alloc)?;
+/// let made = columns_of(alloc, &footer)?;
+/// assert_eq!(rt; made.columns.len(), 1);
+/// let text = made.columns[0].notation(alloc)?;
 /// assert_eq!(rt; text.as_str(), "x: float64 not null");
+/// assert!(rt; made.faults.is_empty());
 /// ```
 ///
-/// Errs with the first rule of the schema that is broken, and the element's place, counted from the root, which is 0; and when
-/// out of memory. At most 64 levels of elements are read.
-pub fn columns_of(alloc: Global, footer: &Footer<'_>) -> Result<Vec<SchemaColumn>, ColumnsError>
-    ensures { Says (λ v. map column_tree v.items) (columns_of (map element footer.now.schema.items)) result }
+/// Errs where the tree of elements has no shape: with `Root` where the first element is no group, with `Children` where the
+/// children of the root with all that is below them are not the elements behind it; and when out of memory.
+pub fn columns_of(alloc: Global, footer: &Footer<'_>) -> Result<ElementColumns, ColumnsError>
+    ensures { Says column_trees (columns_of (map element footer.now.schema.items)) result }
 {
     columns_in(alloc, footer.schema.as_slice())
 }
 
 /// The columns of the elements of a schema.
-#[tactic(auto, using(crate::proofs::Walks::left_over))]
-fn columns_in(
+#[tactic(auto, unfolding(crate::specs::Columns::columns_of))]
+fn columns_in(alloc: Global, elements: &[SchemaElement<'_>]) -> Result<ElementColumns, ColumnsError>
+    ensures { Says column_trees (columns_of (map element elements.now)) result }
+{
+    match elements.split_first() {
+        None => Err(ColumnsError::Broken(ElementFault::new(SchemaRule::Root, 0))),
+        Some((root, below)) => columns_below(alloc, elements, root.num_children, below),
+    }
+}
+
+/// The columns of the elements behind a root, which says that it has so many children.
+fn columns_below(
     alloc: Global,
     elements: &[SchemaElement<'_>],
-) -> Result<Vec<SchemaColumn>, ColumnsError>
-    ensures { Says (λ v. map column_tree v.items) (columns_of (map element elements.now)) result }
+    count: Option<u32>,
+    below: &[SchemaElement<'_>],
+) -> Result<ElementColumns, ColumnsError>
+    ensures { Says column_trees (columns_below (map element elements.now) count (map element below.now)) result }
 {
-    if elements.is_empty() {
-        return Err(ColumnsError::Broken(ElementFault::new(SchemaRule::Root, 0)));
+    match count {
+        None => Err(ColumnsError::Broken(ElementFault::new(SchemaRule::Root, 0))),
+        Some(count) => {
+            let children = children_of_root(alloc, count, below)?;
+            Ok(columns_at(alloc, elements, children.as_slice())?)
+        }
     }
-    let Some(count) = elements[0].num_children else {
-        return Err(ColumnsError::Broken(ElementFault::new(SchemaRule::Root, 0)));
+}
+
+/// The columns that the children of the root are. Errs only when out of memory.
+fn columns_at(
+    alloc: Global,
+    elements: &[SchemaElement<'_>],
+    children: &[Child<'_>],
+) -> Result<ElementColumns, AllocError>
+    ensures { IfOk result (λ made. column_trees made ≡ columns_at (map element elements.now) (map child children.now)) }
+{
+    let mut columns = Vec::new(alloc);
+    let mut faults = Vec::new(alloc);
+    for at in children {
+        add_column(alloc, &mut columns, &mut faults, elements, *at)?;
+    }
+    Ok(ElementColumns { columns, faults })
+}
+
+/// Adds the column that a child of the root is, and the rule that is broken in it, if one is. Errs
+/// only when out of memory.
+fn add_column(
+    alloc: Global,
+    columns: &mut Vec<SchemaColumn>,
+    faults: &mut Vec<ColumnFault>,
+    elements: &[SchemaElement<'_>],
+    at: Child<'_>,
+) -> Result<(), AllocError>
+    ensures column { OnOk result (map column_tree columns.new.items
+        ≡ map column_tree columns.old.items ++ column_at (map element elements.now) (child at.entry) ∷ []) }
+    ensures faults { OnOk result (map fault_tree faults.new.items
+        ≡ map fault_tree faults.old.items ++ faults_at (map element elements.now) (child at.entry)) }
+{
+    match read_node(alloc, elements, at.at, NESTING_LIMIT) {
+        Ok((node, _)) => {
+            columns.push(column_of(alloc, node)?)?;
+            Ok(())
+        }
+        Err(ColumnsError::Broken(fault)) => {
+            columns.push(unreadable_column(alloc, at.name)?)?;
+            add_fault(alloc, faults, at.name, fault)
+        }
+        Err(ColumnsError::OutOfMemory) => Err(AllocError),
+    }
+}
+
+/// Adds the rule that is broken in the column of a name. Errs only when out of memory.
+fn add_fault(
+    alloc: Global,
+    faults: &mut Vec<ColumnFault>,
+    name: &[u8],
+    fault: ElementFault,
+) -> Result<(), AllocError>
+    ensures { OnOk result (map fault_tree faults.new.items
+        ≡ map fault_tree faults.old.items ++ record { column = utf8_lossy name.now; fault = fault } ∷ []) }
+{
+    let Ok(column) = String::from_utf8_lossy(alloc, name) else {
+        return Err(AllocError);
     };
-    let (below, next) = read_nodes(alloc, elements, 1, count, NESTING_LIMIT)?;
-    if next != elements.len() {
-        return Err(ColumnsError::Broken(ElementFault::new(SchemaRule::Children, next)));
-    }
-    Ok(columns_of_nodes(alloc, below)?)
+    faults.push(ColumnFault { column, fault })?;
+    Ok(())
 }

@@ -4,16 +4,17 @@ ghost use Rattle.arrow_values.specs.Texts.{text_of};
 ghost use Rattle.parquet_footer.specs.Logical.{logical};
 ghost use Rattle.parquet_footer.specs.Element.{element};
 ghost use Rattle.parquet_columns.specs.Findings.{finding};
-ghost use Rattle.parquet_columns.specs.Elements.{at_element, column_name, of_element, is_zero, is_empty_group, empty_group, on_text, invalid_type, algorithm_number, logical_number, unknown_algorithm, logical_crs, key_in, key_of, missing_by, missing_key, geometry_findings, type_findings, element_findings, next_below, findings_from, findings_below};
+ghost use Rattle.parquet_columns.specs.Elements.{at_element, column_name, of_element, is_zero, is_empty_group, empty_group, on_text, invalid_type, algorithm_number, logical_number, unknown_algorithm, logical_crs, key_in, key_of, missing_by, missing_key, crs_part, geometry_text, is_nested, nested_geometry, geometry_findings, type_findings, element_findings, next_below, findings_from, findings_below};
 
 use crate::code::{FileCode, FilePart};
 use crate::finding::{FileFinding, FilePlace};
 use crate::geometry::colon_parts;
 use crate::marks::count_of;
+use crate::resolved::is_geometry_type;
 use crate::storage::{is_stored, storage_of, storage_text};
 use crate::type_names::{physical_name, type_name};
 use crate::values::KeyValues;
-use parquet_footer::{Algorithm, LogicalType, SchemaElement};
+use parquet_footer::{Algorithm, LogicalType, Repetition, SchemaElement};
 use std::alloc::{AllocError, Global};
 
 /// Where an element is.
@@ -211,8 +212,53 @@ fn add_missing<'a>(
     Ok(())
 }
 
-/// Adds what is found of the algorithm and of the CRS of an element's geometry type, if it is of
-/// one.
+/// A CRS in parentheses, if there is one.
+fn crs_part(alloc: Global, crs: Option<&str>) -> Result<String, AllocError>
+    ensures { IfOk result (λ text. string_bytes text ≡ crs_part (text_of crs.entry)) }
+{
+    match crs {
+        Some(crs) => format!(in alloc; "({crs})"),
+        None => Ok(String::new(alloc)),
+    }
+}
+
+/// A geometry type, and the CRS that it names.
+fn geometry_text(alloc: Global, at: &SchemaElement<'_>) -> Result<String, AllocError>
+    ensures { IfOk result (λ text. string_bytes text ≡ geometry_text (element at.now)) }
+{
+    let name = type_name(at);
+    let crs = crs_part(alloc, logical_crs(at.logical_type))?;
+    let crs = crs.as_str();
+    format!(in alloc; "{name}{crs}")
+}
+
+/// Whether an element is of a geometry type and below a column, or REPEATED.
+fn is_nested(is_column: bool, at: &SchemaElement<'_>) -> bool
+    ensures { result ≡ is_nested is_column (element at.now) }
+{
+    is_geometry_type(at.logical_type)
+        && (!is_column || matches!(at.storage.repetition, Some(Repetition::Repeated)))
+}
+
+/// Adds what is found of a geometry type below a column, or of a REPEATED element.
+fn add_nested(
+    alloc: Global,
+    findings: &mut Vec<FileFinding>,
+    is_column: bool,
+    at: &SchemaElement<'_>,
+) -> Result<(), AllocError>
+    ensures { OnOk result (map finding findings.new.items ≡ map finding findings.old.items ++ nested_geometry is_column (element at.now)) }
+{
+    if is_nested(is_column, at) {
+        let text = geometry_text(alloc, at)?;
+        let found = of_element(alloc, FileCode::NestedGeometry, is_column, at, text, None)?;
+        findings.push(found)?;
+    }
+    Ok(())
+}
+
+/// Adds what is found of the algorithm, the CRS and the place of an element's geometry type, if it
+/// is of one.
 fn add_of_geometry<'a>(
     alloc: Global,
     findings: &mut Vec<FileFinding>,
@@ -226,7 +272,8 @@ fn add_of_geometry<'a>(
 {
     add_unknown(alloc, findings, is_column, at)?;
     let key = key_of(logical_crs(at.logical_type));
-    add_missing(alloc, findings, values, is_column, at, key)
+    add_missing(alloc, findings, values, is_column, at, key)?;
+    add_nested(alloc, findings, is_column, at)
 }
 
 /// Adds what is found of the type of an element.

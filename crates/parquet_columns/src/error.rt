@@ -16,7 +16,7 @@ pub enum SchemaError {
     Footer(FooterError),
     /// The footer is longer than what stands before its length.
     Cut,
-    /// The elements of the schema break a rule, with the element's index.
+    /// The elements of the schema have no shape of a tree, with the element's index.
     Elements(ElementFault),
     /// The extension metadata that geometry types give the columns have more bytes than
     /// `report_budget` of the footer's bytes.

@@ -1,6 +1,6 @@
 //! Why a schema has no columns.
 ghost use Rattle.std.specs.Prelude.{◌≡◌};
-ghost use Rattle.parquet_columns.specs.Rules.{rule_code, rule_message};
+ghost use Rattle.parquet_columns.specs.Rules.{rule_code, rule_message, rule_wanted};
 ghost use Rattle.parquet_columns.specs.declared.fault.ColumnsError.TheVariants.{Broken, OutOfMemory};
 
 use std::alloc::{AllocError, AllocFailed};
@@ -10,7 +10,8 @@ use std::alloc::{AllocError, AllocFailed};
 pub enum SchemaRule {
     /// The first element is the root, a group.
     Root,
-    /// The children of the root, with all that is below them, are the elements behind it.
+    /// The children of the root, with all that is below them, are the elements behind it: they are
+    /// as many as the root says, and below each there are as many as it and those below it say.
     Children,
     /// An element below the root is a leaf, which says how its values are stored and has no
     /// children, or a group, which says how many it has.
@@ -28,23 +29,24 @@ pub enum SchemaRule {
 }
 
 impl SchemaRule {
-    /// Returns the code of the rule, as reports have it (`docs/FORMAT.md`, 2.8).
+    /// Returns the code of the rule, as reports have it: `SchemaRoot` or `SchemaChildren`, with which a
+    /// file is refused (`docs/FORMAT.md`, 2.8); or `ElementInvalid`, which is found in a column (4.5).
     pub fn code(self) -> &'static str
         ensures { result.now ≡ rule_code self }
     {
         match self {
             SchemaRule::Root => "SchemaRoot",
             SchemaRule::Children => "SchemaChildren",
-            SchemaRule::Element => "SchemaElement",
-            SchemaRule::Repetition => "SchemaRepetition",
-            SchemaRule::Length => "SchemaLength",
-            SchemaRule::List => "SchemaList",
-            SchemaRule::Map => "SchemaMap",
-            SchemaRule::Depth => "SchemaDepth",
+            SchemaRule::Element
+            | SchemaRule::Repetition
+            | SchemaRule::Length
+            | SchemaRule::List
+            | SchemaRule::Map
+            | SchemaRule::Depth => "ElementInvalid",
         }
     }
 
-    /// Returns what is wrong where the rule is broken.
+    /// Returns what is wrong where the rule is broken (`docs/FORMAT.md`, 4.4).
     pub fn message(self) -> &'static str
         ensures { result.now ≡ rule_message self }
     {
@@ -57,6 +59,22 @@ impl SchemaRule {
             SchemaRule::List => "a list without one repeated element",
             SchemaRule::Map => "a map without one repeated group",
             SchemaRule::Depth => "nested too deep",
+        }
+    }
+
+    /// Returns what the rule asks (`docs/FORMAT.md`, 4.4).
+    pub fn wanted(self) -> &'static str
+        ensures { result.now ≡ rule_wanted self }
+    {
+        match self {
+            SchemaRule::Root => "a group",
+            SchemaRule::Children => "as many elements as there are children",
+            SchemaRule::Element => "a physical type, or a number of children",
+            SchemaRule::Repetition => "required, optional or repeated",
+            SchemaRule::Length => "a length below 2147483648",
+            SchemaRule::List => "one repeated element",
+            SchemaRule::Map => "one repeated group",
+            SchemaRule::Depth => "at most 64 levels",
         }
     }
 }

@@ -4,7 +4,7 @@ ghost use Rattle.arrow_values.specs.View.{texts_of};
 ghost use Rattle.arrow_columns.specs.Column.{column_tree};
 ghost use Rattle.parquet_footer.specs.Element.{element};
 ghost use Rattle.parquet_footer.specs.Footer.{contents, pairing};
-ghost use Rattle.parquet_columns.specs.Columns.{columns_of};
+ghost use Rattle.parquet_columns.specs.Columns.{fault_tree, columns_of};
 ghost use Rattle.parquet_columns.specs.Findings.{finding, first_other, other_names};
 ghost use Rattle.parquet_columns.specs.declared.stored.Stored.TheVariants as holds;
 ghost use Rattle.parquet_columns.specs.Reads.{IsBuilt, names_seen, choice, by_names, geo_beside, chosen, IsReadWith, IsFooterRead};
@@ -12,11 +12,13 @@ ghost use Rattle.parquet_columns.specs.Reads.{IsBuilt, names_seen, choice, by_na
 use crate::budget::report_budget;
 use crate::claim::ElementClaim;
 use crate::code::{FileCode, FilePart};
-use crate::columns::columns_of;
+use crate::columns::{ColumnFault, ElementColumns, columns_of};
 use crate::elements::add_elements;
 use crate::error::SchemaError;
 use crate::fault::ColumnsError;
 use crate::finding::{FileFinding, FilePlace};
+use crate::geo_keys::add_other_geo;
+use crate::invalid::add_invalid;
 use crate::keys::{GEO_KEY, value_of};
 use crate::marks::{Marks, marked_columns, root_children};
 use crate::repeated::add_repeated_keys;
@@ -73,11 +75,11 @@ fn first_other<'c>(columns: &'c [SchemaColumn], others: &'c [SchemaColumn]) -> O
 }
 
 /// The columns of the elements of a footer's schema.
-fn columns_of_elements(alloc: Global, footer: &Footer<'_>) -> Result<Vec<SchemaColumn>, SchemaError>
+fn columns_of_elements(alloc: Global, footer: &Footer<'_>) -> Result<ElementColumns, SchemaError>
     ensures { IsBuilt (columns_of (map element footer.now.schema.items)) result }
 {
     match columns_of(alloc, footer) {
-        Ok(columns) => Ok(columns),
+        Ok(made) => Ok(made),
         Err(ColumnsError::Broken(fault)) => Err(SchemaError::Elements(fault)),
         Err(ColumnsError::OutOfMemory) => Err(SchemaError::OutOfMemory),
     }
@@ -182,21 +184,25 @@ fn chosen(
     }
 }
 
-/// Columns with the extensions that their geometry types denote, and what is found of them and of repeated keys.
+/// Columns with the extensions that their geometry types denote, and what is found of them, of
+/// columns that are not read and of repeated keys.
 fn finished(
     alloc: Global,
     footer: &Footer<'_>,
+    faults: &[ColumnFault],
     read: Unmarked,
     bytes: usize,
 ) -> Result<FooterColumns, SchemaError>
-    ensures { IsReadWith bytes (contents footer.now) (choice read) result }
+    ensures { IsReadWith bytes (contents footer.now) (map fault_tree faults.now) (choice read) result }
 {
     let Unmarked { columns, findings } = read;
     let mut findings = findings;
     let mut values = KeyValues::new(alloc, footer.key_value_metadata.as_slice())?;
     let most = report_budget(bytes);
     let elements = footer.schema.as_slice();
+    add_invalid(alloc, &mut findings, elements, faults)?;
     add_elements(alloc, &mut findings, &mut values, elements)?;
+    add_other_geo(alloc, &mut findings, footer)?;
     add_repeated_keys(alloc, &mut findings, footer)?;
     let marked = marked_columns(alloc, &mut values, elements, columns, most)?;
     let Marks { columns, elements } = marked;
@@ -214,10 +220,10 @@ fn finished(
 /// fit their elements; otherwise those of the elements, as `columns_of` of `parquet_columns` makes
 /// them. A column without an extension name whose element is of the type GEOMETRY or GEOGRAPHY has
 /// the extension `geoarrow.wkb`, with the CRS and the edges of that type (`docs/FORMAT.md`, 4.6).
-/// What is found of the stored schema, of the elements and of keys that stand several times is
-/// among the findings.
+/// A column with an element that breaks a rule is of the type `unreadable`, whatever is stored for
+/// it. What is found of the stored schema, of the elements and of keys is among the findings.
 ///
-/// Errs with `Elements` where the elements break a rule, with the rule and the element; with `Budget` where
+/// Errs with `Elements` where the tree of elements has no shape, with the rule and the element; with `Budget` where
 /// the extension metadata that geometry types give the columns have together more bytes than
 /// `report_budget(bytes)`; and when out of memory.
 pub fn columns_of_footer(
@@ -227,8 +233,9 @@ pub fn columns_of_footer(
 ) -> Result<FooterColumns, SchemaError>
     ensures { IsFooterRead bytes (contents footer.now) result }
 {
-    let columns = columns_of_elements(alloc, footer)?;
+    let made = columns_of_elements(alloc, footer)?;
+    let ElementColumns { columns, faults } = made;
     let stored = stored_in(alloc, footer)?;
     let read = chosen(alloc, footer, stored, columns)?;
-    finished(alloc, footer, read, bytes)
+    finished(alloc, footer, faults.as_slice(), read, bytes)
 }

@@ -15,23 +15,27 @@ mod file;
 mod finding;
 mod fits;
 mod footer;
+mod geo_keys;
 mod geometry;
+mod invalid;
 mod keys;
 mod leaf;
 mod marks;
 mod meaning;
 mod nodes;
+mod places;
 mod repeated;
 mod resolved;
 mod storage;
 mod stored;
 mod type_names;
+mod unreadable;
 mod values;
 
 pub use budget::{TOO_LARGE, report_budget};
 pub use claim::ElementClaim;
 pub use code::{FileCode, FilePart};
-pub use columns::{NESTING_LIMIT, columns_of};
+pub use columns::{ColumnFault, ElementColumns, NESTING_LIMIT, columns_of};
 pub use equality_laws::{
     columns_error_equality_is_exact, file_code_equality_is_exact, file_place_equality_is_exact,
     rule_equality_is_exact,

@@ -46,7 +46,7 @@ fn shape_type(alloc: Global, shape: Shape) -> Result<AnyType, AllocError>
 }
 
 /// A column without metadata, of a name that need not be UTF-8.
-fn plain_column(
+pub(crate) fn plain_column(
     alloc: Global,
     name: &[u8],
     nullable: bool,
@@ -104,7 +104,7 @@ fn column_by(
 }
 
 /// The column of an element.
-fn column_of(alloc: Global, node: Node<'_>) -> Result<SchemaColumn, AllocError>
+pub(crate) fn column_of(alloc: Global, node: Node<'_>) -> Result<SchemaColumn, AllocError>
     ensures { IfOk result (λ made. column_tree made ≡ column_of (node_tree node.entry)) }
 {
     let Node {
@@ -118,10 +118,7 @@ fn column_of(alloc: Global, node: Node<'_>) -> Result<SchemaColumn, AllocError>
 
 /// The columns of elements.
 #[tactic(auto, using(crate::proofs::Shapes::column_next, std::proofs::lemmas::List::map_push, std::proofs::lemmas::Grind::common_steps))]
-pub(crate) fn columns_of_nodes(
-    alloc: Global,
-    nodes: Vec<Node<'_>>,
-) -> Result<Vec<SchemaColumn>, AllocError>
+fn columns_of_nodes(alloc: Global, nodes: Vec<Node<'_>>) -> Result<Vec<SchemaColumn>, AllocError>
     ensures { IfOk result (λ made. map column_tree made.items ≡ map column_of (map node_tree nodes.entry.items)) }
 {
     let mut made = Vec::with_capacity(alloc, nodes.len())?;

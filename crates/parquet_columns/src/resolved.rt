@@ -14,13 +14,14 @@ use crate::finding::{FileFinding, FilePlace};
 use crate::fits::type_fits;
 use crate::footer::Unmarked;
 use crate::marks::child_at;
+use crate::unreadable::is_unreadable;
 use arrow_columns::{AnyType, SchemaColumn};
 use parquet_footer::{LogicalType, SchemaElement};
 use std::alloc::{AllocError, Global};
 use std::collections::BTreeMap;
 
 /// Whether a logical type is a geometry type.
-fn is_geometry_type(logical_type: Option<LogicalType<'_>>) -> bool
+pub(crate) fn is_geometry_type(logical_type: Option<LogicalType<'_>>) -> bool
     ensures { result ≡ is_geometry_type (option_map logical logical_type.entry) }
 {
     matches!(
@@ -134,6 +135,9 @@ fn resolve(
 {
     match other {
         Some(other) => {
+            if is_unreadable(&other.data_type) {
+                return Ok((bare(alloc, other)?, None));
+            }
             if may_hold(child, &column) {
                 return resolve_by(alloc, other, column);
             }

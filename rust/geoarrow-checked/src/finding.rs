@@ -253,7 +253,7 @@ pub fn findings(report: &str) -> Result<Vec<Finding>, Error> {
         .collect()
 }
 
-/// What is found in a column, of which this is the line of a report: its `warnings`, in their order. They do not name the column.
+/// What is found in a column, of which this is the line of a report: its `findings`, in their order: why the column is invalid first, where it is. They do not name the column.
 ///
 /// ```
 /// use geoarrow_checked::{check, column_findings, Options};
@@ -262,7 +262,7 @@ pub fn findings(report: &str) -> Result<Vec<Finding>, Error> {
 /// let report = check(line, Options::default())?;
 /// for line in report.lines().filter(|line| line.starts_with(r#"{"column":"#)) {
 ///     let found = column_findings(line)?;
-///     assert_eq!(found[0].to_string(), "warning[MetadataEmpty]: found \"\"; expected no metadata, or {}. It is read as no metadata.");
+///     assert_eq!(found[0].to_string(), "warning[MetadataEmpty] extension metadata: found \"\"; expected no metadata, or {}. It is read as no metadata.");
 /// }
 /// # Ok::<(), geoarrow_checked::Error>(())
 /// ```
@@ -281,7 +281,7 @@ fn read_column(line: &str) -> Option<Vec<Finding>> {
     }
     let (_, value) = match members(line)?
         .into_iter()
-        .find(|(key, _)| key == "warnings")
+        .find(|(key, _)| key == "findings")
     {
         Some(found) => found,
         None => return Some(Vec::new()),

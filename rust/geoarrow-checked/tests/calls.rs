@@ -192,7 +192,7 @@ fn a_report_that_is_too_large() {
     let long = r"\u0001".repeat(30_000);
     let line = format!(
         r#"{{"name":"t","nullable":true,"type":{{"struct":[{{"name":"{long}","nullable":true,"type":{{"struct":[{}]}}}}]}}}}"#,
-        [inside; 16].join(",") // each of their warnings has the long name in its path
+        [inside; 16].join(",") // each of their findings has the long name in its path
     );
     let stream = write_schema(line.as_bytes()).unwrap();
     assert_eq!(refused(check(&stream, false)).code(), "ReportTooLarge");

@@ -1,8 +1,11 @@
 //! What is found in files: as the table says that all languages share, with a name and without.
 mod common;
 
-use common::{from_hex, read};
-use geoarrow_checked::{check, check_named, column_findings, findings, Finding, Options};
+use common::{from_hex, read, rows_of};
+use geoarrow_checked::{
+    check, check_named, column_facts, column_findings, findings, Facts, Finding, Options, Source,
+};
+use std::collections::BTreeSet;
 
 /// A finding of native/findings.rows: whether it is of a column, its object and its words.
 type Row = (bool, String, String);
@@ -69,6 +72,61 @@ fn object_of(finding: &Finding) -> String {
     ];
     let members: Vec<_> = members.into_iter().flatten().collect();
     format!("{{{}}}", members.join(","))
+}
+
+/// The members of a line that are made of what its facts say, each with its words.
+fn members_of(facts: &Facts) -> Vec<(&'static str, Option<String>)> {
+    let text = |text: Option<&str>| text.map(|it| format!("\"{it}\""));
+    let word = |source: Option<Source>| text(source.map(|it| it.to_string()).as_deref());
+    let mut verdicts = String::new();
+    for fact in ["crs", "edges", "encoding"] {
+        let of_fact = facts.verdicts.iter().filter(|it| it.0 == fact);
+        let said: Vec<_> = of_fact
+            .map(|it| format!("\"{}\":\"{}\"", it.1, it.2))
+            .collect();
+        if !said.is_empty() {
+            let comma = if verdicts.is_empty() { "" } else { "," };
+            verdicts += &format!("{comma}\"{fact}\":{{{}}}", said.join(","));
+        }
+    }
+    vec![
+        ("crs_from", word(facts.crs_from)),
+        ("crs_type", text(facts.crs_type.as_deref())),
+        ("edges", text(facts.edges.as_deref())),
+        ("edges_from", word(facts.edges_from)),
+        ("type_from", word(facts.type_from)),
+        (
+            "verdicts",
+            (!verdicts.is_empty()).then(|| format!("{{{verdicts}}}")),
+        ),
+    ]
+}
+
+#[test]
+fn each_fact_of_files_with_geo() {
+    let mut words = BTreeSet::new();
+    for (command, digits, _) in rows_of(&read("crates/file_rows/data/reports/geo_files.rows")) {
+        if command != "report_file" {
+            continue;
+        }
+        let report = check(&from_hex(&digits), Options::default()).unwrap();
+        let columns = report.lines().filter(|it| it.starts_with("{\"column\":"));
+        for line in columns {
+            let facts = column_facts(line).unwrap();
+            for (key, wanted) in members_of(&facts) {
+                let member = format!("\"{key}\":{}", wanted.as_deref().unwrap_or_default());
+                assert_eq!(line.contains(&member), wanted.is_some(), "{key} of {line}");
+            }
+            let is_null = line.contains("\"crs\":null,");
+            assert_eq!(is_null, facts.is_crs_unknown, "{line}");
+            words.extend(facts.crs_from.map(|it| it.to_string()));
+            words.extend(facts.verdicts.iter().map(|it| it.2.to_string()));
+        }
+    }
+    let sources = ["element", "field", "geo"];
+    let verdicts = ["agree", "contradict", "not compared"];
+    let all = sources.into_iter().chain(verdicts).map(str::to_owned);
+    assert_eq!(words, all.collect());
 }
 
 #[test]

@@ -98,26 +98,26 @@ fn lines_of_columns_are_none() {
     let wanted = [WHOLE, LEAST].map(|it| Finding::read(it).unwrap());
     assert_eq!(findings(&report).unwrap(), wanted);
     assert_eq!(findings(""), Ok(Vec::new()));
-    let found = column(&format!(r#""warnings":[{WHOLE}]"#));
+    let found = column(&format!(r#""findings":[{WHOLE}]"#));
     assert_eq!(findings(&found), Ok(Vec::new()));
 }
 
 #[test]
 fn the_findings_of_a_column() {
-    let tricky = r#"{"severity":"error","code":"Two","path":["]}","\"warnings\":["],"found":",\"warnings\":[{}]","expected":"]"}"#;
-    let line = column(&format!(r#""warnings":[{WHOLE},{tricky},{LEAST}]"#));
+    let tricky = r#"{"severity":"error","code":"Two","path":["]}","\"findings\":["],"found":",\"findings\":[{}]","expected":"]"}"#;
+    let line = column(&format!(r#""findings":[{WHOLE},{tricky},{LEAST}]"#));
     let wanted = [WHOLE, tricky, LEAST];
     let found = column_findings(&line).unwrap();
     assert_eq!(found, wanted.map(|it| Finding::read(it).unwrap()));
     assert!(found.iter().map(Finding::as_json).eq(wanted));
-    assert_eq!(found[1].path(), ["]}", "\"warnings\":["]);
+    assert_eq!(found[1].path(), ["]}", "\"findings\":["]);
     assert_eq!(column_findings(COLUMN), Ok(Vec::new()));
-    assert_eq!(column_findings(&column(r#""warnings":[]"#)), Ok(Vec::new()));
+    assert_eq!(column_findings(&column(r#""findings":[]"#)), Ok(Vec::new()));
     let deep = ["[".repeat(200_000), "]".repeat(200_000)].concat();
-    let crs = format!(r#""crs":{{"a":[1.50,-2,null,{{}}],"warnings":[{LEAST}],"deep":{deep}}}"#);
+    let crs = format!(r#""crs":{{"a":[1.50,-2,null,{{}}],"findings":[{LEAST}],"deep":{deep}}}"#);
     assert_eq!(column_findings(&column(&crs)), Ok(Vec::new()));
     let line = column(&format!(
-        r#"{crs},"reasons":[{{"a":[]}}],"warnings":[{LEAST}]"#
+        r#"{crs},"findings":[{LEAST}],"verdicts":{{"a":[]}}"#
     ));
     assert_eq!(column_findings(&line).unwrap()[0].as_json(), LEAST);
 }
@@ -151,14 +151,14 @@ fn lines_that_are_none() {
             unread(line)
         );
         assert_eq!(column_findings(line), unread(line));
-        let of_column = column(&format!(r#""warnings":[{LEAST},{line}]"#));
+        let of_column = column(&format!(r#""findings":[{LEAST},{line}]"#));
         assert_eq!(column_findings(&of_column), unread(&of_column));
     }
     for line in [
         LEAST,
-        r#"{"column":"a","warnings":{}}"#,
-        r#"{"column":"a","warnings":["a"]}"#,
-        r#"{"column":"a","warnings":[}"#,
+        r#"{"column":"a","findings":{}}"#,
+        r#"{"column":"a","findings":["a"]}"#,
+        r#"{"column":"a","findings":[}"#,
         r#"{"column":"a""#,
     ] {
         assert_eq!(column_findings(line), unread(line));

@@ -9,7 +9,8 @@ use Rattle.geoarrow_layout.specs.declared.names.ExtensionName.{ExtensionName}
 use Rattle.geoarrow_layout.specs.declared.names.ExtensionName.TheVariants as names
 use Rattle.geoarrow_layout.specs.Kinds.{name_text}
 use Rattle.geoarrow_layout.specs.Shapes.{has_name}
-use Rattle.column_check.specs.Warnings.{extensions, is_extension_name}
+use Rattle.column_check.specs.ExtensionNames.{extensions}
+use Rattle.column_check.specs.Warnings.{is_extension_name}
 use Rattle.column_check.proofs.walk.has_extension_name.Goals as goal
 
 -- each of the eleven is listed

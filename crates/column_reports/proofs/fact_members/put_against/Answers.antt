@@ -1,9 +1,9 @@
-use Rattle.std.proofs.Common.{◌≡◌, true, false, option_map, sym, ap, ◌∙◌, subst}
+use Rattle.std.proofs.Common.{◌≡◌, true, option_map, sym, ◌∙◌, subst}
 use Rattle.column_reports.specs.FactMembers.{against_if, against_members, are_some}
 use Rattle.column_reports.specs.Objects.{AddsMembers}
 use Rattle.value_tokens.proofs.Adding.{sent}
 use Rattle.column_reports.proofs.Adding.{finished, named, object}
-use Rattle.column_reports.proofs.Verdicts.{against_none, against_some}
+use Rattle.column_reports.proofs.Verdicts.{against_some}
 use Rattle.column_reports.proofs.fact_members.put_against.Goals as goal
 
 pub returns : goal.returns

@@ -1,4 +1,4 @@
-use Rattle.std.proofs.Common.{codes, Some, ◌∙◌}
+use Rattle.std.proofs.Common.{codes, Some}
 use Rattle.std.proofs.lemmas.Result.{on_ok_weaker}
 use Rattle.value_tokens.specs.Values.{or_null}
 use Rattle.value_tokens.proofs.Adding.{sent}

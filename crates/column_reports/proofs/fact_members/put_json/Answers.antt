@@ -1,4 +1,4 @@
-use Rattle.std.proofs.Common.{option_map, sym, ap, subst}
+use Rattle.std.proofs.Common.{option_map, sym, subst}
 use Rattle.json.specs.Tree.{json_tokens}
 use Rattle.value_tokens.specs.Adds.{Adds}
 use Rattle.value_tokens.specs.Values.{or_null}

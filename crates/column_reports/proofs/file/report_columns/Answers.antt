@@ -10,15 +10,17 @@ use Rattle.column_reports.proofs.file.report_columns.Goals as goal
 pub loop-column-preserved : goal.loop-column-preserved
 loop-column-preserved c =
     let l = c.loop-column in
-    reported_next c.args.infer (weighing c.args.weights.now) l.yielded l.reported.items c.push.new.self.items (c.in-Some.column, c.in-Some.facts) c.in_ok-said.said l.invariant c.in_ok-said.ensures (search rules)
+    reported_next c.args.infer (weighing c.args.weights.now) l.yielded l.reported.items c.push.new.self.items (c.in-Some.column, (c.in-Some.facts, c.in-Some.by)) c.in_ok-said.said l.invariant c.in_ok-said.ensures (search rules)
 
 pub returns : goal.returns
 returns c =
     let l = c.loop-column in
-    let columns = YieldsList-from_vec {s = c.into_iter.result} c.args.columns.items (search rules) (search rules) in
-    let facts = YieldsList-from_vec {s = c.into_iter-2.result} c.args.facts.items (search rules) (search rules) in
-    let both = YieldsList-from_zip (YieldsList-at c.zip-column-items.ensures.first columns) (YieldsList-at c.zip-column-items.ensures.second facts) in
+    let columns = YieldsList-from_vec {s = c.into_iter-3.result} c.args.columns.items (search rules) (search rules) in
+    let facts = YieldsList-from_vec {s = c.into_iter.result} c.args.facts.items (search rules) (search rules) in
+    let named = YieldsList-from_vec {s = c.into_iter-2.result} c.args.named.items (search rules) (search rules) in
+    let known = YieldsList-from_zip (YieldsList-at c.zip-known.ensures.first facts) (YieldsList-at c.zip-known.ensures.second named) in
+    let both = YieldsList-from_zip (YieldsList-at c.zip-column-items.ensures.first columns) (YieldsList-at c.zip-column-items.ensures.second known) in
     let road = YieldsList-at c.into_iter-column-iterator.ensures.into_iter_gives both in
     let end = YieldsList-end road l.yielded l.column-iterator l.yielded_by c.next.result c.next.new.self c.in-None.is c.next.ensures.steps in
     subst (λ xs. AreReported c.args.infer (weighing c.args.weights.now) xs l.reported.items)
-    (ap (map viewed) (sym (map-id l.yielded) ∙ end.0) ∙ zip_viewed c.args.columns.items c.args.facts.items) l.invariant
+    (ap (map viewed) (sym (map-id l.yielded) ∙ end.0) ∙ zip_viewed c.args.columns.items c.args.facts.items c.args.named.items) l.invariant

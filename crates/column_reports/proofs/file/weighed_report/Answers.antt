@@ -7,6 +7,7 @@ use Rattle.geoparquet.specs.Findings.{finding}
 use Rattle.geoparquet.specs.GeoFindings.{AreGeoFindings}
 use Rattle.geoparquet.specs.Sources.{source}
 use Rattle.column_reports.specs.FileReport.{AreReported, source_in}
+use Rattle.column_reports.specs.Named.{all_known, all_named_by}
 use Rattle.column_reports.specs.Weighed.{weighed}
 use Rattle.column_reports.specs.Weights.{weighing}
 use Rattle.column_reports.proofs.file.weighed_report.Goals as goal
@@ -21,7 +22,10 @@ returns c = record {
       let facts = c.in_ok-facts.ensures ∙ ap (λ s. facts_of s (map column_tree c.as_slice-3.result.now) (map claim c.as_slice-4.result.now)) c.source_of-source.ensures
       ∙ ap (λ cs. facts_of (source_in c.args.opened.form c.args.opened.geo) (map column_tree cs) (map claim c.as_slice-4.result.now)) c.as_slice-3.ensures.value
       ∙ ap (λ es. facts_of (source_in c.args.opened.form c.args.opened.geo) (map column_tree c.args.opened.columns.items) (map claim es)) c.as_slice-4.ensures.value in
-      subst (λ fs. AreReported c.args.infer (weighing c.args.weights.now) (zip by fs) c.in_ok-columns-2.columns.items) facts c.in_ok-columns-2.ensures;
+      let named = c.in_ok-named.ensures ∙ ap (λ cs. all_named_by (map column_tree cs) (map claim c.as_slice-6.result.now)) c.as_slice-5.ensures.value
+      ∙ ap (λ es. all_named_by (map column_tree c.args.opened.columns.items) (map claim es)) c.as_slice-6.ensures.value in
+      let known = ap (λ fs. all_known fs c.in_ok-named.named.items) facts ∙ ap (all_known (facts_of (source_in c.args.opened.form c.args.opened.geo) (map column_tree c.args.opened.columns.items) (map claim c.args.opened.elements.items))) named in
+      subst (λ ks. AreReported c.args.infer (weighing c.args.weights.now) (zip by ks) c.in_ok-columns-2.columns.items) known c.in_ok-columns-2.ensures;
   geo = c.in_ok-checked.checked;
   is_geo =
       let v = c.in_ok-checked.checked.version in

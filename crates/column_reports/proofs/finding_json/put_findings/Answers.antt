@@ -7,7 +7,7 @@ use Rattle.column_reports.specs.declared.weighed.Weighed.{Weighed}
 use Rattle.column_reports.proofs.Adding.{finished, array, named, one, one_more}
 use Rattle.column_reports.proofs.finding_json.put_findings.Goals as goal
 
-some_member : (fs : List Weighed) → fs ≢ [] → member_if (codes "warnings") (findings_in fs) ≡ (codes "warnings", array_of (map (finding_value None) fs)) ∷ []
+some_member : (fs : List Weighed) → fs ≢ [] → member_if (codes "findings") (findings_in fs) ≡ (codes "findings", array_of (map (finding_value None) fs)) ∷ []
 some_member [] some = absurd (some refl)
 some_member (f ∷ fs) some = refl
 

@@ -1,4 +1,4 @@
-use Rattle.std.proofs.Common.{◌≡◌, Some, None, sym, ap, ◌∙◌, if◌then◌else◌}
+use Rattle.std.proofs.Common.{Some, None, sym, ap, ◌∙◌, if◌then◌else◌}
 use Rattle.parquet_footer.proofs.Texts.{utf8_is, utf8_is_not}
 use Rattle.column_reports.proofs.geo.utf8_in.Goals as goal
 

@@ -1,5 +1,0 @@
-use Rattle.std.proofs.Common.{length}
-use Rattle.column_check.proofs.data_type.+push_names.Given as goal
-
-abbrev pub decreases-push_names : goal.decreases-push_names
-decreases-push_names l = length l.path.now

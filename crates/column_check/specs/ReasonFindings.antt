@@ -1,0 +1,112 @@
+-- The reasons for which a column is invalid, as findings (docs/FORMAT.md, 2.6).
+use Rattle.std.specs.Prelude.{ℕ, List, [], ◌∷◌, ◌++◌, codes, Option, None, Some, option_map, option_and_then}
+use Rattle.json.specs.Json.{Json}
+use Rattle.json.specs.Find.{get}
+use Rattle.arrow_values.specs.Tree.{Text, Tree, FieldTree}
+use Rattle.arrow_columns.specs.Column.{TypeTree, known, other, ColumnTree, name_on, metadata_on}
+use Rattle.geoarrow_layout.specs.FaultAt.{Path, child_at, names_along}
+use Rattle.crs_identity.specs.Forms.{json_in}
+use Rattle.column_check.specs.ExtensionNames.{extension_named}
+use Rattle.column_check.specs.Parts.{Names, Spot, spot_in}
+use Rattle.column_check.specs.Said.{Said}
+use Rattle.column_check.specs.Shown.{shown, shown_value, type_shown}
+use Rattle.column_check.specs.declared.code.WarningCode.{WarningCode}
+use Rattle.column_check.specs.declared.code.WarningCode.TheVariants as found
+use Rattle.column_check.specs.declared.data_type.TypeFault.{TypeFault}
+use Rattle.column_check.specs.declared.data_type.TypeFault.TheVariants.{UnsupportedType, WrongStorage, Layout}
+use Rattle.column_check.specs.declared.metadata.MetadataFault.{MetadataFault}
+use Rattle.column_check.specs.declared.metadata.MetadataFault.TheVariants.{NotJson, NotObject, UnknownCrsType, UnknownEdges, UnknownCrsTypeAndEdges}
+use Rattle.column_check.specs.declared.finding.Reasons.{Reasons}
+use Rattle.column_check.specs.declared.finding.Reasons.TheVariants.{UnknownExtension, DataType, Metadata, DataTypeAndMetadata}
+use Rattle.column_check.specs.declared.finding.Finding.{Finding as ColumnFinding}
+use Rattle.column_check.specs.declared.finding.Finding.TheVariants.{Invalid}
+
+-- one of that code, at that place
+abbrev pub one_at : WarningCode → Spot → List Said
+one_at code spot = (code, spot, 0) ∷ []
+
+-- ---- of the extension name
+
+-- a name that GeoArrow or OGC would have to give, which is shown
+abbrev pub unknown_name : Option Text → List Said
+unknown_name name = one_at found.UnknownExtension ([], None, option_map shown name, None)
+
+-- ---- of the type
+
+-- the data type at the end of a path of child fields, if there is one
+abbrev pub child_type : Option Tree → ℕ → Option Tree
+child_type None i = None
+child_type (Some t) i = option_map (λ f. f.tree) (child_at t i)
+
+abbrev pub tree_along : Option Tree → Path → Option Tree
+tree_along o [] = o
+tree_along o (i ∷ p) = tree_along (child_type o i) p
+
+-- the code of a fault of a type, and where it is
+abbrev pub type_code : TypeFault → WarningCode
+type_code UnsupportedType = found.UnsupportedType
+type_code WrongStorage = found.WrongStorage
+type_code (Layout fault path) = found.Layout fault
+
+abbrev pub type_path : TypeFault → Path
+type_path UnsupportedType = []
+type_path WrongStorage = []
+type_path (Layout fault path) = path.items
+
+-- the names of the child fields on the path, and the type at its end as it is shown
+abbrev pub names_at : TypeTree → Path → Names
+names_at (known t) p = names_along t p
+names_at (other s) p = []
+
+abbrev pub shown_at : TypeTree → Path → Option Text
+shown_at (known t) p = option_map type_shown (tree_along (Some t) p)
+shown_at (other s) p = Some (shown s)
+
+-- a type with a fault: the layout of the extension name is wanted
+abbrev pub type_spot : ColumnTree → Path → Spot
+type_spot c p = (names_at c.data_type p, None, shown_at c.data_type p, extension_named (name_on c))
+
+abbrev pub type_found : ColumnTree → TypeFault → List Said
+type_found c f = one_at (type_code f) (type_spot c (type_path f))
+
+-- ---- of the metadata text
+
+-- the value at a key, which is shown
+abbrev pub value_found : WarningCode → Text → Text → Option Json → List Said
+value_found code pointer key o = one_at code (spot_in pointer (option_map shown_value (option_and_then (get key) o)))
+
+abbrev pub crs_type_found : Option Json → List Said
+crs_type_found o = value_found found.UnknownCrsType (codes "/crs_type") (codes "crs_type") o
+
+abbrev pub edges_found : Option Json → List Said
+edges_found o = value_found found.UnknownEdges (codes "/edges") (codes "edges") o
+
+-- of the JSON value that a text is
+abbrev pub json_found : Option Json → MetadataFault → List Said
+json_found o NotJson = []
+json_found o NotObject = one_at found.MetadataNotObject (spot_in [] (option_map shown_value o))
+json_found o UnknownCrsType = crs_type_found o
+json_found o UnknownEdges = edges_found o
+json_found o UnknownCrsTypeAndEdges = crs_type_found o ++ edges_found o
+
+-- of a text, which is shown where it is no JSON
+abbrev pub text_found : Text → MetadataFault → List Said
+text_found s NotJson = one_at found.MetadataNotJson (spot_in [] (Some (shown s)))
+text_found s fault = json_found (json_in s) fault
+
+abbrev pub metadata_found : Option Text → MetadataFault → List Said
+metadata_found None fault = []
+metadata_found (Some s) fault = text_found s fault
+
+-- ---- of a column
+
+-- all reasons of a column, that of its type first
+abbrev pub reasons_found : ColumnTree → Reasons → List Said
+reasons_found c UnknownExtension = unknown_name (name_on c)
+reasons_found c (DataType f) = type_found c f
+reasons_found c (Metadata m) = metadata_found (metadata_on c) m
+reasons_found c (DataTypeAndMetadata f m) = type_found c f ++ metadata_found (metadata_on c) m
+
+abbrev pub reasons_in : ColumnTree → ColumnFinding → List Said
+reasons_in c (Invalid reasons) = reasons_found c reasons
+reasons_in c f = []

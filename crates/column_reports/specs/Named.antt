@@ -1,0 +1,60 @@
+-- Who gives a column its extension name and metadata (docs/FORMAT.md, 2.6).
+use Rattle.std.specs.Prelude.{◌&&◌, ◌||◌, not, Bool, true, false, List, map, Option, None, Some, is_some}
+use Rattle.std.specs.List.{zip}
+use Rattle.arrow_values.specs.Tree.{Text}
+use Rattle.arrow_columns.specs.Column.{ColumnTree, name_on}
+use Rattle.parquet_columns.specs.Claims.{Claim, gives}
+use Rattle.geoparquet.specs.Sources.{with_elements}
+use Rattle.geoparquet.specs.Facts.{FactsOf, facts_alone}
+use Rattle.geoparquet.specs.declared.text_facts.EncodingFact.{EncodingFact}
+use Rattle.column_check.specs.declared.code.WarningCode.{WarningCode}
+use Rattle.column_check.specs.declared.code.WarningCode.TheVariants.{NestedGeometry}
+use Rattle.column_check.specs.declared.warning.Warning.{Warning}
+use Rattle.column_reports.specs.declared.named.NamedBy.{NamedBy}
+use Rattle.column_reports.specs.declared.named.NamedBy.TheVariants.{Field, Element, Geo}
+
+-- the geometry type of its element; or its field; or the member of `columns`, if anything does
+abbrev pub field_or_geo : Option Text → NamedBy
+field_or_geo None = Geo
+field_or_geo (Some name) = Field
+
+abbrev pub named_by : ColumnTree → Option Claim → NamedBy
+named_by c (Some (gives names_crs)) = Element
+named_by c e = field_or_geo (name_on c)
+
+-- of the columns of a file, beside which its elements say that
+abbrev pub all_named_by : List ColumnTree → List Claim → List NamedBy
+all_named_by cs es = map (λ x. named_by x.0 x.1) (with_elements cs es)
+
+-- ---- what is told of a column
+
+-- what is known of a column beside itself: its facts, and who gives it its extension name
+pub record Known : Type 0 where
+  pub facts : FactsOf
+  pub by : NamedBy
+
+abbrev pub known : FactsOf × NamedBy → Known
+known x = record { facts = x.0; by = x.1 }
+
+abbrev pub all_known : List FactsOf → List NamedBy → List Known
+all_known fs bys = map known (zip fs bys)
+
+-- of a column alone
+abbrev pub known_alone : ColumnTree → Known
+known_alone c = record { facts = facts_alone c; by = Field }
+
+-- what its member of `columns` gives a column is judged there: the extension metadata; and the layout, where it is not that of the encoding, but not what
+-- lies below
+abbrev pub is_nested : WarningCode → Bool
+is_nested NestedGeometry = true
+is_nested code = false
+
+abbrev pub is_told_beside_geo : Option EncodingFact → Warning → Bool
+is_told_beside_geo encoding w = not (is_some w.pointer) && (is_some encoding || is_nested w.code)
+
+abbrev pub is_told_by : NamedBy → Option EncodingFact → ColumnTree → Warning → Bool
+is_told_by Geo encoding c w = not (is_some (name_on c)) || is_told_beside_geo encoding w
+is_told_by by encoding c w = true
+
+abbrev pub is_told : Known → ColumnTree → Warning → Bool
+is_told k c w = is_told_by k.by k.facts.encoding c w
