@@ -7,7 +7,7 @@ import json
 
 from . import geo_findings
 from .geo_findings import ABSENT, MISSING, NOTHING, OLD, UNASKED, Beside, Given, Members
-from .geo_json import NotJson, read, text_of
+from .geo_json import NotJson, Number, read, text_of
 
 ELEMENT, GEO, FIELD = SOURCES = ("element", "geo", "field")
 WORDS = {"Agree": "agree", "Contradict": "contradict", "NotCompared": "not compared"}
@@ -101,6 +101,27 @@ def encoding_of(claims):
     return ({}, {}) if counts is None else ({"type_from": compact(counts)}, against("encoding", claims, counts))
 
 
+def is_bbox(value, version):
+    return isinstance(value, list) and len(value) in version.sizes and all(isinstance(it, Number) for it in value)
+
+
+def are_types(value, version):
+    names = list(map(geo_findings.split_type, value)) if isinstance(value, list) else []
+    return bool(names) and None not in names and len(set(names)) == len(names)
+
+
+# What a member alone says: each key of a line, with the rule that its value keeps.
+ALONE = {"bbox": is_bbox, "epoch": lambda value, version: isinstance(value, Number), "geometry_types": are_types,
+         "orientation": lambda value, version: value == "counterclockwise"}
+
+
+def alone_of(it):
+    """The members that say what the member of `columns` alone does, of a version that has rules for it."""
+    if it is None or it.version is OLD:
+        return {}
+    return {key: text_of(it.at(key)) for key, keeps in ALONE.items() if keeps(it.at(key), it.version)}
+
+
 def column_facts(it, column, element):
     """The facts of a column with a member or none: members of its line (2.5), each as its JSON."""
     said = dict(zip(SOURCES, (NOTHING, geo_findings.claims_of_member(it) if it else NOTHING, NOTHING)))
@@ -111,7 +132,7 @@ def column_facts(it, column, element):
     encoding = encoding_of(of_fact["encoding"])
     verdicts = {fact: found for fact, (_, found) in (("crs", crs), ("edges", edges), ("encoding", encoding)) if found}
     whole = {"verdicts": compact(verdicts)} if verdicts else {}
-    return {**crs[0], **edges[0], **encoding[0], **whole}
+    return {**crs[0], **edges[0], **encoding[0], **alone_of(it), **whole}
 
 
 def facts(geo, columns, elements=()):

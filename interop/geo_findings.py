@@ -9,6 +9,7 @@ of a Parquet file say of these. The command answers the rows of `check_geo`, `ch
 answer is another; the last line is `N rows, M differ`, and the status is 1 where M is not 0.
 """
 import collections
+import itertools
 import json
 import pathlib
 import re
@@ -35,8 +36,8 @@ Claims = collections.namedtuple("Claims", "encoding crs edges")
 
 CODES = (
     "NoGeoMetadata",
-    "GeoNotJson", "GeoNotObject", "GeoVersion", "GeoOldVersion", "GeoNewVersion", "GeoColumns",
-    "GeoColumnMissing", "GeoColumnRepeated", "GeoMember", "GeoColumnUndeclared", "GeoPrimaryColumn",
+    "GeoNotJson", "GeoNotObject", "RepeatedKey", "GeoVersion", "GeoOldVersion", "GeoNewVersion",
+    "GeoColumns", "GeoColumnMissing", "GeoColumnRepeated", "GeoMember", "GeoColumnUndeclared", "GeoPrimaryColumn",
     "GeoEncoding", "GeoLayout", "GeoTypes", "GeoTypesVersion", "TypesContradict", "GeoCrs",
     "CrsMalformed", "GeoEdges", "GeoOrientation", "GeoEpoch", "GeoBbox", "GeoBboxOrder",
     "GeoBboxRange", "GeoBboxDimension", "GeoCovering", "GeoCoveringName", "GeoCoveringColumn",
@@ -94,10 +95,9 @@ class Judged:
         return next((pair for pair in pairs if pair[0]["name"] == name), (None, SILENT))
 
     def add(self, code, column, path, wanted=None, name=None):
-        pointer = "".join("/" + str(it).replace("~", "~0").replace("/", "~1") for it in path)
         there = at(self.value, *path) if name is None else name
         found = None if there is ABSENT else shown(text_of(there))
-        self.found.append(Finding(code, column, pointer, found, wanted))
+        self.found.append(Finding(code, column, pointer_to(path), found, wanted))
 
 
 class Member:
@@ -117,6 +117,10 @@ class Member:
 
     def has(self, *codes):
         return not self.codes.isdisjoint(codes)
+
+
+def pointer_to(path):
+    return "".join("/" + str(it).replace("~", "~0").replace("/", "~1") for it in path)
 
 
 def findings(geo, columns, elements=()):
@@ -140,6 +144,7 @@ def findings(geo, columns, elements=()):
     if judged.found:
         add_elements(judged, ())
         return V1_1, judged.found
+    judged.found.extend(itertools.islice(repeated(value, ()), 100))
     version = add_version(judged)
     members = value.get("columns")
     is_whole = isinstance(members, Members) and len(members) > 0
@@ -157,6 +162,30 @@ def add_missing(judged):
     pairs = zip(judged.columns, judged.elements)
     if any(element is SILENT and encoding_claim(column) not in (None, "box") for column, element in pairs):
         judged.found.append(Finding("NoGeoMetadata", None, "", None, None))
+
+
+def repeated(value, path):
+    """The keys that stand several times in an object: of an object its own ones in the order of
+    their bytes, then those in its values."""
+    if isinstance(value, list):
+        for place, it in enumerate(value):
+            yield from repeated(it, (*path, place))
+    if isinstance(value, Members):
+        texts = collections.defaultdict(list)
+        for key, it in value.pairs:
+            texts[key].append(text_of(it))
+        for key in sorted(texts, key=str.encode):
+            if len(texts[key]) > 1:
+                yield several((*path, key), texts[key])
+        for key, it in value.pairs:
+            yield from repeated(it, (*path, key))
+
+
+def several(path, texts):
+    """That a key has these values."""
+    column = path[1] if path[0] == "columns" and isinstance((*path, 0)[1], str) else None
+    word = "are equal" if len(set(texts)) == 1 else "differ"
+    return Finding("RepeatedKey", column, pointer_to(path), f"{len(texts)} values, which {word}", None)
 
 
 def add_elements(judged, keys):

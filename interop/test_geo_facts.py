@@ -55,6 +55,19 @@ class Facts(unittest.TestCase):
         self.assertEqual((found["crs_from"], found["crs_type"], found["edges_from"], found["type_from"]), ("element", "authority_code", "element", "geo"))
         self.assertEqual(found["verdicts"], {"crs": {"geo": "contradict"}, "edges": {"geo": "agree"}, "encoding": {"element": "agree"}})
 
+    def test_what_a_member_alone_says(self):
+        said = ',"bbox":[1,2,3.50,4],"epoch":2020.0,"geometry_types":["Point","Polygon Z"],"orientation":"counterclockwise"'
+        (found,) = geo_facts.facts(geo(said).replace('"geometry_types":[],', ""), [column()])
+        self.assertEqual([found[key] for key in geo_facts.ALONE], ["[1,2,3.50,4]", "2020.0", '["Point","Polygon Z"]', '"counterclockwise"'])
+        for said in (',"bbox":[1,2,3]', ',"bbox":[1,2,3,"4"]', ',"bbox":[1,2,3,4,5,6,7,8]', ',"epoch":"2020"', ',"orientation":"clockwise"'):
+            (found,) = geo_facts.facts(geo(said), [column()])
+            self.assertEqual(found.keys() & geo_facts.ALONE.keys(), set())
+        for types in ('["Point","Point"]', '["point"]', "[1]", "{}"):
+            (found,) = geo_facts.facts(geo("").replace("[]", types), [column()])
+            self.assertNotIn("geometry_types", found)
+        (found,) = geo_facts.facts(geo(',"epoch":2020').replace("1.1.0", "0.4.0"), [column()])
+        self.assertNotIn("epoch", found)
+
     def test_the_member_is_that_of_the_first_column_of_its_name(self):
         one, other = self.facts(geo(',"crs":' + MERCATOR), column(), column())
         self.assertEqual((one["crs_from"], other), ("geo", {"edges": "planar", "type_from": "field"}))

@@ -534,6 +534,7 @@ The status by what is found, notes too, of the files of a row each: how many, th
         2 GeoCrs 1
         2 GeoEdges 1
         5 GeoEncoding 1
+        1 GeoEncoding GeoVersion RepeatedKey 1
         6 GeoLayout 1
         1 GeoLayout LogicalTypeInvalid 1
         1 GeoNewVersion 0
@@ -549,7 +550,7 @@ The status by what is found, notes too, of the files of a row each: how many, th
         3 LogicalTypeInvalid 1
         1 NestedGeometry 0
         5 NoGeoMetadata 0
-        2 RepeatedKey 0
+        6 RepeatedKey 0
         1 TypesContradict 1
         1 UnknownAlgorithm 0
 
@@ -689,6 +690,10 @@ The codes of findings, without a file: those of the tables of docs/FORMAT.md, in
   expected: one value of the key
   help: The last counts here; other readers take the first.
   docs/FORMAT.md, 4.5
+  warning[RepeatedKey]: a key stands several times in an object
+  expected: one value of the key
+  help: The last counts here; other readers take the first.
+  docs/FORMAT.md, 5
   error[MixedWidths]: list widths differ
   expected: the layout of its extension name
   help: A list and the list in it are of different widths.

@@ -71,7 +71,8 @@ class Column(_OfALine):
     """What is said of a column (docs/FORMAT.md, 2.5 and 2.6). `json` is the line of the report, which has the CRS as it is written, without
     blanks; `crs` is that as Python's json reads it. It is None too where the CRS is not known, which `crs_from` tells: the source of the CRS that counts,
     `element`, `geo` or `field`; so do `edges_from` and `type_from` of the edges and of the encoding. `verdicts` has for each of `crs`, `edges` and `encoding` what
-    the other sources say against it: `agree`, `contradict` or `not compared` (docs/FORMAT.md, 5.7). The line of a column that `check` gives is read when an attribute is first asked for."""
+    the other sources say against it: `agree`, `contradict` or `not compared` (docs/FORMAT.md, 5.7). `bbox`, `epoch`, `geometry_types` and `orientation` are what
+    the GeoParquet metadata alone say of it. The line of a column that `check` gives is read when an attribute is first asked for."""
 
     name: str
     index: int
@@ -86,6 +87,10 @@ class Column(_OfALine):
     edges_from: Optional[str] = dataclasses.field(default_factory=_none)
     type_from: Optional[str] = dataclasses.field(default_factory=_none)
     verdicts: Dict[str, Dict[str, str]] = dataclasses.field(default_factory=dict, hash=False)
+    bbox: Tuple[float, ...] = dataclasses.field(default_factory=tuple)
+    epoch: Optional[float] = dataclasses.field(default_factory=_none)
+    geometry_types: Tuple[str, ...] = dataclasses.field(default_factory=tuple)
+    orientation: Optional[str] = dataclasses.field(default_factory=_none)
     json: str = dataclasses.field(default_factory=str, repr=False, compare=False)
 
     @property
@@ -157,7 +162,8 @@ def _attributes(line: str) -> Dict[str, Any]:
     return {
         "name": said["column"], "index": said["index"], "state": said["state"], "type": said["type"], "extension": known("extension"),
         "edges": known("edges"), "crs_type": known("crs_type"), "crs": known("crs"), "crs_from": known("crs_from"), "edges_from": known("edges_from"),
-        "type_from": known("type_from"), "verdicts": known("verdicts", {}), "findings": tuple(_findings(line)) if "findings" in said else ()}
+        "type_from": known("type_from"), "verdicts": known("verdicts", {}), "bbox": tuple(known("bbox", ())), "epoch": known("epoch"),
+        "geometry_types": tuple(known("geometry_types", ())), "orientation": known("orientation"), "findings": tuple(_findings(line)) if "findings" in said else ()}
 
 
 def _finding(line: str) -> Finding:

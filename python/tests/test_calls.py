@@ -112,11 +112,11 @@ class Checks(unittest.TestCase):
         self.assertEqual((column.crs_type, column.edges), ("projjson", "spherical"))
         self.assertEqual((column.crs_from, column.edges_from, column.type_from, column.verdicts), ("field", "field", "field", {}))
         line = (  # (with a value of its own at each key)
-            '{"column":"a","crs":"b","crs_from":"element","crs_type":"c","edges":"d","edges_from":"geo","extension":"e","index":1,"state":"geometry","type":"f",'
-            '"type_from":"field","verdicts":{"crs":{"geo":"agree"}}}\n')
+            '{"column":"a","bbox":[1,2.5],"crs":"b","crs_from":"element","crs_type":"c","edges":"d","edges_from":"geo","epoch":3.5,"extension":"e","geometry_types":["g","h"],"index":1,'
+            '"orientation":"i","state":"geometry","type":"f","type_from":"field","verdicts":{"crs":{"geo":"agree"}}}\n')
         self.assertEqual(list(columns_of(line)), [Column(
             name="a", index=1, state="geometry", type="f", extension="e", edges="d", crs_type="c", crs="b", crs_from="element", edges_from="geo",
-            type_from="field", verdicts={"crs": {"geo": "agree"}})])
+            type_from="field", verdicts={"crs": {"geo": "agree"}}, bbox=(1, 2.5), epoch=3.5, geometry_types=("g", "h"), orientation="i")])
         self.assertEqual((column.state, column.is_geometry, column.is_invalid), ("geometry", True, False))
         self.assertIn('"scope":1.50', column.json)
         (column,) = check([with_crs('{ "b" : 1.50 , "a" : "\\u00e9 \\n" , "b" : 2 }')])
@@ -254,7 +254,7 @@ class Columns(unittest.TestCase):
 
     def test_each_attribute_may_be_the_first(self):
         wanted = Column("t", 0, "plain", "utf8")
-        for name in ("name", "index", "state", "type", "extension", "edges", "crs_type", "crs", "findings", "crs_from", "edges_from", "type_from", "verdicts", "is_geometry", "is_invalid", "is_error"):
+        for name in ("name", "index", "state", "type", "extension", "edges", "crs_type", "crs", "findings", "crs_from", "edges_from", "type_from", "verdicts", "bbox", "epoch", "geometry_types", "orientation", "is_geometry", "is_invalid", "is_error"):
             (column,) = check([TEXT])
             self.assertEqual(getattr(column, name), getattr(wanted, name))
         for look in (repr, hash, dataclasses.asdict, lambda one: dataclasses.replace(one, name="u"), lambda one: pickle.loads(pickle.dumps(one)), copy.copy):

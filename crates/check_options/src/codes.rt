@@ -58,8 +58,8 @@ pub(crate) fn codes_text(alloc: Global) -> Result<String, AllocError> {
     Ok(text)
 }
 
-/// Returns what is known of a code, by the rules of GeoParquet 1.1.0; of one that columns and metadata
-/// share what is known of both; none where no code is so called. Errs only when out of memory.
+/// Returns what is known of a code, by the rules of GeoParquet 1.1.0; of one that stands in two tables
+/// what is known of both; none where no code is so called. Errs only when out of memory.
 pub(crate) fn explained(alloc: Global, word: &str) -> Result<Option<String>, AllocError> {
     let mut text = String::new(alloc);
     for code in &all_codes(alloc)? {

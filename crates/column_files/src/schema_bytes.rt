@@ -176,8 +176,21 @@ fn last_of<S: Read + Seek>(
 {
     let start = length.saturating_sub(count);
     source.seek(SeekFrom::Start(start))?;
-    let bytes = read_up_to(source, Vec::new(alloc), u64::MAX)?;
+    let bytes = read_rest(alloc, source, count)?;
     Ok(FileEnd { start, bytes })
+}
+
+/// All bytes of a source, which are so many unless the file has grown.
+fn read_rest<R: Read>(alloc: Global, source: &mut R, count: u64) -> Result<Vec<u8>, ReadFault>
+    ensures end { OnOk result (IsAtEnd (R.remaining source.new)) }
+    ensures err { IfErr result IsReadError }
+{
+    // (one more, which there is not, so that the end is seen)
+    let bytes = read_up_to(source, Vec::new(alloc), count.saturating_add(1))?;
+    if bytes.len() as u64 <= count {
+        return Ok(bytes);
+    }
+    Ok(read_up_to(source, bytes, u64::MAX)?)
 }
 
 /// The number in the first four bytes, the lowest first.

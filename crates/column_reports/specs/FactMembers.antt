@@ -1,5 +1,5 @@
 -- The facts of geometries as members of the line of a column (docs/FORMAT.md, 2.5).
-use Rattle.std.specs.Prelude.{Bool, true, false, List, [], ◌∷◌, ◌++◌, codes, Option, None, Some, option_map, if◌then◌else◌}
+use Rattle.std.specs.Prelude.{Bool, true, false, List, [], ◌∷◌, ◌++◌, codes, Option, None, Some, option_and_then, option_map, if◌then◌else◌}
 use Rattle.json.specs.Json.{Json}
 use Rattle.arrow_values.specs.Tree.{Text}
 use Rattle.column_check.specs.declared.finding.Geometry.{Geometry as GeometryColumn}
@@ -51,6 +51,20 @@ encoding_word (Some f) = Some (source_word f.from)
 abbrev pub encoding_word_in : Option FactsOf → Option Text
 encoding_word_in None = None
 encoding_word_in (Some fs) = encoding_word fs.encoding
+
+-- ---- what the member of `columns` alone says
+
+abbrev pub bbox_in : Option FactsOf → Option Json
+bbox_in fs = option_and_then (λ f. f.member.bbox) fs
+
+abbrev pub epoch_in : Option FactsOf → Option Json
+epoch_in fs = option_and_then (λ f. f.member.epoch) fs
+
+abbrev pub geometry_types_in : Option FactsOf → Option Json
+geometry_types_in fs = option_and_then (λ f. f.member.geometry_types) fs
+
+abbrev pub orientation_in : Option FactsOf → Option Json
+orientation_in fs = option_and_then (λ f. f.member.orientation) fs
 
 -- ---- what the other sources say against them
 

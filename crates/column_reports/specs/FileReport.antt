@@ -1,8 +1,7 @@
 -- The report of a file: its columns with what is said of each, and what is found of it; and its lines of JSON.
-use Rattle.std.specs.Prelude.{◌≡◌, ◌⊎◌, ◌<◌, ◌≤◌, ◌+◌, ◌++◌, ℕ, ⊤, Bool, List, [], ◌∷◌, codes, length, map, Option, None, Some, Result, Ok, Err, String, string_bytes, if◌then◌else◌}
+use Rattle.std.specs.Prelude.{◌≡◌, ◌⊎◌, ◌<◌, ◌≤◌, ◌+◌, ◌++◌, ℕ, ⊤, Bool, List, [], ◌∷◌, codes, length, map, Option, Result, Ok, Err, String, string_bytes}
 use Rattle.std.specs.List.{zip}
 use Rattle.std.specs.Global.{Global}
-use Rattle.std.specs.Str.{is_utf8}
 use Rattle.json.specs.Print.{print}
 use Rattle.json.specs.Tree.{json_tokens}
 use Rattle.arrow_values.specs.Tree.{Text}
@@ -17,7 +16,7 @@ use Rattle.column_files.specs.declared.columns.FileFault.{FileFault}
 use Rattle.column_files.specs.declared.columns.FileFault.TheVariants.{ReportTooLarge, OutOfMemory}
 use Rattle.geoparquet.specs.Facts.{facts_of}
 use Rattle.geoparquet.specs.Findings.{finding}
-use Rattle.geoparquet.specs.GeoColumns.{AreGeoColumns}
+use Rattle.geoparquet.specs.GeoColumns.{AreColumnsBy}
 use Rattle.geoparquet.specs.GeoFindings.{AreGeoFindings}
 use Rattle.geoparquet.specs.Sources.{Source, unasked, missing, value}
 use Rattle.geoparquet.specs.declared.finding.GeoReport.{GeoReport}
@@ -41,15 +40,6 @@ AreReported infer w [] [] = ⊤
 AreReported infer w (x ∷ xs) (r ∷ rs) = IsColumnReport infer w x.0 x.1 r × AreReported infer w xs rs
 AreReported infer w _ _ = ⊥
 
--- the text at the key geo, if there is one: bytes that are not UTF-8 are none
-abbrev pub text_of_bytes : List ℕ → Option Text
-text_of_bytes bytes = if is_utf8 bytes then Some bytes else None
-
-abbrev pub text_in : GeoText → Option Text
-text_in Absent = None
-text_in (Footer text) = text_of_bytes text.bytes.now
-text_in (Schema text) = Some (string_bytes text)
-
 -- what the rules of GeoParquet take a file in that format to have at the key: of a Parquet file the key is missing where nothing stands at it
 abbrev pub nothing_in : Form → Source
 nothing_in Parquet = missing
@@ -60,17 +50,12 @@ source_in form Absent = nothing_in form
 source_in form (Footer text) = value text.bytes.now
 source_in form (Schema text) = value (string_bytes text)
 
--- the columns that a file with the columns cs has by that text
-abbrev pub AreColumnsBy : Option Text → List ColumnTree → List ColumnTree → Type 0
-AreColumnsBy None cs made = made ≡ cs
-AreColumnsBy (Some geo) cs made = AreGeoColumns geo cs made
-
 -- the report of a file that was opened, where types are inferred or not and that is asked of findings
 pub record IsReport (infer : Bool) (w : Weighing) (opened : File) (r : FileReport) : Type 0 where
   pub form : r.form ≡ opened.form
   -- its columns by the metadata, each with its report, which has the facts of the columns that the file denotes, and tells of whoever names them
   pub by : List ColumnTree
-  pub are_by : AreColumnsBy (text_in opened.geo) (map column_tree opened.columns.items) by
+  pub are_by : AreColumnsBy (source_in opened.form opened.geo) (map column_tree opened.columns.items) by
   pub columns : AreReported infer w (zip by (all_known (facts_of (source_in opened.form opened.geo) (map column_tree opened.columns.items) (map claim opened.elements.items))
       (all_named_by (map column_tree opened.columns.items) (map claim opened.elements.items)))) r.columns.items
   -- what the metadata are found to be, of the columns that the file denotes

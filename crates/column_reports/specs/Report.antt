@@ -12,7 +12,7 @@ use Rattle.column_check.specs.declared.finding.Finding.{Finding as ColumnFinding
 use Rattle.column_check.specs.declared.finding.Finding.TheVariants.{Geometry, Invalid, Extension, Inferred, Plain}
 use Rattle.column_check.specs.States.{geometry_in}
 use Rattle.geoparquet.specs.Facts.{FactsOf, facts_view}
-use Rattle.column_reports.specs.FactMembers.{crs_fact_in, crs_members, edges_members_in, encoding_word_in, facts_in, verdicts_in}
+use Rattle.column_reports.specs.FactMembers.{bbox_in, epoch_in, geometry_types_in, orientation_in, crs_fact_in, crs_members, edges_members_in, encoding_word_in, facts_in, verdicts_in}
 use Rattle.column_reports.specs.FindingLines.{findings_in}
 use Rattle.column_reports.specs.Objects.{object_of, member_if, string_if}
 use Rattle.column_reports.specs.declared.report.ColumnReport.{ColumnReport}
@@ -34,21 +34,25 @@ abbrev pub type_word : ColumnTree → Option GeometryColumn → Text
 type_word c (Some g) = kind_text g.kind
 type_word c None = type_text c.data_type
 
--- the members, in the order of their keys: the column, its CRS and its edges; names; what is found of it, and its place; its state, its type and source, and
--- what the others say
+-- the members, the name of the column first, then in the order of their keys: its box, its CRS, its edges and its epoch; names; what is found of it, its
+-- geometry types, its place and its orientation; its state, its type and source, and what the others say
 abbrev pub names_of : Option Text → ColumnTree → List (Text × Json)
 names_of file c = string_if (codes "extension") (name_on c) ++ string_if (codes "file") file
 
 abbrev pub said_of : ColumnTree → Option FactsOf → List (Text × Json)
 said_of c fs =
     string_if (codes "column") (Some c.name)
+    ++ member_if (codes "bbox") (bbox_in fs)
     ++ crs_members (crs_fact_in fs)
     ++ edges_members_in fs
+    ++ member_if (codes "epoch") (epoch_in fs)
 
 abbrev pub found_of : ℕ → ColumnFinding → Text → Option FactsOf → List Weighed → List (Text × Json)
 found_of index f word fs ws =
     member_if (codes "findings") (findings_in ws)
+    ++ member_if (codes "geometry_types") (geometry_types_in fs)
     ++ member_if (codes "index") (Some (number (decimal index)))
+    ++ member_if (codes "orientation") (orientation_in fs)
     ++ string_if (codes "state") (Some (state_word f))
     ++ string_if (codes "type") (Some word)
     ++ string_if (codes "type_from") (encoding_word_in fs)

@@ -5,7 +5,7 @@ ghost use Rattle.geoparquet.specs.Facts.{crs_view, edges_view, facts_view};
 ghost use Rattle.value_tokens.specs.Adds.{Adds};
 ghost use Rattle.value_tokens.specs.Values.{or_null};
 ghost use Rattle.json.specs.Tree.{json_tokens};
-ghost use Rattle.column_reports.specs.FactMembers.{against_if, against_members, are_some, crs_against, crs_fact_in, crs_members, edges_against, edges_members, edges_members_in, encoding_against, encoding_word_in, has_one, verdict_members, verdict_word, verdicts_in};
+ghost use Rattle.column_reports.specs.FactMembers.{against_if, against_members, are_some, bbox_in, epoch_in, geometry_types_in, orientation_in, crs_against, crs_fact_in, crs_members, edges_against, edges_members, edges_members_in, encoding_against, encoding_word_in, has_one, verdict_members, verdict_word, verdicts_in};
 ghost use Rattle.column_reports.specs.Objects.{member_if, AddsMembers};
 
 use crate::put::{put_text, put_text_if};
@@ -27,6 +27,90 @@ fn put_json(
         Some(value) => value.put(scratch, out),
         None => out.null(),
     }
+}
+
+/// Writes a member with that key, if there is a value.
+fn put_json_if(
+    out: &mut Writer,
+    scratch: &mut Scratch,
+    key: &str,
+    value: Option<&JsonText>,
+) -> Result<(), AllocError>
+    ensures { OnOk result (AddsMembers (member_if key.now (option_map (λ v. v.now) value.entry)) out.old out.new) }
+{
+    match value {
+        Some(value) => {
+            out.key(key)?;
+            value.put(scratch, out)
+        }
+        None => Ok(()),
+    }
+}
+
+/// Writes the member of the box of geometries, if their member of `columns` says one.
+pub(crate) fn put_bbox(
+    out: &mut Writer,
+    scratch: &mut Scratch,
+    facts: Option<&ColumnFacts>,
+) -> Result<(), AllocError>
+    ensures { OnOk result (AddsMembers (member_if (codes "bbox") (bbox_in (option_map (λ f. facts_view f.now) facts.entry))) out.old out.new) }
+{
+    let Some(facts) = facts else {
+        return Ok(());
+    };
+    put_json_if(out, scratch, "bbox", facts.member.bbox.as_ref())
+}
+
+/// Writes the member of the epoch of geometries, if their member of `columns` says one.
+pub(crate) fn put_epoch(
+    out: &mut Writer,
+    scratch: &mut Scratch,
+    facts: Option<&ColumnFacts>,
+) -> Result<(), AllocError>
+    ensures { OnOk result (AddsMembers (member_if (codes "epoch") (epoch_in (option_map (λ f. facts_view f.now) facts.entry))) out.old out.new) }
+{
+    let Some(facts) = facts else {
+        return Ok(());
+    };
+    put_json_if(out, scratch, "epoch", facts.member.epoch.as_ref())
+}
+
+/// Writes the member of the types of geometries, if their member of `columns` says some.
+pub(crate) fn put_geometry_types(
+    out: &mut Writer,
+    scratch: &mut Scratch,
+    facts: Option<&ColumnFacts>,
+) -> Result<(), AllocError>
+    ensures { OnOk result (AddsMembers (member_if (codes "geometry_types") (geometry_types_in (option_map (λ f. facts_view f.now) facts.entry))) out.old out.new) }
+{
+    let Some(facts) = facts else {
+        return Ok(());
+    };
+    put_json_if(
+        out,
+        scratch,
+        "geometry_types",
+        facts.member.geometry_types.as_ref(),
+    )
+}
+
+/// Writes the member of the orientation of geometries, if their member of `columns` says one.
+pub(crate) fn put_orientation(
+    out: &mut Writer,
+    scratch: &mut Scratch,
+    facts: Option<&ColumnFacts>,
+) -> Result<(), AllocError>
+    ensures { OnOk result (AddsMembers (member_if (codes "orientation") (orientation_in (option_map (λ f. facts_view f.now) facts.entry))) out.old out.new) }
+{
+    let Some(facts) = facts else {
+        return Ok(());
+    };
+    put_json_if(
+        out,
+        scratch,
+        "orientation",
+        facts.member.orientation.as_ref(),
+    )
 }
 
 /// Writes the members of the CRS of geometries, if a source says something of it.

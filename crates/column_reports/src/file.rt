@@ -11,7 +11,7 @@ ghost use Rattle.column_reports.specs.Summary.{has_error};
 ghost use Rattle.column_reports.specs.Weights.{plain, weighing};
 
 use crate::gathered::of_file;
-use crate::geo::{columns_by, source_of};
+use crate::geo::source_of;
 use crate::lines::json_lines;
 use crate::named::{NamedBy, all_named_by};
 use crate::report::{ColumnReport, Options, column_with};
@@ -20,7 +20,7 @@ use crate::weighed::{Weighed, weigh};
 use crate::weights::Weights;
 use arrow_columns::SchemaColumn;
 use column_files::{File, FileFault, Form, open};
-use geoparquet::{ColumnFacts, check_geo, geo_facts};
+use geoparquet::{ColumnFacts, inspect_geo};
 use json::Scratch;
 use parquet_columns::report_budget;
 use std::alloc::{AllocError, Global};
@@ -82,13 +82,11 @@ pub fn weighed_report<'a>(
         geo,
     } = opened;
     let source = source_of(form, &geo);
-    let checked = check_geo(alloc, source, columns.as_slice(), elements.as_slice())?;
-    let facts = geo_facts(alloc, source, columns.as_slice(), elements.as_slice())?;
     let named = all_named_by(alloc, columns.as_slice(), elements.as_slice())?;
-    let found = of_file(alloc, texts, findings, checked)?;
+    let answer = inspect_geo(alloc, source, columns, elements.as_slice())?;
+    let found = of_file(alloc, texts, findings, answer.report)?;
     let findings = weigh(alloc, weights, found)?;
-    let columns = columns_by(alloc, &geo, columns)?;
-    let columns = report_columns(alloc, columns, facts, named, infer, weights)?;
+    let columns = report_columns(alloc, answer.columns, answer.facts, named, infer, weights)?;
     let summary = summary_of(columns.as_slice(), findings.as_slice());
     Ok(FileReport {
         form,

@@ -9,7 +9,10 @@ ghost use Rattle.column_reports.specs.FactMembers.{facts_in};
 ghost use Rattle.column_reports.specs.Objects.{AddsMembers};
 ghost use Rattle.column_reports.specs.Report.{said_of, names_of, found_of, report};
 
-use crate::fact_members::{encoding_word, put_crs, put_edges, put_verdicts};
+use crate::fact_members::{
+    encoding_word, put_bbox, put_crs, put_edges, put_epoch, put_geometry_types, put_orientation,
+    put_verdicts,
+};
 use crate::finding_json::put_findings;
 use crate::put::{put_number, put_text, put_text_if};
 use crate::report::ColumnReport;
@@ -93,7 +96,15 @@ pub fn json_line(
     out.begin_object()?;
     put_said(&mut out, scratch, &said.column, facts)?;
     put_names(&mut out, &said.column, file)?;
-    put_found(alloc, &mut out, index, said, type_word.as_str(), facts)?;
+    put_found(
+        alloc,
+        &mut out,
+        scratch,
+        index,
+        said,
+        type_word.as_str(),
+        facts,
+    )?;
     out.end_object()?;
     Ok(text_of(out))
 }
@@ -108,7 +119,7 @@ fn facts_in<'f>(geometry: Option<&Geometry>, facts: &'f ColumnFacts) -> Option<&
     }
 }
 
-/// Writes the name of a column, its CRS and its edges: those that there are.
+/// Writes the name of a column, its box, its CRS, its edges and its epoch: those that there are.
 fn put_said(
     out: &mut Writer,
     scratch: &mut Scratch,
@@ -118,8 +129,10 @@ fn put_said(
     ensures { OnOk result (AddsMembers (said_of (column_tree column.now) (option_map (λ f. facts_view f.now) facts.entry)) out.old out.new) }
 {
     put_text(out, "column", column.name.as_str())?;
+    put_bbox(out, scratch, facts)?;
     put_crs(out, scratch, facts)?;
-    put_edges(out, facts)
+    put_edges(out, facts)?;
+    put_epoch(out, scratch, facts)
 }
 
 /// Writes the names of the extension and the file: those that there are.
@@ -130,11 +143,12 @@ fn put_names(out: &mut Writer, column: &SchemaColumn, file: Option<&str>) -> Res
     put_text_if(out, "file", file)
 }
 
-/// Writes the place of a column and what is found of it, with the word of its type and what its
-/// sources say.
+/// Writes the place of a column and what is found of it, its geometry types and its orientation, with
+/// the word of its type and what its sources say.
 fn put_found(
     alloc: Global,
     out: &mut Writer,
+    scratch: &mut Scratch,
     index: usize,
     said: &ColumnReport,
     word: &str,
@@ -143,7 +157,9 @@ fn put_found(
     ensures { OnOk result (AddsMembers (found_of index said.now.finding word.now (option_map (λ f. facts_view f.now) facts.entry) said.now.findings.items) out.old out.new) }
 {
     put_findings(alloc, out, said.findings.as_slice())?;
+    put_geometry_types(out, scratch, facts)?;
     put_number(out, "index", index as u64)?;
+    put_orientation(out, scratch, facts)?;
     put_text(out, "state", state_word(&said.finding))?;
     put_text(out, "type", word)?;
     put_text_if(out, "type_from", encoding_word(facts))?;

@@ -6,7 +6,7 @@
 //! metadata, beside those of a field that has an extension name of its own.
 use arrow_columns::SchemaColumn;
 use column_files::{column_line, columns_of_lines};
-use geoparquet::{GeoFinding, GeoSource, check_geo, geo_columns};
+use geoparquet::{GeoAnswer, GeoFinding, GeoReport, GeoSource, inspect_geo};
 use parquet_columns::ElementClaim;
 use rows::asked::Asked;
 use rows::said::Said;
@@ -24,21 +24,15 @@ pub fn answer(it: &mut Asked<'_>) {
     let Ok(columns) = columns_of_lines(it.alloc, lines.as_bytes()) else {
         return it.said.fail();
     };
-    let columns = ManuallyDrop::new(columns);
-    let (held, claims) = (columns.as_slice(), elements.as_slice());
+    let claims = elements.as_slice();
     match it.command {
-        "check_geo" => say_report(it, GeoSource::Value(geo.as_bytes()), held, claims),
-        "check_missing" => say_report(it, GeoSource::Missing, held, claims),
-        "check_unasked" => say_report(it, GeoSource::Unasked, held, claims),
+        "check_missing" => say_answer(it, GeoSource::Missing, columns, claims),
+        "check_unasked" => say_answer(it, GeoSource::Unasked, columns, claims),
         "check_bytes" => match hex::decode(it.alloc, geo) {
-            Ok(bytes) => say_report(it, GeoSource::Value(bytes.as_slice()), held, claims),
+            Ok(bytes) => say_answer(it, GeoSource::Value(bytes.as_slice()), columns, claims),
             Err(_) => it.said.fail(),
         },
-        "geo_columns" => {
-            let made = geo_columns(it.alloc, geo, ManuallyDrop::into_inner(columns));
-            say_columns(it, made);
-        }
-        _ => it.no_command(),
+        _ => say_answer(it, GeoSource::Value(geo.as_bytes()), columns, claims),
     }
 }
 
@@ -75,38 +69,46 @@ fn claim_of(said: &mut Said, words: &str) -> ElementClaim {
     }
 }
 
-/// Says the version by which the metadata are judged, and the findings, with ` & ` between them.
-fn say_report(
+/// Says what a command asks of what a file has at the key `geo`: what is found, or the columns.
+fn say_answer(
     it: &mut Asked<'_>,
     geo: GeoSource<'_>,
-    columns: &[SchemaColumn],
+    columns: Vec<SchemaColumn>,
     elements: &[ElementClaim],
 ) {
-    match check_geo(it.alloc, geo, columns, elements) {
-        Ok(report) => {
-            it.said.name(&report.version);
-            for (place, finding) in report.findings.iter().enumerate() {
-                it.said.push(if place > 0 { " & " } else { " " });
-                say_finding(&mut it.said, finding);
-            }
-        }
-        Err(AllocError) => it.said.fail(),
+    let Ok(answer) = inspect_geo(it.alloc, geo, columns, elements) else {
+        return it.said.fail();
+    };
+    let GeoAnswer {
+        report,
+        facts,
+        columns,
+    } = answer;
+    let (report, _facts) = (ManuallyDrop::new(report), ManuallyDrop::new(facts));
+    match it.command {
+        "check_geo" | "check_missing" | "check_unasked" | "check_bytes" => say_report(it, &report),
+        "geo_columns" => say_columns(it, columns),
+        _ => it.no_command(),
+    }
+}
+
+/// Says the version by which the metadata are judged, and the findings, with ` & ` between them.
+fn say_report(it: &mut Asked<'_>, report: &GeoReport) {
+    it.said.name(&report.version);
+    for (place, finding) in report.findings.iter().enumerate() {
+        it.said.push(if place > 0 { " & " } else { " " });
+        say_finding(&mut it.said, finding);
     }
 }
 
 /// Says the lines of columns, with ` & ` between them.
-fn say_columns(it: &mut Asked<'_>, made: Result<Vec<SchemaColumn>, AllocError>) {
-    match made {
-        Ok(columns) => {
-            for (place, column) in columns.into_iter().enumerate() {
-                it.said.push(if place > 0 { " & " } else { "" });
-                match column_line(it.alloc, column) {
-                    Ok(line) => it.said.push(line.as_str()),
-                    Err(AllocError) => it.said.fail(),
-                }
-            }
+fn say_columns(it: &mut Asked<'_>, columns: Vec<SchemaColumn>) {
+    for (place, column) in columns.into_iter().enumerate() {
+        it.said.push(if place > 0 { " & " } else { "" });
+        match column_line(it.alloc, column) {
+            Ok(line) => it.said.push(line.as_str()),
+            Err(AllocError) => it.said.fail(),
         }
-        Err(AllocError) => it.said.fail(),
     }
 }
 

@@ -8,5 +8,8 @@ pub mod Claims
 pub mod Counted
 pub mod Sourcing
 pub mod Utf8
+pub mod Telling
+pub mod Gathering
 pub mod FactLists
 pub mod CountingSources
+pub mod Answered

@@ -4,12 +4,13 @@ use Rattle.arrow_values.specs.Tree.{Text}
 use Rattle.column_check.specs.declared.code.Severity.{Severity}
 use Rattle.column_check.specs.declared.code.Severity.TheVariants.{Error, Warning, Note}
 use Rattle.geoparquet.specs.declared.code.GeoCode.{GeoCode}
-use Rattle.geoparquet.specs.declared.code.GeoCode.TheVariants.{NoMetadata, NotJson, NotObject, Version, OldVersion, NewVersion, Columns, ColumnMissing, ColumnRepeated, Member, ColumnUndeclared, PrimaryColumn, Encoding, Layout, Types, TypesVersion, TypesContradict, Crs, CrsMalformed, Edges, Orientation, Epoch, Bbox, BboxOrder, BboxRange, BboxDimension, Covering, CoveringName, CoveringColumn, CoveringType, CoveringShape, CoveringAbsent, EncodingContradicts, CrsContradicts, CrsNotCompared, EdgesContradict, EdgesOnProjected}
+use Rattle.geoparquet.specs.declared.code.GeoCode.TheVariants.{NoMetadata, NotJson, NotObject, RepeatedKey, Version, OldVersion, NewVersion, Columns, ColumnMissing, ColumnRepeated, Member, ColumnUndeclared, PrimaryColumn, Encoding, Layout, Types, TypesVersion, TypesContradict, Crs, CrsMalformed, Edges, Orientation, Epoch, Bbox, BboxOrder, BboxRange, BboxDimension, Covering, CoveringName, CoveringColumn, CoveringType, CoveringShape, CoveringAbsent, EncodingContradicts, CrsContradicts, CrsNotCompared, EdgesContradict, EdgesOnProjected}
 
 abbrev pub code_of : GeoCode → Text
 code_of NoMetadata = codes "NoGeoMetadata"
 code_of NotJson = codes "GeoNotJson"
 code_of NotObject = codes "GeoNotObject"
+code_of RepeatedKey = codes "RepeatedKey"
 code_of Version = codes "GeoVersion"
 code_of OldVersion = codes "GeoOldVersion"
 code_of NewVersion = codes "GeoNewVersion"
@@ -49,6 +50,7 @@ abbrev pub severity_of : GeoCode → Severity
 severity_of NoMetadata = Warning
 severity_of NotJson = Error
 severity_of NotObject = Error
+severity_of RepeatedKey = Warning
 severity_of Version = Error
 severity_of OldVersion = Warning
 severity_of NewVersion = Note

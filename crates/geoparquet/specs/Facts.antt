@@ -15,6 +15,7 @@ use Rattle.geoparquet.specs.Contradictions.{element_edges, element_encoding, ele
 use Rattle.geoparquet.specs.CrsClaims.{crs_at, element_crs, element_json, field_json, own_crs_in, said_crs}
 use Rattle.geoparquet.specs.FactSources.{BySource, against, of_source, source_counting, text_verdict}
 use Rattle.geoparquet.specs.GeoColumns.{left_for}
+use Rattle.geoparquet.specs.MemberFacts.{SaidOf, member_facts, member_facts_view}
 use Rattle.geoparquet.specs.Identifiers.{default_identifier}
 use Rattle.geoparquet.specs.Sources.{Element, Source, unasked, missing, value, with_elements}
 use Rattle.geoparquet.specs.Versions.{version_of}
@@ -45,6 +46,7 @@ pub record FactsOf : Type 0 where
   pub crs : Option CrsOf
   pub edges : Option EdgesOf
   pub encoding : Option EncodingFact
+  pub member : SaidOf
 
 abbrev pub crs_view : CrsFact → CrsOf
 crs_view f = record { from = f.from; crs = f.crs; crs_type = option_map string_bytes f.crs_type; against = f.against }
@@ -53,7 +55,7 @@ abbrev pub edges_view : EdgesFact → EdgesOf
 edges_view f = record { from = f.from; edges = string_bytes f.edges; against = f.against }
 
 abbrev pub facts_view : ColumnFacts → FactsOf
-facts_view f = record { crs = option_map crs_view f.crs; edges = option_map edges_view f.edges; encoding = f.encoding }
+facts_view f = record { crs = option_map crs_view f.crs; edges = option_map edges_view f.edges; encoding = f.encoding; member = member_facts_view f.member }
 
 -- ---- the CRS
 
@@ -193,7 +195,7 @@ encoding_fact version member c e = encoding_fact_of (encodings version member c 
 -- the facts of a column with a member of `geo`, or none, and what its element says, if it says something
 abbrev pub column_facts : Version → Option Json → ColumnTree → Option Element → FactsOf
 column_facts version member c e =
-    record { crs = crs_fact version member c e; edges = edges_fact version member c e; encoding = encoding_fact version member c e }
+    record { crs = crs_fact version member c e; edges = edges_fact version member c e; encoding = encoding_fact version member c e; member = member_facts version member }
 
 -- the JSON that a file has at the key `geo`; null where there is none
 abbrev pub json_at_geo : Source → Option Json

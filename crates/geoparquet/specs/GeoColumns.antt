@@ -4,6 +4,7 @@ use Rattle.std.specs.Borrow.{Bor}
 use Rattle.std.specs.BTreeMap.{BTreeMap, get_by}
 use Rattle.std.specs.Cmp.Lexicographic.{slice_cmp}
 use Rattle.std.specs.Ordering.{nat_cmp}
+use Rattle.std.specs.Str.{IsUtf8}
 use Rattle.std.specs.declared.alloc.Global.{Global}
 use Rattle.json.specs.Json.{Json}
 use Rattle.json.specs.Value.{value_view}
@@ -18,6 +19,7 @@ use Rattle.geoparquet.specs.Encodings.{IsEncodedAs}
 use Rattle.arrow_columns.specs.Names.{first_of}
 use Rattle.geoparquet.specs.Values.{at, text_of_value}
 use Rattle.geoparquet.specs.Extensions.{member_named, named_in, text_at, member_text, IsExtensionText}
+use Rattle.geoparquet.specs.Sources.{Source, unasked, missing, value}
 
 -- the column, of which the metadata have that member, takes that extension name by its encoding: it has none, no column before it has its name, and the rule
 -- `GeoEncoding` holds of the member and it
@@ -45,6 +47,16 @@ AreGeoColumnsFrom geo before _ _ = ⊥
 -- the columns of a file with these columns and the metadata `geo`
 abbrev pub AreGeoColumns : Text → List ColumnTree → List ColumnTree → Type 0
 AreGeoColumns geo cs ds = AreGeoColumnsFrom geo [] cs ds
+
+-- the columns of a file with those bytes at the key `geo`: by the text that they are, where they are UTF-8; elsewhere they are as they were
+abbrev pub AreValueColumns : Text → List ColumnTree → List ColumnTree → Type 0
+AreValueColumns bytes cs ds = (IsUtf8 bytes × AreGeoColumns bytes cs ds) ⊎ ((¬ IsUtf8 bytes) × (ds ≡ cs))
+
+-- the columns of a file that has that at the key `geo`: where it has nothing, they are as they were
+abbrev pub AreColumnsBy : Source → List ColumnTree → List ColumnTree → Type 0
+AreColumnsBy unasked cs ds = ds ≡ cs
+AreColumnsBy missing cs ds = ds ≡ cs
+AreColumnsBy (value bytes) cs ds = AreValueColumns bytes cs ds
 
 -- ---- for private contracts
 

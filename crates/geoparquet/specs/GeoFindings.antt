@@ -22,6 +22,7 @@ use Rattle.geoparquet.specs.CoveringAbsent.{covering_absent_findings}
 use Rattle.geoparquet.specs.Coverings.{covering_findings}
 use Rattle.geoparquet.specs.Contradictions.{layout_findings, types_contradict_findings, encodings_findings, encoding_contradicts_findings, edges_claims_findings, edges_contradict_findings}
 use Rattle.geoparquet.specs.Malformed.{malformed_findings}
+use Rattle.geoparquet.specs.RepeatedKeys.{repeated_findings}
 use Rattle.geoparquet.specs.CrsClaims.{crs_claims_findings, crs_contradicts_findings}
 use Rattle.geoparquet.specs.Undeclared.{undeclared_findings, no_metadata_findings}
 use Rattle.geoparquet.specs.Ordered.{are_some, columns_of, has_member}
@@ -30,6 +31,8 @@ use Rattle.geoparquet.specs.declared.code.GeoCode.{GeoCode}
 use Rattle.geoparquet.specs.declared.code.GeoCode.TheVariants.{NotJson, NotObject, Columns, ColumnMissing, ColumnRepeated, Member, PrimaryColumn}
 use Rattle.geoparquet.specs.declared.finding.Version.{Version}
 use Rattle.geoparquet.specs.declared.finding.Version.TheVariants.{V1_1}
+use Rattle.geoparquet.specs.declared.source.Unread.{Unread}
+use Rattle.geoparquet.specs.declared.source.Unread.TheVariants.{Unasked, Missing, NoUtf8, NoJson}
 
 -- ---- of all the metadata
 
@@ -150,9 +153,10 @@ object_findings cs xs j =
     ++ members_findings cs xs (version_of j) (columns_of j)
     ++ missing_findings xs j
 
--- of a value: of all of it, of each member of `columns` in the ascending order of keys, of columns that lack a member
+-- of a value: of keys that stand several times, of all of it, of each member of `columns` in the ascending order of keys, of columns that lack a member
 abbrev pub json_findings : List ColumnTree → List (ColumnTree × Option Element) → Json → List Finding
-json_findings cs xs j = if is_object j then object_findings cs xs j else found_at NotObject None [] (Some j) None ∷ []
+json_findings cs xs j =
+    if is_object j then repeated_findings j ++ object_findings cs xs j else found_at NotObject None [] (Some j) None ∷ []
 
 -- what is found of a JSON value; and of columns that have no member
 abbrev pub geo_findings : List ColumnTree → List (ColumnTree × Option Element) → Json → List Finding
@@ -185,6 +189,13 @@ abbrev pub AreGeoFindings : Source → List ColumnTree → List Element → Vers
 AreGeoFindings geo cs es version fs = AreSourceFindings geo cs (with_elements cs es) version fs
 
 -- ---- for private contracts
+
+-- what is found where there is no JSON, beside what is found of columns
+abbrev pub unread_findings : Unread → List (ColumnTree × Option Element) → List Finding
+unread_findings Unasked xs = []
+unread_findings Missing xs = no_metadata_findings xs
+unread_findings (NoUtf8 bytes) xs = unread_finding (spelled bytes.now) ∷ []
+unread_findings (NoJson text) xs = unread_finding text.now ∷ []
 
 abbrev pub AreRead : List (Text × Json) → Type 0
 AreRead [] = Unit {0}

@@ -22,6 +22,8 @@ pub mod Coverings
 pub mod CoveringAbsent
 pub mod Contradictions
 pub mod Malformed
+pub mod MemberFacts
+pub mod RepeatedKeys
 pub mod CrsClaims
 pub mod Counting
 pub mod FactSources

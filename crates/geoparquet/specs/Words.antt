@@ -3,7 +3,7 @@ use Rattle.std.specs.Prelude.{List, [], ◌∷◌, ◌++◌, codes, Option, None
 use Rattle.arrow_values.specs.Tree.{Text}
 use Rattle.geoparquet.specs.Nearest.{nearest}
 use Rattle.geoparquet.specs.declared.code.GeoCode.{GeoCode}
-use Rattle.geoparquet.specs.declared.code.GeoCode.TheVariants.{NoMetadata, NotJson, NotObject, Version, OldVersion, NewVersion, Columns, ColumnMissing, ColumnRepeated, Member, ColumnUndeclared, PrimaryColumn, Encoding, Layout, Types, TypesVersion, TypesContradict, Crs, CrsMalformed, Edges, Orientation, Epoch, Bbox, BboxOrder, BboxRange, BboxDimension, Covering, CoveringName, CoveringColumn, CoveringType, CoveringShape, CoveringAbsent, EncodingContradicts, CrsContradicts, CrsNotCompared, EdgesContradict, EdgesOnProjected}
+use Rattle.geoparquet.specs.declared.code.GeoCode.TheVariants.{NoMetadata, NotJson, NotObject, RepeatedKey, Version, OldVersion, NewVersion, Columns, ColumnMissing, ColumnRepeated, Member, ColumnUndeclared, PrimaryColumn, Encoding, Layout, Types, TypesVersion, TypesContradict, Crs, CrsMalformed, Edges, Orientation, Epoch, Bbox, BboxOrder, BboxRange, BboxDimension, Covering, CoveringName, CoveringColumn, CoveringType, CoveringShape, CoveringAbsent, EncodingContradicts, CrsContradicts, CrsNotCompared, EdgesContradict, EdgesOnProjected}
 use Rattle.geoparquet.specs.declared.finding.Version.{Version as GeoVersion}
 use Rattle.geoparquet.specs.declared.finding.Version.TheVariants as versions
 
@@ -12,6 +12,7 @@ abbrev pub rule_of : GeoCode → Text
 rule_of NoMetadata = codes "the file has columns of geometries, and no value at the key geo"
 rule_of NotJson = codes "the value of geo is absent, no UTF-8, or no JSON within 127 levels"
 rule_of NotObject = codes "the value of geo is JSON, and no object"
+rule_of RepeatedKey = codes "a key stands several times in an object"
 rule_of Version = codes "version is absent, no text, or no version of the format"
 rule_of OldVersion = codes "the version is before 1.0.0"
 rule_of NewVersion = codes "the version is a pre-release, or after 1.1.0"
@@ -69,6 +70,7 @@ abbrev pub expected_of : GeoVersion → GeoCode → Text
 expected_of version NoMetadata = codes "metadata of GeoParquet at the key geo"
 expected_of version NotJson = codes "JSON"
 expected_of version NotObject = codes "an object"
+expected_of version RepeatedKey = codes "one value of the key"
 expected_of version Version = codes "1.1.0"
 expected_of version OldVersion = codes "1.1.0"
 expected_of version NewVersion = codes "1.0.0 or 1.1.0"
@@ -113,6 +115,7 @@ judged_text versions.V2 = codes "The rules of version 2 are used, as far as they
 
 abbrev pub advice_of : GeoVersion → GeoCode → Option Text
 advice_of version NotJson = Some (codes "JSON has no NaN, no Infinity and no byte order mark; leave out a bbox that is not finite.")
+advice_of version RepeatedKey = Some (codes "The last counts here; other readers take the first.")
 advice_of version Version = Some (judged_text version)
 advice_of version OldVersion = Some (codes "Versions before 1.0.0 are judged in part; write the metadata anew.")
 advice_of version NewVersion = Some (judged_text version)

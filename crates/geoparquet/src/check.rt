@@ -10,8 +10,8 @@ ghost use Rattle.geoparquet.specs.Findings.{finding};
 ghost use Rattle.geoparquet.specs.Extensions.{IsJson};
 ghost use Rattle.geoparquet.specs.Ordered.{columns_of, members_entries};
 ghost use Rattle.geoparquet.specs.Versions.{version_of};
-ghost use Rattle.geoparquet.specs.GeoFindings.{columns_findings, is_primary, has_primary, primary_findings, members_findings, column_alone_findings, alone_findings, missing_findings, object_findings, json_findings, geo_findings, unread_finding, AreTextFindings, AreValueFindings, AreSourceFindings, AreGeoFindings, AreRead};
-ghost use Rattle.geoparquet.specs.Sources.{source, element_view, sourced, AreElements};
+ghost use Rattle.geoparquet.specs.GeoFindings.{columns_findings, is_primary, has_primary, primary_findings, members_findings, column_alone_findings, alone_findings, missing_findings, object_findings, json_findings, geo_findings, unread_finding, unread_findings, AreTextFindings, AreRead};
+ghost use Rattle.geoparquet.specs.Sources.{sourced, AreElements};
 ghost use Rattle.geoparquet.specs.Spelled.{spelled};
 ghost use Rattle.geoparquet.specs.Undeclared.{no_metadata_findings};
 ghost use Rattle.geoparquet.specs.declared.finding.Version.{Version};
@@ -23,68 +23,32 @@ use crate::covering_absent::first_box;
 use crate::finding::{GeoFinding, GeoReport, Version};
 use crate::ordered::{ByKey, are_some, has_member, members_in};
 use crate::place::shown;
-use crate::source::GeoSource;
-use crate::sources::{Sourced, Sources, with_elements};
+use crate::repeated_keys::add_repeated_keys;
+use crate::source::Unread;
+use crate::sources::{Sourced, Sources};
 use crate::spelled::spelled;
 use crate::undeclared::{add_no_metadata, add_undeclared};
 use crate::version::{add_version, version_of};
 use arrow_columns::{ColumnNames, SchemaColumn};
-use json::{Scratch, Value};
-use parquet_columns::ElementClaim;
+use json::Value;
 use std::alloc::{AllocError, Global};
 use std::collections::BTreeMap;
-use value_tokens::{Refusal, member_of, read_json};
+use value_tokens::member_of;
 
-/// Returns what is found of what a file with these columns has at the key `geo`, where `elements` are
-/// what its elements say beside its columns, in order (docs/FORMAT.md, 5): the version by which the
-/// metadata are judged, and a finding for each rule that is not kept, where it is not. Of a value that
-/// is no UTF-8 or no JSON, and of one that is no object, that is found, and what the element and the
-/// field of a column say of one fact. A column beyond those of `elements` has none. Where a key of an
-/// object is repeated, its last value counts. Errs only when out of memory.
-///
-/// Takes time that grows with the length of the value and the number of columns, times the logarithm
-/// of the number of members of `columns`; with the number of coverings times that of the children of
-/// their groups; and with the number of columns that hold geometries and have no member, times that of
-/// members.
-///
-/// ```rust
-/// let column = SchemaColumn {
-///     name: String::from_str(alloc, "geom")?,
-///     nullable: true,
-///     data_type: AnyType::Data(DataType::Binary),
-///     metadata: BTreeMap::new(alloc),
-/// };
-/// let columns = vec![in alloc; column]?;
-/// let geo = r#"{"version":"1.1.0","primary_column":"geom","columns":{"geom":{"encoding":"WKB","geometry_types":["Dot"]}}}"#;
-/// let report = check_geo(alloc, GeoSource::Value(geo.as_bytes()), columns.as_slice(), &[])?;
-/// assert_eq!(rt; report.findings.len(), 1);
-/// assert_eq!(rt; report.findings[0].pointer.as_str(), "/columns/geom/geometry_types/0");
-/// ```
-pub fn check_geo(
+/// Returns what is found where there is no JSON, and of columns. Errs only when out of memory.
+pub(crate) fn unread_report(
     alloc: Global,
-    geo: GeoSource<'_>,
-    columns: &[SchemaColumn],
-    elements: &[ElementClaim],
-) -> Result<GeoReport, AllocError>
-    ensures { IfOk result (λ report. AreGeoFindings (source geo.entry) (map column_tree columns.now) (map element_view elements.now) report.version (map finding report.findings.items)) }
-{
-    let all = with_elements(alloc, columns, elements)?;
-    source_report(alloc, geo, columns, all.as_slice())
-}
-
-/// Returns what is found of what a file has at the key `geo`. Errs only when out of memory.
-fn source_report(
-    alloc: Global,
-    geo: GeoSource<'_>,
-    columns: &[SchemaColumn],
+    unread: Unread<'_>,
     all: &[Sourced<'_>],
 ) -> Result<GeoReport, AllocError>
-    ensures { IfOk result (λ report. AreSourceFindings (source geo.entry) (map column_tree columns.now) (map sourced all.now) report.version (map finding report.findings.items)) }
+    ensures version { IfOk result (λ report. report.version ≡ Version.V1_1) }
+    ensures findings { IfOk result (λ report. map finding report.findings.items ≡ unread_findings unread.entry (map sourced all.now) ++ alone_findings [] (map sourced all.now)) }
 {
-    match geo {
-        GeoSource::Unasked => report_with(alloc, Vec::new(alloc), all),
-        GeoSource::Missing => missing_report(alloc, all),
-        GeoSource::Value(bytes) => value_report(alloc, bytes, columns, all),
+    match unread {
+        Unread::Unasked => report_with(alloc, Vec::new(alloc), all),
+        Unread::Missing => missing_report(alloc, all),
+        Unread::NoUtf8(bytes) => spelled_report(alloc, bytes, all),
+        Unread::NoJson(text) => not_json_report(alloc, text, all),
     }
 }
 
@@ -117,49 +81,17 @@ fn missing_report(alloc: Global, all: &[Sourced<'_>]) -> Result<GeoReport, Alloc
     report_with(alloc, findings, all)
 }
 
-/// Returns what is found of a value. Errs only when out of memory.
-fn value_report(
-    alloc: Global,
-    bytes: &[u8],
-    columns: &[SchemaColumn],
-    all: &[Sourced<'_>],
-) -> Result<GeoReport, AllocError>
-    ensures { IfOk result (λ report. AreValueFindings bytes.now (map column_tree columns.now) (map sourced all.now) report.version (map finding report.findings.items)) }
-{
-    match str::from_utf8(bytes) {
-        Ok(geo) => text_report(alloc, geo, columns, all),
-        Err(_) => spelled_report(alloc, bytes, all),
-    }
-}
-
 /// Returns what is found of a value that is no UTF-8. Errs only when out of memory.
 fn spelled_report(alloc: Global, bytes: &[u8], all: &[Sourced<'_>]) -> Result<GeoReport, AllocError>
-    ensures { IfOk result (λ report. (report.version ≡ Version.V1_1)
-        × (map finding report.findings.items ≡ unread_finding (spelled bytes.now) ∷ alone_findings [] (map sourced all.now))) }
+    ensures version { IfOk result (λ report. report.version ≡ Version.V1_1) }
+    ensures findings { IfOk result (λ report. map finding report.findings.items ≡ unread_finding (spelled bytes.now) ∷ alone_findings [] (map sourced all.now)) }
 {
     let text = spelled(alloc, bytes)?;
-    unread_report(alloc, text.as_str(), all)
-}
-
-/// Returns what is found of a text. Errs only when out of memory.
-fn text_report(
-    alloc: Global,
-    geo: &str,
-    columns: &[SchemaColumn],
-    all: &[Sourced<'_>],
-) -> Result<GeoReport, AllocError>
-    ensures { IfOk result (λ report. AreTextFindings geo.now (map column_tree columns.now) (map sourced all.now) report.version (map finding report.findings.items)) }
-{
-    let mut scratch = Scratch::new(alloc);
-    match read_json(alloc, geo, &mut scratch) {
-        Ok(value) => report_of(alloc, geo, &value, columns, all),
-        Err(Refusal::Text) => unread_report(alloc, geo, all),
-        Err(Refusal::Memory) => Err(AllocError),
-    }
+    not_json_report(alloc, text.as_str(), all)
 }
 
 /// Returns what is found of a value that is no JSON, as it is shown. Errs only when out of memory.
-fn unread_report(alloc: Global, text: &str, all: &[Sourced<'_>]) -> Result<GeoReport, AllocError>
+fn not_json_report(alloc: Global, text: &str, all: &[Sourced<'_>]) -> Result<GeoReport, AllocError>
     ensures version { IfOk result (λ report. report.version ≡ Version.V1_1) }
     ensures findings { IfOk result (λ report. map finding report.findings.items ≡ unread_finding text.now ∷ alone_findings [] (map sourced all.now)) }
 {
@@ -176,7 +108,7 @@ fn unread_report(alloc: Global, text: &str, all: &[Sourced<'_>]) -> Result<GeoRe
 }
 
 /// Returns what is found of the JSON value that a text is. Errs only when out of memory.
-fn report_of(
+pub(crate) fn report_of(
     alloc: Global,
     geo: &str,
     value: &Value<'_>,
@@ -226,6 +158,7 @@ fn add_json(
         ++ json_findings (map column_tree columns.now) (map sourced all.now) (value_view value.now)) }
 {
     if is_object(value) {
+        add_repeated_keys(alloc, findings, value)?;
         return add_object(alloc, findings, value, columns, all, members);
     }
     add_at(

@@ -5,8 +5,8 @@ ghost use Rattle.geoparquet.specs.Codes.{code_of, severity_of};
 use column_check::Severity;
 
 /// A rule that the metadata at the key `geo` do not keep (docs/FORMAT.md, 5). Those up to
-/// `PrimaryColumn` are of all the metadata, but for `Member` and `ColumnUndeclared`; the others of
-/// one column.
+/// `PrimaryColumn` are of all the metadata, but for `Member` and `ColumnUndeclared`, and for
+/// `RepeatedKey` at or below a member of `columns`; the others of one column.
 #[derive(Clone, Copy, Debug, PartialEq, Eq)]
 pub enum GeoCode {
     /// There is no value at the key `geo`, and a column holds geometries by its field alone.
@@ -15,6 +15,8 @@ pub enum GeoCode {
     NotJson,
     /// It is JSON, and no object.
     NotObject,
+    /// A key stands several times in an object.
+    RepeatedKey,
     /// `version` is absent, no text, or no version of the format.
     Version,
     /// The version is one before 1.0.0.
@@ -99,6 +101,7 @@ impl GeoCode {
             Self::NoMetadata => "NoGeoMetadata",
             Self::NotJson => "GeoNotJson",
             Self::NotObject => "GeoNotObject",
+            Self::RepeatedKey => "RepeatedKey",
             Self::Version => "GeoVersion",
             Self::OldVersion => "GeoOldVersion",
             Self::NewVersion => "GeoNewVersion",
@@ -142,6 +145,7 @@ impl GeoCode {
     {
         match self {
             Self::NoMetadata
+            | Self::RepeatedKey
             | Self::OldVersion
             | Self::ColumnUndeclared
             | Self::BboxRange

@@ -88,7 +88,10 @@ fn own_type<'a>(found: Option<&Value<'a>>) -> Option<&'a str>
 }
 
 /// Returns the text of a value, if there is one. Errs only when out of memory.
-fn json_text(alloc: Global, value: Option<&Value<'_>>) -> Result<Option<JsonText>, AllocError>
+pub(crate) fn json_text(
+    alloc: Global,
+    value: Option<&Value<'_>>,
+) -> Result<Option<JsonText>, AllocError>
     requires { IfSome value (λ v. IsReadable (value_view v.now)) }
     ensures { IfOk result (λ made. made ≡ option_map (λ v. value_view v.now) value.entry) }
 {

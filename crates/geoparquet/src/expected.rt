@@ -69,6 +69,7 @@ impl GeoCode {
             Self::NoMetadata => "metadata of GeoParquet at the key geo",
             Self::NotJson => "JSON",
             Self::NotObject => "an object",
+            Self::RepeatedKey => "one value of the key",
             Self::Version => "1.1.0",
             Self::OldVersion => "1.1.0",
             Self::NewVersion => "1.0.0 or 1.1.0",

@@ -4,7 +4,7 @@ ghost use Rattle.json.specs.Find.{get, get_member};
 ghost use Rattle.json.specs.Value.{members_view, value_view};
 ghost use Rattle.arrow_columns.specs.Column.{column_tree};
 ghost use Rattle.arrow_values.specs.Tree.{Text};
-ghost use Rattle.geoparquet.specs.Extensions.{IsRead, text_at};
+ghost use Rattle.geoparquet.specs.Extensions.{IsJson, IsRead, text_at};
 ghost use Rattle.geoparquet.specs.GeoColumns.{AreGeoColumns, IsGeoColumnOf, IsNameFor, value_in};
 ghost use Rattle.value_tokens.specs.Values.{IsReadable};
 
@@ -12,50 +12,24 @@ use crate::encoding::encoded_as;
 use crate::extension::{extension_text, text_at};
 use arrow_columns::{SchemaColumn, with_extension};
 use geoarrow_layout::ExtensionName;
-use json::{Scratch, Value};
+use json::Value;
 use std::alloc::{AllocError, Global};
 use std::collections::BTreeMap;
-use value_tokens::{Refusal, member_of, read_json};
+use value_tokens::member_of;
 
-/// Returns the columns of a Parquet file whose metadata at the key `geo` are that text (GeoParquet
-/// 1.1, "Column metadata"; docs/FORMAT.md, 5.2). A column that has no extension name, that is the
-/// first of its name, and has by [`encoded_as`](crate::encoded_as) the extension name of the encoding
-/// that its member of `columns` says, has that name, and as its extension metadata the CRS and the
-/// edges of that member: a CRS that is absent is `OGC:CRS84`, and PROJJSON keeps its tokens, so each
-/// number stays as it is written, and each key in its place. All else, every other column and the
-/// order are as they were. A text that is no JSON object changes nothing. Errs only when out of
-/// memory.
-///
-/// Takes time that grows with the length of the text and the number of columns, times the logarithm
-/// of the number of members of `columns`.
-///
-/// ```rust
-/// let column = SchemaColumn {
-///     name: String::from_str(alloc, "geom")?,
-///     nullable: true,
-///     data_type: AnyType::Data(DataType::Binary),
-///     metadata: BTreeMap::new(alloc),
-/// };
-/// let geo = r#"{"columns":{"geom":{"encoding":"WKB","crs":{"epoch": 2010.50}}}}"#;
-/// let columns = geo_columns(alloc, geo, vec![in alloc; column]?)?;
-/// assert_eq!(rt; columns[0].extension_type_name(), Some("geoarrow.wkb"));
-/// let text = r#"{"crs":{"epoch":2010.50},"crs_type":"projjson"}"#;
-/// assert_eq!(rt; columns[0].extension_type_metadata(), Some(text));
-/// ```
-pub fn geo_columns(
+/// Returns the columns of a file whose metadata at the key `geo` are that text, which is that JSON.
+/// Errs only when out of memory.
+pub(crate) fn geo_columns(
     alloc: Global,
     geo: &str,
+    value: &Value<'_>,
     columns: Vec<SchemaColumn>,
 ) -> Result<Vec<SchemaColumn>, AllocError>
+    requires is { IsJson geo.now (value_view value.now) }
+    requires read { IsRead (value_view value.now) }
     ensures { IfOk result (λ made. AreGeoColumns geo.now (map column_tree columns.items) (map column_tree made.items)) }
 {
-    let mut scratch = Scratch::new(alloc);
-    let value = match read_json(alloc, geo, &mut scratch) {
-        Ok(value) => value,
-        Err(Refusal::Text) => return Ok(columns),
-        Err(Refusal::Memory) => return Err(AllocError),
-    };
-    let mut members = members_of(alloc, member_of(&value, "columns"))?;
+    let mut members = members_of(alloc, member_of(value, "columns"))?;
     let mut made = Vec::new(alloc);
     for column in columns {
         let member = members.remove(column.name.as_str());

@@ -36,6 +36,7 @@ impl GeoCode {
                 "JSON has no NaN, no Infinity and no byte order mark; leave out a bbox that is \
                  not finite.",
             ),
+            Self::RepeatedKey => Some("The last counts here; other readers take the first."),
             Self::Version => Some(judged_text(version)),
             Self::OldVersion => Some(
                 "Versions before 1.0.0 are judged in part; write the metadata anew.",

@@ -199,7 +199,7 @@ fn is_algorithm(text: &str) -> bool
 }
 
 /// Whether `orientation` is absent, or the one text.
-fn is_orientation_value(found: Option<&Value<'_>>) -> bool
+pub(crate) fn is_orientation_value(found: Option<&Value<'_>>) -> bool
     ensures { result ≡ is_orientation_value (option_map (λ v. value_view v.now) found.entry) }
 {
     match found {
@@ -210,7 +210,7 @@ fn is_orientation_value(found: Option<&Value<'_>>) -> bool
 }
 
 /// Whether `epoch` is absent, or a number.
-fn is_epoch_value(found: Option<&Value<'_>>) -> bool
+pub(crate) fn is_epoch_value(found: Option<&Value<'_>>) -> bool
     ensures { result ≡ is_epoch_value (option_map (λ v. value_view v.now) found.entry) }
 {
     matches!(found, None | Some(Value::Number(_)))

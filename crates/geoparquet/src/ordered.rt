@@ -30,7 +30,7 @@ pub(crate) fn members_in<'v, 'a>(
 }
 
 /// Returns members by their keys. Errs only when out of memory.
-fn ordered_members<'v, 'a>(
+pub(crate) fn ordered_members<'v, 'a>(
     alloc: Global,
     members: &'v [(&'a str, Value<'a>)],
 ) -> Result<ByKey<'v, 'a>, AllocError>

@@ -127,8 +127,8 @@ fn first_of(alloc: Global, text: &str) -> Result<String, AllocError>
     text.chars().take(SHOWN).collect(alloc)
 }
 
-/// A copy of a text that may be missing.
-fn copied(alloc: Global, text: Option<&str>) -> Result<Option<String>, AllocError>
+/// Returns a copy of a text that may be missing. Errs only when out of memory.
+pub(crate) fn copied(alloc: Global, text: Option<&str>) -> Result<Option<String>, AllocError>
     ensures { IfOk result (λ copy. option_map string_bytes copy ≡ text_of text.entry) }
 {
     match text {

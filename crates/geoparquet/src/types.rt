@@ -199,7 +199,7 @@ fn add_found_types(
 
 /// Adds what is found of the items of `geometry_types`, which stands at that place, each by those
 /// before it.
-fn add_items(
+pub(crate) fn add_items(
     alloc: Global,
     findings: &mut Vec<GeoFinding>,
     key: &str,

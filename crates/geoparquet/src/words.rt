@@ -6,10 +6,11 @@ use crate::code::GeoCode;
 
 impl GeoCode {
     /// Each code, in the order of docs/FORMAT.md, 5.
-    pub const ALL: [GeoCode; 37] = [
+    pub const ALL: [GeoCode; 38] = [
         GeoCode::NoMetadata,
         GeoCode::NotJson,
         GeoCode::NotObject,
+        GeoCode::RepeatedKey,
         GeoCode::Version,
         GeoCode::OldVersion,
         GeoCode::NewVersion,
@@ -58,6 +59,7 @@ impl GeoCode {
             Self::NoMetadata => "the file has columns of geometries, and no value at the key geo",
             Self::NotJson => "the value of geo is absent, no UTF-8, or no JSON within 127 levels",
             Self::NotObject => "the value of geo is JSON, and no object",
+            Self::RepeatedKey => "a key stands several times in an object",
             Self::Version => "version is absent, no text, or no version of the format",
             Self::OldVersion => "the version is before 1.0.0",
             Self::NewVersion => "the version is a pre-release, or after 1.1.0",

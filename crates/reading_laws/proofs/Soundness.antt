@@ -22,6 +22,7 @@ use Rattle.geoparquet.specs.Findings.{Finding}
 use Rattle.geoparquet.specs.Spelled.{spelled}
 use Rattle.geoparquet.specs.GeoFindings.{columns_findings, primary_findings, has_primary, key_finding, key_findings, storage_findings, fact_findings, box_findings, covered_findings, claim_findings, part_findings, own_findings, value_findings, member_findings, members_findings, column_alone_findings, alone_findings, missing_findings, object_findings, json_findings, geo_findings, unread_finding, AreTextFindings, AreSourceFindings}
 use Rattle.geoparquet.specs.Ordered.{are_some, columns_of, has_member}
+use Rattle.geoparquet.specs.RepeatedKeys.{repeated_findings}
 use Rattle.geoparquet.specs.Pairs.{first_pair, differ, of_element, of_field, pair_findings, text_findings}
 use Rattle.geoparquet.specs.Rules.{unless, found_at, part_place}
 use Rattle.geoparquet.specs.Sources.{Source, unasked, missing, value, Element, element_named, with_elements}
@@ -233,8 +234,8 @@ module _ (cs : List ColumnTree) (xs : List (ColumnTree × Option Element)) where
   sound_json text j json h =
       let alone = behind (json_findings cs xs j) (alone_findings (columns_of j) xs) h in
       let of_json = before (json_findings cs xs j) (alone_findings (columns_of j) xs) h in
-      let object = chosen (is_object j) (object_findings cs xs j) (found_at NotObject None [] (Some j) None) [] refl of_json in
-      sound_object text j json object.0 object.1 alone
+      let object = chosen (is_object j) (repeated_findings j ++ object_findings cs xs j) (found_at NotObject None [] (Some j) None) [] refl of_json in
+      sound_object text j json object.0 (behind (repeated_findings j) (object_findings cs xs j) object.1) alone
 
   sound_text : (text : Text) (version : Version) (fs : List Finding) → AreTextFindings text cs xs version fs → HasNoError fs
       → (j : Json) × IsSoundText text cs xs version j

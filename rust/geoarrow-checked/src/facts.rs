@@ -1,6 +1,6 @@
 //! What counts of a column and its sources, as its line says it.
 use crate::error::Error;
-use crate::members::{members, Value};
+use crate::members::{items, members, Value};
 use std::fmt::{self, Display, Formatter};
 
 /// A source of what is said of a column (docs/FORMAT.md, 5).
@@ -85,6 +85,14 @@ pub struct Facts {
     pub edges_from: Option<Source>,
     /// The source of the encoding, where one says it.
     pub type_from: Option<Source>,
+    /// The box that the GeoParquet metadata say, as JSON.
+    pub bbox: Option<String>,
+    /// The epoch that they say, as JSON.
+    pub epoch: Option<String>,
+    /// The geometry types that they say.
+    pub geometry_types: Vec<String>,
+    /// The orientation of rings that they say.
+    pub orientation: Option<String>,
     /// What the other sources say: of `crs`, `edges` or `encoding`, the source, and its verdict.
     pub verdicts: Vec<(String, Source, Verdict)>,
 }
@@ -100,14 +108,30 @@ impl Facts {
                 ("edges", Value::Text(text)) => facts.edges = Some(text),
                 ("edges_from", Value::Text(word)) => facts.edges_from = Some(Source::of(&word)?),
                 ("type_from", Value::Text(word)) => facts.type_from = Some(Source::of(&word)?),
+                ("bbox", Value::Array(text)) => facts.bbox = Some(text.to_owned()),
+                ("epoch", Value::Number(whole)) => facts.epoch = Some(whole.to_string()),
+                ("epoch", Value::Other(text)) => facts.epoch = Some(text.to_owned()),
+                ("geometry_types", Value::Array(array)) => facts.geometry_types = texts(array)?,
+                ("orientation", Value::Text(text)) => facts.orientation = Some(text),
                 ("verdicts", Value::Other(object)) => facts.verdicts = verdicts(object)?,
                 ("crs_from" | "crs_type" | "edges" | "edges_from" | "type_from", _) => return None,
-                ("verdicts", _) => return None,
+                ("bbox" | "epoch" | "geometry_types" | "orientation" | "verdicts", _) => {
+                    return None
+                }
                 _ => {}
             }
         }
         Some(facts)
     }
+}
+
+/// The texts of an array of texts.
+fn texts(array: &str) -> Option<Vec<String>> {
+    let text = |item| match item {
+        Value::Text(text) => Some(text),
+        _ => None,
+    };
+    items(array)?.into_iter().map(text).collect()
 }
 
 /// The verdicts of an object of objects.
@@ -156,7 +180,7 @@ mod tests {
 
     #[test]
     fn each_part_of_a_line() {
-        let line = r#"{"column":"g","crs":null,"crs_from":"geo","edges":"spherical","edges_from":"element","index":0,"state":"geometry","type":"wkb - -","type_from":"field","verdicts":{"crs":{"element":"not compared","field":"contradict"},"encoding":{"geo":"agree"}}}"#;
+        let line = r#"{"column":"g","bbox":[1,2.5],"crs":null,"crs_from":"geo","edges":"spherical","edges_from":"element","epoch":2020.5,"geometry_types":["Point","Polygon Z"],"index":0,"orientation":"counterclockwise","state":"geometry","type":"wkb - -","type_from":"field","verdicts":{"crs":{"element":"not compared","field":"contradict"},"encoding":{"geo":"agree"}}}"#;
         let verdicts = vec![
             ("crs".to_owned(), Source::Element, Verdict::NotCompared),
             ("crs".to_owned(), Source::Field, Verdict::Contradict),
@@ -169,6 +193,10 @@ mod tests {
             edges: Some("spherical".to_owned()),
             edges_from: Some(Source::Element),
             type_from: Some(Source::Field),
+            bbox: Some("[1,2.5]".to_owned()),
+            epoch: Some("2020.5".to_owned()),
+            geometry_types: vec!["Point".to_owned(), "Polygon Z".to_owned()],
+            orientation: Some("counterclockwise".to_owned()),
             verdicts,
         };
         assert_eq!(column_facts(line).unwrap(), wanted);
@@ -183,6 +211,10 @@ mod tests {
             "{}",
             r#"{"column":"g","crs_from":"elements"}"#,
             r#"{"column":"g","edges":1}"#,
+            r#"{"column":"g","bbox":1}"#,
+            r#"{"column":"g","epoch":"2020"}"#,
+            r#"{"column":"g","geometry_types":["Point",1]}"#,
+            r#"{"column":"g","orientation":[]}"#,
             r#"{"column":"g","verdicts":{"crs":{"geo":"yes"}}}"#,
             r#"{"column":"g","verdicts":[]}"#,
         ] {

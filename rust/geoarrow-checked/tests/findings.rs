@@ -89,7 +89,17 @@ fn members_of(facts: &Facts) -> Vec<(&'static str, Option<String>)> {
             verdicts += &format!("{comma}\"{fact}\":{{{}}}", said.join(","));
         }
     }
+    let types: Vec<_> = facts
+        .geometry_types
+        .iter()
+        .map(|it| format!("\"{it}\""))
+        .collect();
+    let types = (!types.is_empty()).then(|| format!("[{}]", types.join(",")));
     vec![
+        ("bbox", facts.bbox.clone()),
+        ("epoch", facts.epoch.clone()),
+        ("geometry_types", types),
+        ("orientation", text(facts.orientation.as_deref())),
         ("crs_from", word(facts.crs_from)),
         ("crs_type", text(facts.crs_type.as_deref())),
         ("edges", text(facts.edges.as_deref())),
