@@ -67,6 +67,9 @@ uint8_t geoarrow_run(uint8_t command, const uint8_t *input, size_t input_len, ui
  * each finding beside the columns, in the footer of a Parquet file, in the schema that it stores and in GeoParquet metadata; each with
  * a line feed behind it. Where the file is refused, the line that says why (2.8).
  *
+ * Of a file of lines, a line that is no column has a line with `error` behind the columns, as that of a refused file, and all other lines are
+ * columns: the status is DONE. At most 100 of them are told; the last says at `more` how many more there are, if there are any.
+ *
  * A finding is an object, a line of its own, or of a column an item of the array `findings` of its line, those first that say why it is invalid. Its
  * keys, in this order, of which those that do not apply are left out (5.1): `severity`, that is `error`, `warning` or `note`, and
  * `code`; `file`; the place, that is `column`, `path`, an array of the names of child fields, `in`, the part of the file, `pointer`, a

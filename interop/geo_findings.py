@@ -470,12 +470,23 @@ def metadata_in(text):
     return value if isinstance(value, Members) else None
 
 
-def crs_in(metadata):
-    """The CRS that extension metadata say, if they do: its value, and whether it is one of a database."""
+def is_broken(value, crs_type):
+    """Whether a CRS of extension metadata is an object that is no PROJJSON, or should be one and is such a text."""
+    if isinstance(value, str) and crs_type == "projjson":
+        try:
+            value = read(value)
+        except NotJson:
+            return False
+    return isinstance(value, Members) and bool(geo_crs.malformed(value))
+
+
+def crs_in(metadata, default=None):
+    """The CRS that extension metadata say: its value, and whether it is one of a database; the default where they say none, and nothing where it is broken."""
     value = metadata.get("crs") if metadata else ABSENT
     if value in (ABSENT, None, ""):
-        return None
-    return geo_crs.Claim(value, metadata.get("crs_type") == "srid")
+        return default
+    crs_type = metadata.get("crs_type")
+    return None if is_broken(value, crs_type) else geo_crs.Claim(value, crs_type == "srid")
 
 
 def edges_in(metadata):
@@ -496,9 +507,9 @@ def claims_of(column, element):
     if element is SILENT:
         return NOTHING, field
     if isinstance(element, Given):
-        return Claims("WKB", (crs_in(metadata) if element.names_crs else None) or DEFAULT_CRS, edges), NOTHING
+        return Claims("WKB", crs_in(metadata, DEFAULT_CRS) if element.names_crs else DEFAULT_CRS, edges), NOTHING
     beside = metadata_in(element.metadata)
-    return Claims("WKB", crs_in(beside) or DEFAULT_CRS, edges_in(beside)), field
+    return Claims("WKB", crs_in(beside, DEFAULT_CRS), edges_in(beside)), field
 
 
 # The facts on which sources may not agree, in the order of the codes of each verdict.

@@ -18,7 +18,7 @@ Several files, each under its name; a CRS by its code, its name or its text; an 
 
   $ cat > "$TMPDIR/one" << 'END'
   > {"metadata":{"ARROW:extension:metadata":"{\"crs\":{\"type\":\"GeographicCRS\",\"name\":\"WGS 84\",\"scale\":0.5}}","ARROW:extension:name":"geoarrow.wkb"},"name":"named","nullable":true,"type":"binary"}
-  > {"metadata":{"ARROW:extension:metadata":"{\"crs\":{\"id\":{\"authority\":\"OGC\",\"code\":\"CRS84\"}}}","ARROW:extension:name":"geoarrow.wkb"},"name":"code","nullable":true,"type":"binary"}
+  > {"metadata":{"ARROW:extension:metadata":"{\"crs\":{\"type\":\"GeographicCRS\",\"name\":\"x\",\"id\":{\"authority\":\"OGC\",\"code\":\"CRS84\"}}}","ARROW:extension:name":"geoarrow.wkb"},"name":"code","nullable":true,"type":"binary"}
   > {"metadata":{"ARROW:extension:metadata":"{\"crs\":\"0123456789012345678901234567890123456789x\"}","ARROW:extension:name":"geoarrow.wkb"},"name":"long","nullable":true,"type":"binary"}
   > {"metadata":{"ARROW:extension:metadata":"{\"crs\":4326.5}","ARROW:extension:name":"geoarrow.wkb"},"name":"number","nullable":true,"type":"binary"}
   > {"metadata":{"ARROW:extension:name":"arrow.bool8"},"name":"flag\u001b[1m","nullable":true,"type":"int8"}
@@ -30,7 +30,6 @@ Several files, each under its name; a CRS by its code, its name or its text; an 
   column    holds                        CRS                                       edges
   named     wkb - -                      WGS 84                                    planar
   code      wkb - -                      OGC:CRS84                                 planar
-      error[CrsMalformed] extension metadata /crs/type: expected PROJJSON. projinfo -o PROJJSON prints it, as of EPSG:4326.
   long      wkb - -                      01234567890123456789012345678901234567..  planar
       warning[CrsWithoutType] extension metadata /crs: found "0123456789012345678901234567890123456789x"; expected PROJJSON, WKT, a code as EPSG:4326, or a crs_type
   number    wkb - -                      a CRS                                     planar
@@ -212,8 +211,9 @@ A blank line is passed over, wherever it stands, and counts as a line
   {"column":"a","index":0,"state":"plain","type":"null"}
   {"column":"b","index":1,"state":"plain","type":"null"}
 
-  $ printf '{"name":"a","nullable":true,"type":"null"}\n\n \r\n[]\n' | geoarrow_check --json -
+  $ printf '{"name":"a","nullable":true,"type":"null"}\n\n \r\n[]\n{"name":"b","nullable":true,"type":"null"}\n' | geoarrow_check --json -
   {"column":"a","index":0,"state":"plain","type":"null"}
+  {"column":"b","index":1,"state":"plain","type":"null"}
   {"error":"LineNotObject","line":4,"message":"is JSON, but no object","place":"line 4"}
   -: line 4: is JSON, but no object
   [2]
@@ -231,12 +231,12 @@ What is said with notes alone: a number in a CRS that is not whole
       warning[MetadataEmpty] extension metadata: found ""; expected no metadata, or {}. It is read as no metadata.
   column  holds    CRS        edges
   g       wkb - -  EPSG:4326  planar
-      note[CrsNotWhole] extension metadata /crs: expected whole numbers. For this alone read and canon of geoarrow_fields refuse the field; other readers do not.
+      note[CrsNotWhole] extension metadata /crs/scale: found 0.5; expected whole numbers. For this alone read and canon of geoarrow_fields refuse the field; other readers do not.
   e       wkb - -             planar
       warning[MetadataEmpty] extension metadata: found ""; expected no metadata, or {}. It is read as no metadata.
   {"column":"g","crs":{"type":"GeographicCRS","name":"WGS 84","id":{"authority":"EPSG","code":4326},"scale":0.5},"crs_from":"field","edges":"planar","edges_from":"field","extension":"geoarrow.wkb","index":0,"state":"geometry","type":"wkb - -","type_from":"field"}
   {"column":"e","edges":"planar","extension":"geoarrow.wkb","findings":[{"severity":"warning","code":"MetadataEmpty","in":"extension metadata","pointer":"","found":"\"\"","expected":"no metadata, or {}","help":"It is read as no metadata."}],"index":1,"state":"geometry","type":"wkb - -","type_from":"field"}
-  {"column":"g","crs":{"type":"GeographicCRS","name":"WGS 84","id":{"authority":"EPSG","code":4326},"scale":0.5},"crs_from":"field","edges":"planar","edges_from":"field","extension":"geoarrow.wkb","findings":[{"severity":"note","code":"CrsNotWhole","in":"extension metadata","pointer":"/crs","expected":"whole numbers","help":"For this alone read and canon of geoarrow_fields refuse the field; other readers do not."}],"index":0,"state":"geometry","type":"wkb - -","type_from":"field"}
+  {"column":"g","crs":{"type":"GeographicCRS","name":"WGS 84","id":{"authority":"EPSG","code":4326},"scale":0.5},"crs_from":"field","edges":"planar","edges_from":"field","extension":"geoarrow.wkb","findings":[{"severity":"note","code":"CrsNotWhole","in":"extension metadata","pointer":"/crs/scale","found":"0.5","expected":"whole numbers","help":"For this alone read and canon of geoarrow_fields refuse the field; other readers do not."}],"index":0,"state":"geometry","type":"wkb - -","type_from":"field"}
   {"column":"e","edges":"planar","extension":"geoarrow.wkb","findings":[{"severity":"warning","code":"MetadataEmpty","in":"extension metadata","pointer":"","found":"\"\"","expected":"no metadata, or {}","help":"It is read as no metadata."}],"index":1,"state":"geometry","type":"wkb - -","type_from":"field"}
 
 Names of files that would control a terminal, or stand on two lines: above a table, and in all that is said
@@ -254,6 +254,7 @@ Names of files that would control a terminal, or stand on two lines: above a tab
   a?b?[1m: column a holds no geometries
   a?b?[1m: no column of geometries
   a?b?[1m: column 0: a type that no message can hold
+  column  holds  CRS  edges
   a?b?[1m: line 1: is JSON, but no field: "name" is no text
   a?b?[1m.parquet: No such file or directory (os error 2)
   error: 'a?b?[1m' is no COLUMN=WANT
@@ -317,7 +318,7 @@ Files that cannot be read: the next one is read all the same
   {"column":"a","file":"../crates/geoarrow_check/data/stream.arrows","index":0,"state":"plain","type":"int64"}
   [2]
 
-What stands before a line that is refused is printed, but for a table and a stream
+Lines that are no columns are told behind those that are, and no stream is written; what is expected is asked of the columns
 
   $ for words in --json --lines --quiet --infer --ipc
   > do
@@ -326,18 +327,70 @@ What stands before a line that is refused is printed, but for a table and a stre
   {"column":"a","index":0,"state":"plain","type":"null"}
   {"error":"LineNotObject","line":2,"message":"is JSON, but no object","place":"line 2"}
   -: line 2: is JSON, but no object
+  -: no column b
+  -: no column of geometries
   {"name":"a","nullable":true,"type":"null"}
   -: line 2: is JSON, but no object
+  -: no column b
+  -: no column of geometries
   -: line 2: is JSON, but no object
+  -: no column b
+  -: no column of geometries
+  column  holds  CRS  edges
+  a       null
   -: line 2: is JSON, but no object
+  -: no column b
+  -: no column of geometries
   -: line 2: is JSON, but no object
+  -: no column b
+  -: no column of geometries
   [2]
 
-Why a line is refused
+At most a hundred are told, with how many more there are; a line that is too long ends the reading
+
+  $ (cat point.jsonl; yes 1 | head -n 101) | geoarrow_check --json - 2>&1 | sed -n '2p;101,102p;201,$p'
+  {"error":"LineNotObject","line":2,"message":"is JSON, but no object","place":"line 2"}
+  {"error":"LineNotObject","line":101,"message":"is JSON, but no object","more":1,"place":"line 101"}
+  -: line 2: is JSON, but no object
+  -: line 101: is JSON, but no object
+  -: 1 more line is no column
+
+  $ (cat point.jsonl; printf '{}\n%*s\n{}\n' 1048577 '') | geoarrow_check --quiet -
+  -: line 2: is JSON, but no field: "name" is no text
+  -: line 3: has more than 1048576 bytes
+  [2]
+
+Lines none of which is a column; and GeoJSON, or `{` alone, which refuse the file on the first line that is not blank alone
+
+  $ printf '{}\n\n1\n' | geoarrow_check --json -
+  {"error":"LineName","line":1,"message":"is JSON, but no field: \"name\" is no text","place":"line 1"}
+  {"error":"LineNotObject","line":3,"message":"is JSON, but no object","place":"line 3"}
+  -: line 1: is JSON, but no field: "name" is no text
+  -: line 3: is JSON, but no object
+  [2]
+
+  $ for first in '{"type":"Feature"}' '{'
+  > do
+  >     (printf '\n%s\n' "$first"; cat point.jsonl) | geoarrow_check --quiet -
+  >     (cat point.jsonl; printf '\n%s\n' "$first"; cat point.jsonl) | geoarrow_check -
+  > done
+  -: line 2: is of a format that is not read: GeoJSON. Try ogr2ogr out.parquet FILE
+  column    holds               CRS  edges
+  geometry  point separated XY       planar
+  geometry  point separated XY       planar
+  -: line 3: is of a format that is not read: GeoJSON. Try ogr2ogr out.parquet FILE
+  -: line 2, byte 1: is no JSON, or nests more than 127 levels. One object on each line: try jq -c . FILE
+  column    holds               CRS  edges
+  geometry  point separated XY       planar
+  geometry  point separated XY       planar
+  -: line 3, byte 1: is no JSON, or nests more than 127 levels. One object on each line: try jq -c . FILE
+  [2]
+
+Why a line is no column
 
   $ for line in '{"name":"a" "nullable":true}' '{' '{"nullable":true,"type":"null"}' '{"name":"a","type":"null"}' '{"metadata":{"a":1},"name":"a","nullable":true,"type":"null"}' '{"name":"a","nullable":true,"type":"time"}' '{"name":"a","nullable":true,"type":{"other":"time","size":1}}'
   > do
-  >     printf '{"name":"a","nullable":true,"type":"null"}\n%s\n' "$line" | geoarrow_check -
+  >     printf '{"name":"a","nullable":true,"type":"null"}\n%s\n' "$line" | geoarrow_check --quiet -
   > done
   -: line 2, byte 13: is no JSON, or nests more than 127 levels
   -: line 2, byte 1: is no JSON, or nests more than 127 levels. One object on each line: try jq -c . FILE
@@ -348,7 +401,7 @@ Why a line is refused
   -: line 2: is JSON, but no field: "type" is unknown
   [2]
 
-  $ printf '{"\377\n' | geoarrow_check -
+  $ printf '{"\377\n' | geoarrow_check --quiet -
   -: line 1, byte 3: is no UTF-8
   [2]
 
@@ -496,8 +549,8 @@ The status by what is found, notes too, of the files of a row each: how many, th
   >     geoarrow_check --quiet file
   >     echo $?
   > done | LC_ALL=C sort | uniq -c
-       52 0
-        1 1
+       55 0
+        2 1
         4 ArrowSchemaContradicts 1
         1 ArrowSchemaContradicts CrsContradicts 1
         2 ArrowSchemaContradicts GeoLayout 1
@@ -507,7 +560,7 @@ The status by what is found, notes too, of the files of a row each: how many, th
         1 ArrowSchemaNames GeoNotInFooter 0
         1 ArrowSchemaNames NameNotText 1
         2 ArrowSchemaUnreadable 1
-       14 CrsContradicts 1
+       13 CrsContradicts 1
         1 CrsContradicts GeoCrs 1
         1 CrsContradicts GeoOldVersion 1
         4 CrsKeyMissing 1
@@ -527,6 +580,7 @@ The status by what is found, notes too, of the files of a row each: how many, th
         1 GeoColumnMissing GeoMember 1
         1 GeoColumnMissing NameNotText 1
         1 GeoColumnRepeated 1
+        1 GeoColumnUndeclared RepeatedKey 0
         1 GeoCoveringColumn 1
         3 GeoCoveringName 1
         2 GeoCoveringShape 0
@@ -542,7 +596,8 @@ The status by what is found, notes too, of the files of a row each: how many, th
         1 GeoNotInFooter NoGeoMetadata 0
         9 GeoNotJson 1
         1 GeoNotObject 1
-        3 GeoOldVersion 0
+        5 GeoOldVersion 0
+        1 GeoOldVersion 1
         1 GeoTypes 1
         1 GeoTypesVersion 1
         1 GeoVersion 1
@@ -550,7 +605,7 @@ The status by what is found, notes too, of the files of a row each: how many, th
         3 LogicalTypeInvalid 1
         1 NestedGeometry 0
         5 NoGeoMetadata 0
-        6 RepeatedKey 0
+       21 RepeatedKey 0
         1 TypesContradict 1
         1 UnknownAlgorithm 0
 
@@ -686,7 +741,7 @@ The codes of findings, without a file: those of the tables of docs/FORMAT.md, in
   expected: UTF-8
   help: It is passed over.
   docs/FORMAT.md, 4.3
-  warning[RepeatedKey]: geo or ARROW:schema stands several times with a value
+  warning[RepeatedKey]: geo, ARROW:schema or an extension key of a field stands several times with a value
   expected: one value of the key
   help: The last counts here; other readers take the first.
   docs/FORMAT.md, 4.5

@@ -13,13 +13,13 @@ from typing import Any, Iterable, Union
 
 from . import library, sources
 from .c_schema import SchemaError
-from .columns import Column, Columns, Finding, columns_of
+from .columns import BadLine, Column, Columns, Finding, columns_of
 from .library import Command
 from .refusals import InvalidColumns, RefusedSource, moved
 from .schema_lines import Schema, lines
 
 __all__ = [
-    "Column", "Columns", "Finding", "InvalidColumns", "RefusedSource", "Schema", "SchemaError", "canon", "check", "lines", "read", "write_schema"]
+    "BadLine", "Column", "Columns", "Finding", "InvalidColumns", "RefusedSource", "Schema", "SchemaError", "canon", "check", "lines", "read", "write_schema"]
 
 __version__ = "2.0.0"
 
@@ -36,8 +36,11 @@ def check(source: Any, infer: bool = False, strict: bool = False, notes: bool = 
     - an object that gives a schema, a field or an array over Arrow's C data interface, such as one of pyarrow or polars (`lines`).
     Of a file only the bytes that say what its columns are are read. What is found in a column are its `findings`, why it is invalid first; `findings` of what is answered
     are what is found beside the columns, in the footer of a Parquet file, in the schema that it stores and in its GeoParquet metadata. With `infer`, a column without an
-    extension name is taken for what is inferred from its data type. With `strict`, `InvalidColumns` is raised where one is invalid. With `notes`, what is only
+    extension name is taken for what is inferred from its data type. With `strict`, `InvalidColumns` is raised where one is invalid, and `RefusedSource` where a line is bad. With `notes`, what is only
     worth to know is among the findings.
+
+    Of lines, those that are not blank and denote no column are the `bad_lines` of what is answered, and the others are columns. `RefusedSource` is raised only where
+    the first line that is not blank is `{` or `[` alone, or GeoJSON, and where there is neither a column nor a bad line.
 
     A list without lines and a schema without columns have no columns; a file or bytes that are empty, or blank lines alone, are refused.
 
@@ -51,6 +54,8 @@ def check(source: Any, infer: bool = False, strict: bool = False, notes: bool = 
     if status == library.REFUSED:
         raise RefusedSource(moved(text.rstrip("\n"), given.uncounted))
     columns = columns_of(text)
+    if strict and columns.bad_lines:
+        raise RefusedSource(columns.bad_lines[0].json)
     invalid = [one for one in columns if one.is_invalid] if strict else []
     if invalid:
         raise InvalidColumns(invalid)

@@ -2,7 +2,7 @@
 
 Prints what each column of each file holds, as `geoarrow_check` does with these options; the others are that program's alone. Why a file cannot be read is
 said on standard error; with --json the line of one that is refused stands on standard output too. The status is 1 where a column is invalid or a finding,
-of a column or of a file, is an error, and 2 where a file is refused, a file or the words cannot be read, or the output fails. Where nobody reads the output
+of a column or of a file, is an error, and 2 where a file is refused, a line is no column, a file or the words cannot be read, or the output fails. Where nobody reads the output
 any more, the command ends without a word, with the status 141.
 """
 import argparse
@@ -74,10 +74,14 @@ def _checked(file: str, asked: argparse.Namespace) -> int:
         _say(f"{name}: {said}")
         return FAILED
     if asked.json:
-        for one in (*columns, *columns.findings):
+        for one in (*columns, *columns.bad_lines, *columns.findings):
             print(one.json)
     else:
-        print(*([f"{name}:"] if len(asked.files) > 1 else []), repr(columns), sep="\n")
+        print(*([f"{name}:"] if len(asked.files) > 1 else []), columns.table(), sep="\n")
+    for words in columns.bad_words():
+        _say(f"{name}: {words}")
+    if columns.bad_lines:
+        return FAILED
     return INVALID if any(one.is_error for one in (*columns, *columns.findings)) else 0
 
 

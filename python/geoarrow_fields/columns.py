@@ -53,6 +53,27 @@ class Finding:
             yield f"and {self.more} more"
 
 
+@dataclasses.dataclass(frozen=True)
+class BadLine:
+    """A line that is not blank and denotes no column, in a file of lines that is read (docs/FORMAT.md, 2.7): the `code` says why, and `message` what is
+    wrong; `place` says where, in words, as `line 4, byte 7`, with the numbers `line` and `byte`, both from 1; `found` says what stands there, and `help` what
+    to try. What does not apply is None. The last of those that are told says how many `more` there are. `json` is the line of the library (2.8)."""
+
+    code: str
+    message: str
+    place: str
+    line: int
+    byte: Optional[int] = None
+    found: Optional[str] = None
+    help: Optional[str] = None
+    more: int = 0
+    json: str = dataclasses.field(default="", repr=False, compare=False)
+
+    def __str__(self) -> str:
+        said = ": ".join(part for part in (self.place, self.message, self.found) if part is not None)
+        return said if self.help is None else f"{said}. {self.help}"
+
+
 def _none() -> None:
     """The default of what a column may lack. (A factory, so that the class itself has no such attribute.)"""
 
@@ -127,22 +148,35 @@ _ATTRIBUTES = frozenset(field.name for field in dataclasses.fields(Column) if fi
 
 class Columns(List[Column]):
     """Columns, which are shown as a table: of text, and in a notebook of HTML. `findings` are what is found in the file beside its columns, as in the footer
-    and in the GeoParquet metadata of a Parquet file; they stand behind the table."""
+    and in the GeoParquet metadata of a Parquet file; they stand behind the table. `bad_lines` are the lines of a file of lines that are no columns, at most a
+    hundred, of which the last says how many more there are; they stand there too."""
 
     findings: Tuple[Finding, ...] = ()
+    bad_lines: Tuple[BadLine, ...] = ()
 
-    def __repr__(self) -> str:
+    def table(self) -> str:
+        """The table of text as `geoarrow_check` prints it: without the bad lines, which that program says on standard error."""
         return tables.text(map(_row, self), map(str, self.findings))
 
+    def bad_words(self) -> Iterator[str]:
+        """Why lines are bad, in words, and behind these how many more there are."""
+        for one in self.bad_lines:
+            yield str(one)
+            if one.more:
+                yield "1 more line is no column" if one.more == 1 else f"{one.more} more lines are no columns"
+
+    def __repr__(self) -> str:
+        return tables.text(map(_row, self), [*self.bad_words(), *map(str, self.findings)])
+
     def _repr_html_(self) -> str:
-        return tables.html(map(_row, self), map(str, self.findings))
+        return tables.html(map(_row, self), [*self.bad_words(), *map(str, self.findings)])
 
 
 _json = json.JSONDecoder().raw_decode
 
 
 def columns_of(report: str) -> Columns:
-    """The columns of a report, of which each line is one, and is not read yet; behind them stand the findings."""
+    """The columns of a report, of which each line is one, and is not read yet; behind them stand the bad lines and the findings."""
     lines = report.split("\n")
     lines.pop()  # behind the last line feed
     behind: List[str] = []
@@ -151,7 +185,8 @@ def columns_of(report: str) -> Columns:
     behind.reverse()
     columns = Columns(map(object.__new__, itertools.repeat(Column, len(lines))))
     collections.deque(map(_put_line, columns, lines), maxlen=0)  # (a loop, without a step of Python for each)
-    columns.findings = tuple(map(_finding, behind))
+    columns.bad_lines = tuple(_bad_line(line) for line in behind if not line.startswith(_FINDING))
+    columns.findings = tuple(_finding(line) for line in behind if line.startswith(_FINDING))
     return columns
 
 
@@ -164,6 +199,16 @@ def _attributes(line: str) -> Dict[str, Any]:
         "edges": known("edges"), "crs_type": known("crs_type"), "crs": known("crs"), "crs_from": known("crs_from"), "edges_from": known("edges_from"),
         "type_from": known("type_from"), "verdicts": known("verdicts", {}), "bbox": tuple(known("bbox", ())), "epoch": known("epoch"),
         "geometry_types": tuple(known("geometry_types", ())), "orientation": known("orientation"), "findings": tuple(_findings(line)) if "findings" in said else ()}
+
+
+_FINDING = '{"severity":'
+
+
+def _bad_line(line: str) -> BadLine:
+    """The bad line of a line."""
+    said = _json(line)[0]
+    known = said.get
+    return BadLine(said["error"], said["message"], said["place"], said["line"], known("byte"), known("found"), known("help"), known("more", 0), line)
 
 
 def _finding(line: str) -> Finding:

@@ -4,7 +4,7 @@
     paths_of(words)        the files that paths and folders name
 
 A report is a dict that JSON can hold: the `file`, its number of `columns`, its `geometries`, the names of its `invalid` columns and what is found in words, of its
-columns, with why they are invalid, and behind these of the file, the `errors` apart from the `warnings`; and an `error` where it cannot be read, else None.
+columns, with why they are invalid, and behind these of the file, the `errors` apart from the `warnings`, before all of them why lines are no columns; and an `error` where it cannot be read, else None.
 """
 import dataclasses
 import os
@@ -30,7 +30,7 @@ def report(path: str, infer: bool = False) -> Report:
     invalid = [one.name for one in columns if one.is_invalid]
     of_columns = [dataclasses.replace(found, column=one.name) for one in columns for found in one.findings]
     found = [*of_columns, *columns.findings]
-    errors = [str(one) for one in found if one.is_error]
+    errors = [*columns.bad_words(), *(str(one) for one in found if one.is_error)]
     warnings = [str(one) for one in found if not one.is_error]
     return {
         "file": path, "columns": len(columns), "geometries": geometries, "invalid": invalid, "errors": errors, "warnings": warnings, "error": None}

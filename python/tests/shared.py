@@ -22,7 +22,7 @@ BROKEN_FOUND = (
     "error[BadFieldCount] at v, field: found struct<>; expected list<coordinates>. The number of the fields is that of no dimension.",
     "error[UnknownEdges] extension metadata /edges: found 1; expected andoyer, karney, spherical, thomas or vincenty. Leave it out where edges are planar.")
 # What is noted of CRS, in words (docs/FORMAT.md, 2.6).
-NOT_WHOLE = "note[CrsNotWhole] extension metadata /crs: expected whole numbers. For this alone read and canon of geoarrow_fields refuse the field; other readers do not."
+NOT_WHOLE = "note[CrsNotWhole] extension metadata /crs/scope: found 1.50; expected whole numbers. For this alone read and canon of geoarrow_fields refuse the field; other readers do not."
 NO_GEO_METADATA = Finding("warning", "NoGeoMetadata", source="geo", pointer="", expected="metadata of GeoParquet at the key geo")
 # What is found in geo.parquet, in words (docs/FORMAT.md, 5.1).
 TYPES = "Point, LineString, Polygon, MultiPoint, MultiLineString, MultiPolygon or GeometryCollection"

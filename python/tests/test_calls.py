@@ -119,12 +119,12 @@ class Checks(unittest.TestCase):
             type_from="field", verdicts={"crs": {"geo": "agree"}}, bbox=(1, 2.5), epoch=3.5, geometry_types=("g", "h"), orientation="i")])
         self.assertEqual((column.state, column.is_geometry, column.is_invalid), ("geometry", True, False))
         self.assertIn('"scope":1.50', column.json)
-        (column,) = check([with_crs('{ "b" : 1.50 , "a" : "\\u00e9 \\n" , "b" : 2 }')])
-        self.assertIn(r'"crs":{"b":1.50,"a":"é \n","b":2},', column.json)
+        (column,) = check([with_crs('{"type":"GeographicCRS", "name":"n", "b" : 1.50 , "a" : "\\u00e9 \\n" , "b" : 2 }')])
+        self.assertIn(r'"crs":{"type":"GeographicCRS","name":"n","b":1.50,"a":"é \n","b":2},', column.json)
 
     def test_a_crs_with_the_largest_number(self):
-        column, other = check([with_crs('{"a":%s,"b":7}' % ("1" * 309)), with_crs("1" * 310)])
-        self.assertEqual(column.crs, {"a": int("1" * 309), "b": 7})
+        column, other = check([with_crs('{"type":"GeographicCRS","name":"n","a":%s,"b":7}' % ("1" * 309)), with_crs("1" * 310)])
+        self.assertEqual(column.crs, {"type": "GeographicCRS", "name": "n", "a": int("1" * 309), "b": 7})
         self.assertEqual([one.code for one in other.findings], ["MetadataNotJson"])
 
     def test_reasons(self):

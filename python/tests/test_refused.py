@@ -9,7 +9,7 @@ import tempfile
 import traceback
 import unittest
 
-from geoarrow_fields import InvalidColumns, RefusedSource, check, files, write_schema
+from geoarrow_fields import BadLine, InvalidColumns, RefusedSource, check, files, write_schema
 
 from .shared import BROKEN, DATA, OTHER, POINT, TEXT, TOP, printed
 
@@ -18,10 +18,10 @@ KEYS = {"code": "error", **{name: name for name in ("message", "place", "found",
 MAGICS = (b"ARROW1", b"\xff\xff\xff\xff", b"PAR1", b"PARE")
 
 
-def cases():
-    """Each case of native/refused.rows, which all languages share: the bytes, and what is said of them."""
+def cases(table="refused.rows"):
+    """Each case of a table of native/, which all languages share: the bytes, and what is said of them, or of their one bad line."""
     content = None
-    for line in (TOP / "native/refused.rows").read_text(encoding="utf-8").split("\n"):
+    for line in (TOP / "native" / table).read_text(encoding="utf-8").split("\n"):
         if line.startswith("{"):
             yield content or b"", json.loads(line)
             content = None
@@ -117,17 +117,76 @@ class Shared(InAFolder):
         self.assertGreater(moved, 2)
 
 
+class BadLines(InAFolder):
+    """Lines that are no columns, of files that are read."""
+
+    def judge_bad(self, columns, said):
+        """Of columns one line is bad, and this is said of it, here and in another process."""
+        (bad,) = columns.bad_lines
+        keys = {name: key for name, key in KEYS.items() if name not in ("file", "element", "column")}
+        self.assertEqual({name: getattr(bad, name) for name in keys}, {name: said.get(key) for name, key in keys.items()})
+        self.assertEqual((str(bad), bad.json, bad.more), (words_of(said), line_of(said), 0))
+        self.assertEqual(pickle.loads(pickle.dumps(bad)), bad)
+
+    def test_each_case(self):
+        for content, said in cases("bad_lines.rows"):
+            with self.subTest(content[:80], said=said):
+                lines = content[3 * content.startswith(b"\xef\xbb\xbf"):].split(b"\n")
+                count = sum(bool(line.strip(b" \t\r")) for line in lines) - 1
+                for source in (content, io.BytesIO(content), lines_of(content)):
+                    found = check(source)
+                    self.assertEqual((len(found), found.findings), (count, ()))
+                    self.judge_bad(found, said)
+                self.judge_bad(check(self.file(content)), {**said, "file": str(self.path)})
+
+    def test_the_words_of_the_command_and_of_many_files(self):
+        for content, said in cases("bad_lines.rows"):
+            with self.subTest(content[:80], said=said):
+                path, words = str(self.file(content)), words_of(said)
+                out, err, status = printed(["check", "--json", path])
+                self.assertEqual((out.splitlines()[-1], err, status), (line_of({**said, "file": path}), f"{path}: {words}\n", 2))
+                out, err, status = printed(["check", path])
+                self.assertEqual((out, err, status), (check(path).table() + "\n", f"{path}: {words}\n", 2))
+                report = files.report(path)
+                self.assertEqual((report["errors"], report["error"], report["columns"]), ([words], None, len(check(path))))
+
+    def test_bad_lines_among_good_ones(self):
+        for source in (f"{{}}\n{TEXT}\n\n[\n{POINT}\n".encode(), ["{}", TEXT, "", "[", POINT]):
+            found = check(source)
+            self.assertEqual([one.index for one in found], [0, 1])
+            self.assertEqual([(one.code, one.line, one.byte) for one in found.bad_lines], [("LineName", 1, None), ("LineNotJson", 4, 1)])
+            self.assertEqual(found.bad_lines[1].help, "One object on each line: try jq -c '.[]' FILE")
+            said = ['line 1: is JSON, but no field: "name" is no text', f"line 4, byte 1: {found.bad_lines[1].message}. {found.bad_lines[1].help}"]
+            self.assertEqual((repr(found).split("\n")[-2:], list(found.bad_words())), (said, said))
+            self.assertNotIn(said[0], found.table())
+            error = self.refused(check, source, False, True)
+            self.assertEqual((error.code, error.line, error.json), ("LineName", 1, found.bad_lines[0].json))
+
+    def test_a_hundred_are_told(self):
+        for count, more in ((99, 0), (100, 0), (101, 1), (250, 150)):
+            found = check(f"{TEXT}\n".encode() + b"1\n" * count)
+            self.assertEqual((len(found), len(found.bad_lines)), (1, min(count, 100)))
+            self.assertEqual([one.more for one in found.bad_lines], [0] * (min(count, 100) - 1) + [more])
+            last = {0: "line 100: is JSON, but no object", 1: "1 more line is no column", 150: "150 more lines are no columns"}
+            if count > 99:
+                self.assertEqual(list(found.bad_words())[-1], last[more].replace("100", "101"))
+
+    def test_lines_none_of_which_is_a_column(self):
+        found = check(b"{}\n\n1")
+        self.assertEqual((found, [one.line for one in found.bad_lines]), ([], [1, 3]))
+        self.assertIsInstance(found.bad_lines[0], BadLine)
+
+
 class Refused(InAFolder):
     def said(self, error, message, place=None, **numbers):
         return {"error": error, "message": message, **({} if place is None else {"place": place}), **numbers}
 
     def test_lines(self):
-        for content, said in (
-                (f"{TEXT}\n{{}}\n", self.said("LineName", 'is JSON, but no field: "name" is no text', "line 2", line=2)),
-                (f"\n{TEXT}\n\n[]", self.said("LineNotObject", "is JSON, but no object", "line 4", line=4)),
-                ("{]", self.said("LineNotJson", "is no JSON, or nests more than 127 levels", "line 1, byte 2", line=1, byte=2))):
-            self.judge_each(content.encode(), said)
-        self.judge(self.refused(check, [TEXT, "\ud800"]), self.said("LineNotUtf8", "is no UTF-8", "line 2, byte 1", line=2, byte=1))
+        help = "One object on each line: try jq -c . FILE"
+        for content, place in ((f"{{\n{TEXT}\n", {"line": 1, "byte": 1}), (f"\n \n  {{\n{TEXT}", {"line": 3, "byte": 3})):
+            where = f"line {place['line']}, byte {place['byte']}"
+            self.judge_each(content.encode(), self.said("LineNotJson", "is no JSON, or nests more than 127 levels", where, help=help, **place))
+        self.assertEqual([(one.code, one.line, one.byte) for one in check([TEXT, "\ud800"]).bad_lines], [("LineNotUtf8", 2, 1)])
 
     def test_files(self):
         for content, said in (

@@ -53,14 +53,18 @@ t       taken for wkt - -                       planar""" % (NOT_WHOLE, *BROKEN_
         self.assertEqual(repr(check(TOP / "examples/schema.jsonl", infer=True)), re.sub(r"(?m)^    ", "", table).rstrip("\n"))
 
     def test_what_a_crs_is_called(self):
+        def projjson(name="n", code=None, authority="EPSG"):
+            said = "" if code is None else ',"id":{"authority":"%s","code":%s}' % (authority, code)
+            return '{"type":"GeographicCRS","name":"%s"%s}' % (name, said)
+
+        malformed = [projjson(code=code) for code in ("1.5", "true", "-1")]
+        malformed += ['{"id":{"authority":"EPSG","code":4326}}', '{"type":"GeographicCRS","name":7}', projjson()[:-1] + ',"id":{"authority":"OGC"}}', projjson()[:-1] + ',"id":[1]}']
         for crs, name in (
                 ('"EPSG:4326"', "EPSG:4326"), ('"%s"' % ("a" * 40), "a" * 40), ('"%s"' % ("a" * 41), "a" * 38 + ".."),
-                ('{"name":"%s"}' % ("é" * 50), "é" * 38 + ".."), ('{"id":{"authority":"%s","code":1}}' % ("b" * 39), "b" * 38 + ".."), ('"a\\tb"', "a b"), ('{"id":{"authority":"EPSG","code":4326}}', "EPSG:4326"),
-                ('{"id":{"authority":"EPSG","code":1.5}}', "EPSG:?"), ('{"id":{"authority":"EPSG","code":true}}', "EPSG:?"),
-                ('{"id":{"authority":"EPSG","code":-1}}', "EPSG:?"), ('{"id":{"authority":"EPSG","code":0}}', "EPSG:0"),
-                ('{"id":{"authority":"EPSG","code":18446744073709551615}}', "EPSG:18446744073709551615"),
-                ('{"id":{"authority":"EPSG","code":18446744073709551616}}', "EPSG:?"), ('{"id":{"authority":"OGC"}}', "OGC"), ('{"id":{"code":1},"name":"n"}', "n"),
-                ('{"id":[1],"name":"n"}', "n"), ('{"name":7}', "a CRS"), ("[1]", "a CRS"), ("4326", "a CRS"), ("null", "")):
+                (projjson("é" * 50), "é" * 38 + ".."), (projjson(code=1, authority="b" * 39), "b" * 38 + ".."), ('"a\\tb"', "a b"),
+                (projjson(), "n"), (projjson(code=4326), "EPSG:4326"), (projjson(code=0), "EPSG:0"), (projjson(code='"x"'), "EPSG:x"),
+                (projjson(code=18446744073709551615), "EPSG:18446744073709551615"), (projjson(code=18446744073709551616), "EPSG:?"),
+                *((crs, "") for crs in malformed), ("[1]", "a CRS"), ("4326", "a CRS"), ("null", "")):
             with self.subTest(crs):
                 row = repr(check([with_crs(crs)])).split("\n")[1]
                 self.assertEqual(re.fullmatch(r"g +wkb - - +(.*?) *planar", row)[1], name)

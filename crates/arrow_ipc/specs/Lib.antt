@@ -7,6 +7,7 @@ pub mod Types
 pub mod Tells
 pub mod Columns
 pub mod Schema
+pub mod Entries
 pub mod Denotes
 pub mod Blocks
 pub mod Shapes

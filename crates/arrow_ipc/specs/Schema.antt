@@ -17,6 +17,7 @@ use Rattle.arrow_ipc.specs.declared.fault.IpcError.TheVariants.{Broken}
 use Rattle.arrow_ipc.specs.declared.fault.IpcRule.TheVariants.{Envelope, Message}
 use Rattle.arrow_ipc.specs.declared.schema.Endianness.{Endianness}
 use Rattle.arrow_ipc.specs.declared.schema.Endianness.TheVariants.{Little, Big}
+use Rattle.arrow_ipc.specs.declared.schema.Head.{Head}
 use Rattle.arrow_ipc.specs.declared.schema.Schema.{Schema}
 
 pub record SchemaTree : Type 0 where
@@ -27,13 +28,7 @@ pub record SchemaTree : Type 0 where
 abbrev pub schema_tree : Schema → SchemaTree
 schema_tree s = record { columns = map column_tree s.columns.items; metadata = texts_of s.metadata.entries; endianness = s.endianness }
 
--- what a schema's table says before its columns are read
-pub record Head : Type 0 where
-  pub endianness : Endianness
-  pub fields : ℕ × ℕ
-  pub texts : ℕ × ℕ
-
--- a schema's table: slot 0 its byte order, 1 its columns, which it must have, 2 its metadata
+-- what a schema's table says before its columns are read: slot 0 its byte order, 1 its columns, which it must have, 2 its metadata
 unfoldable pub head_at : List ℕ → ℕ → Result Head IpcFault
 head_at bytes at = do
   table ← opened_at bytes at

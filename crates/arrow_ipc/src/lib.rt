@@ -2,6 +2,7 @@
 //! bytes come.
 #![tactic(auto)]
 
+mod entries;
 mod fault;
 pub mod laws;
 mod nesting;
@@ -11,6 +12,7 @@ mod types;
 mod wire;
 mod write;
 
+pub use entries::{Entry, SchemaEntries, read_entries, read_file_entries};
 pub use fault::{IpcError, IpcFault, IpcRule};
 pub use schema::{Endianness, NESTING_LIMIT, Schema, read_file_footer, read_schema};
 pub use write::{WriteError, write_schema};

@@ -7,7 +7,7 @@ ghost use Rattle.arrow_ipc.specs.Fault.{map_ok};
 ghost use Rattle.arrow_ipc.specs.Parts.{parts_of};
 ghost use Rattle.arrow_ipc.specs.Tells.{Tells, Says};
 ghost use Rattle.arrow_ipc.specs.Columns.{entry_at, put_entry, texts_at, is_new, ids_at, finished, columns_by, column_at};
-ghost use Rattle.arrow_ipc.specs.Schema.{message_at, footer_at, cut, message_in, footer_in, schema_of, Meets, MeetsIn, schema_of_message, schema_of_footer};
+ghost use Rattle.arrow_ipc.specs.Schema.{head_at, message_at, footer_at, cut, message_in, footer_in, schema_of, Meets, MeetsIn, schema_of_message, schema_of_footer};
 
 use crate::fault::{Found, IpcError, IpcRule, broken, ensure};
 use crate::parts::{Kind, Parts, parts_at};
@@ -42,14 +42,31 @@ pub struct Schema {
     pub endianness: Endianness,
 }
 
+/// What the table of a schema says before its columns are read.
+#[derive(Clone, Copy)]
+pub(crate) struct Head {
+    /// The byte order of the data.
+    pub endianness: Endianness,
+    /// The tables of its columns.
+    pub fields: Vector,
+    /// The tables of its metadata.
+    pub texts: Vector,
+}
+
 /// What is read, or why it is not.
-type Read<T> = Result<T, IpcError>;
+pub(crate) type Read<T> = Result<T, IpcError>;
 
 /// The texts of metadata.
 type Texts = BTreeMap<String, String>;
 
 /// Takes an amount and the bytes of two texts from a budget.
-fn spend(budget: &mut usize, amount: usize, one: &str, other: &str, at: usize) -> Read<()>
+pub(crate) fn spend(
+    budget: &mut usize,
+    amount: usize,
+    one: &str,
+    other: &str,
+    at: usize,
+) -> Read<()>
     ensures ok { OnOk result (budget.new + (amount + length one.now + length other.now) ≡ budget.old) }
     ensures err { IfErr result (λ e. (e ≡ IpcError.Budget at) × (budget.old < amount + length one.now + length other.now)) }
 {
@@ -63,7 +80,7 @@ fn spend(budget: &mut usize, amount: usize, one: &str, other: &str, at: usize) -
 
 /// The entry of metadata to which the offset at a position leads: its key and its text.
 #[tactic(auto, unfolding(crate::specs::Columns::entry_at, crate::specs::Columns::entry_in))]
-fn entry_at(bytes: &[u8], at: usize) -> Found<(&str, &str)>
+pub(crate) fn entry_at(bytes: &[u8], at: usize) -> Found<(&str, &str)>
     ensures { map_ok (λ e. (e.0.now, e.1.now)) result ≡ entry_at bytes.now at }
 {
     let table = open(bytes, target_at(bytes, at)?)?;
@@ -195,7 +212,7 @@ fn read_columns(
 
 /// Where the schema of a message is.
 #[tactic(auto, unfolding(crate::specs::Schema::message_at))]
-fn message_at(bytes: &[u8]) -> Found<usize>
+pub(crate) fn message_at(bytes: &[u8]) -> Found<usize>
     ensures { result ≡ message_at bytes.now }
 {
     let message = open(bytes, target_at(bytes, 0)?)?;
@@ -210,7 +227,7 @@ fn message_at(bytes: &[u8]) -> Found<usize>
 
 /// Where the schema of a file's footer is.
 #[tactic(auto, unfolding(crate::specs::Schema::footer_at))]
-fn footer_at(bytes: &[u8]) -> Found<usize>
+pub(crate) fn footer_at(bytes: &[u8]) -> Found<usize>
     ensures { result ≡ footer_at bytes.now }
 {
     let footer = open(bytes, target_at(bytes, 0)?)?;
@@ -235,7 +252,7 @@ fn cut(bytes: &[u8], start: usize, size: usize) -> Found<&[u8]>
 
 /// The message at the head of a stream.
 #[tactic(auto, unfolding(crate::specs::Schema::message_in))]
-fn message_in(bytes: &[u8]) -> Found<&[u8]>
+pub(crate) fn message_in(bytes: &[u8]) -> Found<&[u8]>
     ensures is { map_ok (λ m. m.now) result ≡ message_in bytes.now }
     ensures small { IfOk result (λ m. length m.now < 2 ^ 32) }
 {
@@ -247,7 +264,7 @@ fn message_in(bytes: &[u8]) -> Found<&[u8]>
 
 /// The footer at the end of a file.
 #[tactic(auto, unfolding(crate::specs::Schema::footer_in))]
-fn footer_in(bytes: &[u8]) -> Found<&[u8]>
+pub(crate) fn footer_in(bytes: &[u8]) -> Found<&[u8]>
     ensures is { map_ok (λ m. m.now) result ≡ footer_in bytes.now }
     ensures small { IfOk result (λ m. length m.now < 2 ^ 32) }
 {
@@ -261,24 +278,40 @@ fn footer_in(bytes: &[u8]) -> Found<&[u8]>
     cut(&bytes[..end], end - size, size)
 }
 
-/// Reads the schema whose table is at that place of a message or footer, within a budget of eight times its bytes.
-#[tactic(auto, unfolding(crate::specs::Schema::schema_at, crate::specs::Schema::head_at))]
-fn read_flatbuffer(alloc: Global, bytes: &[u8], place: Found<usize>) -> Read<Schema>
+/// What the table of a schema at a position says before its columns are read.
+#[tactic(auto, unfolding(crate::specs::Schema::head_at))]
+pub(crate) fn head_at(bytes: &[u8], at: usize) -> Found<Head>
     requires { length bytes.now < 2 ^ 32 }
-    ensures { MeetsIn (schema_of NESTING_LIMIT place) bytes.now result }
+    ensures is { result ≡ head_at bytes.now at }
+    ensures fields { IfOk result (λ h. h.fields.0 + 4 * h.fields.1 ≤ length bytes.now) }
+    ensures texts { IfOk result (λ h. h.texts.0 + 4 * h.texts.1 ≤ length bytes.now) }
 {
-    let table = open(bytes, place?)?;
+    let table = open(bytes, at)?;
     let endianness = match integer_in(bytes, &table, 0, 2, 0)? {
         0 => Endianness::Little,
         _ => Endianness::Big,
     };
     let fields = vector_at(bytes, table_in(bytes, &table, 1)?)?;
     let texts = vector_in(bytes, &table, 2)?.unwrap_or((0, 0));
+    Ok(Head {
+        endianness,
+        fields,
+        texts,
+    })
+}
+
+/// Reads the schema whose table is at that place of a message or footer, within a budget of eight times its bytes.
+#[tactic(auto, unfolding(crate::specs::Schema::schema_at))]
+fn read_flatbuffer(alloc: Global, bytes: &[u8], place: Found<usize>) -> Read<Schema>
+    requires { length bytes.now < 2 ^ 32 }
+    ensures { MeetsIn (schema_of NESTING_LIMIT place) bytes.now result }
+{
+    let head = head_at(bytes, place?)?;
     let mut budget = bytes.len() * 8;
     Ok(Schema {
-        columns: read_columns(alloc, bytes, fields, NESTING_LIMIT, &mut budget)?,
-        metadata: read_texts(alloc, bytes, texts, &mut budget)?,
-        endianness,
+        columns: read_columns(alloc, bytes, head.fields, NESTING_LIMIT, &mut budget)?,
+        metadata: read_texts(alloc, bytes, head.texts, &mut budget)?,
+        endianness: head.endianness,
     })
 }
 

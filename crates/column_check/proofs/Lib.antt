@@ -8,3 +8,4 @@ pub mod Reading
 pub mod Fields
 pub mod Ways
 pub mod Telling
+pub mod NotWhole

@@ -16,7 +16,7 @@ use Rattle.column_check.specs.Finding.{HasName, HasOtherName, IsReserved, IsOfKi
 use Rattle.column_check.specs.Unique.{SameTypeFault, SameGeometry, SameReasons, SameFinding}
 use Rattle.column_check.specs.declared.data_type.TypeFault.{TypeFault}
 use Rattle.column_check.specs.declared.finding.Reasons.{Reasons}
-use Rattle.column_check.specs.declared.finding.Reasons.TheVariants.{UnknownExtension, DataType, Metadata, DataTypeAndMetadata}
+use Rattle.column_check.specs.declared.finding.Reasons.TheVariants.{UnknownExtension, DataType, Metadata, DataTypeAndMetadata, Unread}
 use Rattle.column_check.specs.declared.finding.Geometry.{Geometry as GeometryColumn}
 use Rattle.column_check.specs.declared.finding.Finding.{Finding}
 use Rattle.column_check.specs.declared.finding.Finding.TheVariants.{Geometry, Invalid, Extension, Inferred, Plain}
@@ -43,6 +43,7 @@ module _ (c : ColumnTree) where
   name_there (DataType t) h none = unnamed_apart h.0 h.1 none
   name_there (Metadata m) h none = unnamed_apart h.0 h.1 none
   name_there (DataTypeAndMetadata t m) h none = unnamed_apart h.0 h.1 none
+  name_there Unread h none = h
 
   -- under another extension name it is invalid only if that is reserved
   reserved_there : (r : Reasons) (s : Text) → IsInvalidFor c r → HasOtherName c s → ¬ IsReserved s → ⊥
@@ -50,6 +51,7 @@ module _ (c : ColumnTree) where
   reserved_there (DataType t) s h named free = other_apart s h.0 named h.1
   reserved_there (Metadata m) s h named free = other_apart s h.0 named h.1
   reserved_there (DataTypeAndMetadata t m) s h named free = other_apart s h.0 named h.1
+  reserved_there Unread s h named free = h
 
   module _ (distinct : (a b : ExtensionName) → name_text a ≡ name_text b → a ≡ b)
       (one_kind : (name : Text) (t : Tree) (k l : Kind) → Accepts name t k → Accepts name t l → k ≡ l)
@@ -71,6 +73,7 @@ module _ (c : ColumnTree) where
     kind_apart (DataType t) k v is h = types_apart is.0 h.0 k t is.1 h.1 is.2 h.2
     kind_apart (Metadata m) k v is h = text_apart (metadata_on c) m v h.3 is.3
     kind_apart (DataTypeAndMetadata t m) k v is h = types_apart is.0 h.0 k t is.1 h.1 is.2 h.2
+    kind_apart Unread k v is h = h
 
     one_reasons : (r s : Reasons) → IsInvalidFor c r → IsInvalidFor c s → SameReasons r s
     one_reasons UnknownExtension UnknownExtension h k = tt
@@ -89,6 +92,11 @@ module _ (c : ColumnTree) where
     one_reasons (DataTypeAndMetadata t m) (DataType u) h k = absurd (text_apart (metadata_on c) m k.3.0 h.3 k.3.1)
     one_reasons (DataTypeAndMetadata t m) (Metadata n) h k = absurd (types_apart k.0 h.0 k.2.0 t k.1 h.1 k.2.1 h.2)
     one_reasons (DataTypeAndMetadata t m) (DataTypeAndMetadata u n) h k = (one_fault_there h.0 k.0 t u h.1 k.1 h.2 k.2, one_metadata_fault (metadata_on c) m n h.3 k.3)
+    one_reasons Unread s h k = absurd h
+    one_reasons UnknownExtension Unread h k = absurd k
+    one_reasons (DataType t) Unread h k = absurd k
+    one_reasons (Metadata m) Unread h k = absurd k
+    one_reasons (DataTypeAndMetadata t m) Unread h k = absurd k
 
     same_kind : (j k : Kind) (v w : Values) → IsOfKind c j v → IsOfKind c k w → j ≡ k
     same_kind j k v w h g = one_accepted c.data_type h.2 g.2

@@ -203,3 +203,10 @@ module _ {A : Type 0} (one : A → ℕ) (all : List A → ℕ) (more : (x : A) (
   falls [] i x e lt is = absurd (omega arith)
   falls (y ∷ ys) zero x e lt is = rw (← e) (let same : one x ≡ one y = ap one is in let most = more y ys in omega arith)
   falls (y ∷ ys) (suc i) x e lt is = rw (← e) (let low = falls ys i x refl (omega arith) is in let most = more y ys in omega arith)
+
+-- an item of a loop nests no deeper than what it is in
+module _ {A : Type 0} (one : A → ℕ) (all : List A → ℕ) (more : (x : A) (xs : List A) → all (x ∷ xs) ≡ max (one x) (all xs)) where
+  pub nests : (xs : List A) {ys : List A} (i : ℕ) (x : A) → xs ≡ ys → i < length xs → x ≡ get_or xs i x → one x ≤ all ys
+  nests [] i x e lt is = absurd (omega arith)
+  nests (y ∷ ys) zero x e lt is = rw (← e) (let same : one x ≡ one y = ap one is in let most = more y ys in omega arith)
+  nests (y ∷ ys) (suc i) x e lt is = rw (← e) (let low = nests ys i x refl (omega arith) is in let most = more y ys in omega arith)

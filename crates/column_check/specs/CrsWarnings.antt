@@ -1,5 +1,5 @@
 -- What is doubtful of a CRS in extension metadata (docs/FORMAT.md, 2.6; its forms and PROJJSON: 5.3).
-use Rattle.std.specs.Prelude.{nat_lt, ◌&&◌, not, List, [], ◌∷◌, ◌++◌, length, map, codes, Bool, true, false, Option, None, Some, option_map, option_and_then, if◌then◌else◌}
+use Rattle.std.specs.Prelude.{nat_lt, ◌&&◌, not, List, [], ◌∷◌, ◌++◌, length, map, codes, Bool, true, false, Option, None, Some, option_map, option_and_then, option_to_list, if◌then◌else◌}
 use Rattle.std.specs.Char.{is_ascii_digit}
 use Rattle.std.specs.List.{list_all}
 use Rattle.json.specs.Json.{Json, number, string, object}
@@ -20,10 +20,11 @@ use Rattle.crs_identity.specs.declared.malformed.Part.TheVariants.{«Type», Nam
 use Rattle.crs_identity.specs.declared.names.FormName.{FormName}
 use Rattle.crs_identity.specs.declared.names.FormName.TheVariants as forms
 use Rattle.column_check.specs.Parts.{Spot, spot_in}
+use Rattle.column_check.specs.NotWhole.{not_whole_in}
 use Rattle.column_check.specs.Shown.{shown_value}
 use Rattle.column_check.specs.Said.{Said, said_if, at_each}
 use Rattle.column_check.specs.declared.metadata.ColumnMetadata.{ColumnMetadata}
-use Rattle.column_check.specs.declared.code.WarningCode.TheVariants.{CrsMalformed, CrsEmpty, CrsTypeContradicts, CrsWkt1, CrsWithoutType, CrsNumber, CrsNotWhole}
+use Rattle.column_check.specs.declared.code.WarningCode.TheVariants.{CrsMalformed, CrsEmpty, CrsTypeContradicts, CrsWkt1, CrsWithoutType, CrsNumber}
 
 -- where a CRS is, with what it is
 abbrev pub crs_spot : Json → Spot
@@ -130,10 +131,10 @@ abbrev pub read_warnings : Option CrsType → Option Json → List Said
 read_warnings t None = []
 read_warnings t (Some j) = value_warnings t j
 
--- of a CRS with that type, as it is read from its text; that numbers are not whole is a note: it is said where notes are asked for
+-- of a CRS with that type, as it is read from its text; that a number is not whole is a note: it is said where notes are asked for, of the first one
 abbrev pub warnings_of_crs : Bool → Option CrsType → Option Json → List Said
 warnings_of_crs notes t None = []
-warnings_of_crs notes t (Some j) = read_warnings t (json_in (print (json_tokens j))) ++ said_if CrsNotWhole (notes && some_has_float (of_json j)) (spot_in (codes "/crs") None)
+warnings_of_crs notes t (Some j) = read_warnings t (json_in (print (json_tokens j))) ++ option_to_list (if notes && some_has_float (of_json j) then not_whole_in (json_in (print (json_tokens j))) else None)
 
 abbrev pub crs_warnings : Bool → ColumnMetadata → List Said
 crs_warnings notes m = warnings_of_crs notes m.crs_type m.crs

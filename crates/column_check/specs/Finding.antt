@@ -10,7 +10,7 @@ use Rattle.column_check.specs.OldNames.{current_name, name_read}
 use Rattle.column_check.specs.Metadata.{Values, values_of, TextDenotes, TextHasCrs, HasMetadataFault}
 use Rattle.column_check.specs.Types.{TypeAccepted, HasTypeFault, TypeInferred}
 use Rattle.column_check.specs.declared.finding.Reasons.{Reasons}
-use Rattle.column_check.specs.declared.finding.Reasons.TheVariants.{UnknownExtension, DataType, Metadata, DataTypeAndMetadata}
+use Rattle.column_check.specs.declared.finding.Reasons.TheVariants.{UnknownExtension, DataType, Metadata, DataTypeAndMetadata, Unread}
 use Rattle.column_check.specs.declared.finding.Finding.{Finding as ColumnFinding}
 use Rattle.column_check.specs.declared.finding.Finding.TheVariants.{Geometry, Invalid, Extension, Inferred, Plain}
 
@@ -37,12 +37,13 @@ IsOfKind c k v = (n : ExtensionName) × HasName c n × TypeAccepted n c.data_typ
 abbrev pub IsTakenFor : ColumnTree → Kind → Values → Type 0
 IsTakenFor c k v = (name_on c ≡ None) × TypeInferred c.data_type k × TextDenotes (metadata_on c) v
 
--- the column is invalid for these reasons: all that hold of its extension name, of its type and of its metadata
+-- the column is invalid for these reasons: all that hold of its extension name, of its type and of its metadata; that it is not read, the file says and no column
 abbrev pub IsInvalidFor : ColumnTree → Reasons → Type 0
 IsInvalidFor c UnknownExtension = (s : Text) × HasOtherName c s × IsReserved s
 IsInvalidFor c (DataType t) = (n : ExtensionName) × HasName c n × HasTypeFault n c.data_type t × ((v : Values) × TextDenotes (metadata_on c) v)
 IsInvalidFor c (Metadata m) = (n : ExtensionName) × HasName c n × ((k : Kind) × TypeAccepted n c.data_type k) × HasMetadataFault (metadata_on c) m
 IsInvalidFor c (DataTypeAndMetadata t m) = (n : ExtensionName) × HasName c n × HasTypeFault n c.data_type t × HasMetadataFault (metadata_on c) m
+IsInvalidFor c Unread = ⊥
 
 -- what is said of a column, where types are inferred or not; of geometries with the CRS as it is written
 abbrev pub IsFinding : Bool → ColumnTree → ColumnFinding → Type 0

@@ -10,6 +10,8 @@ pub mod States
 pub mod Shown
 pub mod Parts
 pub mod Said
+pub mod Places
+pub mod NotWhole
 pub mod CrsWarnings
 pub mod KeyWarnings
 pub mod ReasonFindings

@@ -17,7 +17,7 @@ use Rattle.column_check.specs.declared.data_type.TypeFault.TheVariants.{Unsuppor
 use Rattle.column_check.specs.declared.metadata.MetadataFault.{MetadataFault}
 use Rattle.column_check.specs.declared.metadata.MetadataFault.TheVariants.{NotJson, NotObject, UnknownCrsType, UnknownEdges, UnknownCrsTypeAndEdges}
 use Rattle.column_check.specs.declared.finding.Reasons.{Reasons}
-use Rattle.column_check.specs.declared.finding.Reasons.TheVariants.{UnknownExtension, DataType, Metadata, DataTypeAndMetadata}
+use Rattle.column_check.specs.declared.finding.Reasons.TheVariants.{UnknownExtension, DataType, Metadata, DataTypeAndMetadata, Unread}
 use Rattle.column_check.specs.declared.finding.Finding.{Finding as ColumnFinding}
 use Rattle.column_check.specs.declared.finding.Finding.TheVariants.{Invalid}
 
@@ -100,12 +100,13 @@ metadata_found (Some s) fault = text_found s fault
 
 -- ---- of a column
 
--- all reasons of a column, that of its type first
+-- all reasons of a column, that of its type first; of a column that is not read a finding of the file says why
 abbrev pub reasons_found : ColumnTree → Reasons → List Said
 reasons_found c UnknownExtension = unknown_name (name_on c)
 reasons_found c (DataType f) = type_found c f
 reasons_found c (Metadata m) = metadata_found (metadata_on c) m
 reasons_found c (DataTypeAndMetadata f m) = type_found c f ++ metadata_found (metadata_on c) m
+reasons_found c Unread = []
 
 abbrev pub reasons_in : ColumnTree → ColumnFinding → List Said
 reasons_in c (Invalid reasons) = reasons_found c reasons

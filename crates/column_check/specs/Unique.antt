@@ -4,7 +4,7 @@ use Rattle.column_check.specs.Metadata.{values_of}
 use Rattle.column_check.specs.declared.data_type.TypeFault.{TypeFault}
 use Rattle.column_check.specs.declared.data_type.TypeFault.TheVariants.{UnsupportedType, WrongStorage, Layout}
 use Rattle.column_check.specs.declared.finding.Reasons.{Reasons}
-use Rattle.column_check.specs.declared.finding.Reasons.TheVariants.{UnknownExtension, DataType, Metadata, DataTypeAndMetadata}
+use Rattle.column_check.specs.declared.finding.Reasons.TheVariants.{UnknownExtension, DataType, Metadata, DataTypeAndMetadata, Unread}
 use Rattle.column_check.specs.declared.finding.Geometry.{Geometry as GeometryColumn}
 use Rattle.column_check.specs.declared.finding.Finding.{Finding as ColumnFinding}
 use Rattle.column_check.specs.declared.finding.Finding.TheVariants.{Geometry, Invalid, Extension, Inferred, Plain}
@@ -25,6 +25,7 @@ SameReasons UnknownExtension UnknownExtension = ⊤
 SameReasons (DataType t) (DataType u) = SameTypeFault t u
 SameReasons (Metadata m) (Metadata n) = m ≡ n
 SameReasons (DataTypeAndMetadata t m) (DataTypeAndMetadata u n) = SameTypeFault t u × (m ≡ n)
+SameReasons Unread Unread = ⊤
 SameReasons _ _ = ⊥
 
 abbrev pub SameFinding : ColumnFinding → ColumnFinding → Type 0

@@ -1,5 +1,5 @@
 //! What is doubtful of a CRS.
-ghost use Rattle.std.specs.Prelude.{◌≡◌, ◌++◌, map, IfOk, OnOk, Some, option_map, string_bytes};
+ghost use Rattle.std.specs.Prelude.{◌≡◌, ◌++◌, map, IfOk, OnOk, Some, option_to_list};
 ghost use Rattle.std.specs.Char.{is_ascii_digit};
 ghost use Rattle.std.specs.List.{list_all};
 ghost use Rattle.json.specs.Value.{value_view};
@@ -11,11 +11,13 @@ ghost use Rattle.value_tokens.specs.Values.{IsReadable};
 ghost use Rattle.crs_identity.specs.Forms.{form_of_value, json_in};
 ghost use Rattle.crs_identity.specs.FormNames.{form_name};
 ghost use Rattle.column_check.specs.CrsWarnings.{crs_spot, projjson_in, are_digits, is_srid, is_of_type, contradicts, is_old_wkt, lacks_type, is_odd_crs, is_empty_crs, form_warnings, value_warnings, read_warnings, crs_warnings};
+ghost use Rattle.column_check.specs.NotWhole.{not_whole_in};
 ghost use Rattle.column_check.specs.Said.{said, said_if};
 
 use crate::code::WarningCode;
 use crate::malformed::push_malformed;
 use crate::metadata::ColumnMetadata;
+use crate::not_whole::{Place, first_not_whole};
 use crate::said::{push_in, value_in};
 use crate::shown::shown_value;
 use crate::warning::Warning;
@@ -38,15 +40,28 @@ pub(crate) fn push_crs(
         return Ok(());
     };
     push_read(alloc, warnings, metadata.crs_type, crs)?;
-    let is_noted = notes && has_fraction(alloc, crs)?;
-    push_in(
-        alloc,
-        warnings,
-        WarningCode::CrsNotWhole,
-        "/crs",
-        None,
-        is_noted,
-    )
+    if notes && has_fraction(alloc, crs)? {
+        push_not_whole(alloc, warnings, crs)?;
+    }
+    Ok(())
+}
+
+/// Adds a warning of the first number of a CRS that is not whole.
+fn push_not_whole(
+    alloc: Global,
+    warnings: &mut Vec<Warning>,
+    crs: &JsonText,
+) -> Result<(), AllocError>
+    ensures { OnOk result (map said warnings.new.items ≡ map said warnings.old.items ++ option_to_list (not_whole_in (json_in (print (json_tokens crs.now))))) }
+{
+    let mut scratch = Scratch::new(alloc);
+    let Some(value) = value_in(alloc, crs.as_str(), &mut scratch)? else {
+        return Ok(());
+    };
+    if let Some(warning) = first_not_whole(alloc, &Place::Crs, &value)? {
+        warnings.push(warning)?;
+    }
+    Ok(())
 }
 
 /// Whether a CRS has a number that is not whole.

@@ -58,7 +58,8 @@ pub struct Geometry {
     pub metadata: ColumnMetadata,
 }
 
-/// Why a column is invalid: all that holds of its extension name, its type and its metadata.
+/// Why a column is invalid: all that holds of its extension name, its type and its metadata; or that
+/// it is not read.
 #[derive(Debug, Drop)]
 pub enum Reasons {
     /// The extension name begins with `geoarrow.`, in any letters, or with `ogc.`, and is none of the eleven, nor an old one of them.
@@ -69,4 +70,7 @@ pub enum Reasons {
     Metadata(MetadataFault),
     /// The type is of no kind under the extension name, and the metadata text denotes no values of the format.
     DataTypeAndMetadata(TypeFault, MetadataFault),
+    /// Of the column a finding of the file says why: its element breaks a rule, or its stored field
+    /// contradicts it. `inspect_column` returns this of no column.
+    Unread,
 }

@@ -1,13 +1,17 @@
 //! Laws of what is said of a column: functions whose contract is the law.
-ghost use Rattle.std.specs.Prelude.{◌≡◌, Bool, Option};
+ghost use Rattle.std.specs.Prelude.{◌≡◌, Bool, true, Option, is_some};
+ghost use Rattle.json.specs.Json.{Json};
+ghost use Rattle.serde_json.specs.Read.{of_json};
 ghost use Rattle.arrow_values.specs.Tree.{Text};
 ghost use Rattle.arrow_columns.specs.Column.{TypeTree, column_tree, type_tree};
 ghost use Rattle.geoarrow_layout.specs.declared.names.ExtensionName.{ExtensionName};
 ghost use Rattle.geoarrow_layout.specs.declared.native_kinds.Kind.{Kind};
+ghost use Rattle.geoarrow_meta.specs.Read.{some_has_float};
 ghost use Rattle.column_check.specs.Metadata.{Values, TextDenotes, HasMetadataFault};
 ghost use Rattle.column_check.specs.Types.{TypeAccepted, HasTypeFault, TypeInferred};
 ghost use Rattle.column_check.specs.Finding.{IsFinding};
 ghost use Rattle.column_check.specs.Unique.{SameFinding};
+ghost use Rattle.column_check.specs.NotWhole.{first_not_whole};
 ghost use Rattle.column_check.specs.declared.data_type.TypeFault.{TypeFault};
 ghost use Rattle.column_check.specs.declared.metadata.MetadataFault.{MetadataFault};
 
@@ -49,4 +53,11 @@ pub fn kind_or_fault()
 pub fn metadata_is_unique()
     ensures values { (t : Option Text) (v w : Values) → TextDenotes t v → TextDenotes t w → v ≡ w }
     ensures values_or_fault { (t : Option Text) (f : MetadataFault) (v : Values) → HasMetadataFault t f → ¬ TextDenotes t v }
+{}
+
+/// A law: in a value that `serde_json` reads a number that is not whole is found if, and only if,
+/// there is one. There is no need to run this.
+#[tactic(auto, using(crate::proofs::NotWhole::is_found))]
+pub fn not_whole_is_found()
+    ensures { (place : Text) (j : Json) → is_some (of_json j) ≡ true → is_some (first_not_whole place j) ≡ some_has_float (of_json j) }
 {}

@@ -26,7 +26,7 @@ use json::{Scratch, Value};
 use std::alloc::{AllocError, Global};
 use value_tokens::member_of;
 
-/// Adds all reasons of a column, that of its type first.
+/// Adds all reasons of a column, that of its type first; none of a column that is not read.
 pub(crate) fn push_reasons(
     alloc: Global,
     warnings: &mut Vec<Warning>,
@@ -44,6 +44,7 @@ pub(crate) fn push_reasons(
             push_type(alloc, warnings, column, of_type)?;
             push_metadata(alloc, warnings, text, *of_text)
         }
+        Reasons::Unread => Ok(()),
     }
 }
 

@@ -1,5 +1,5 @@
 -- The line of a column is read back.
-use Rattle.std.proofs.Common.{◌≡◌, ◌≤◌, Bool, Some, IfOk, Result, Ok, Err, String, Global, option_and_then, string_bytes, sym, ap, ◌∙◌}
+use Rattle.std.proofs.Common.{◌≡◌, ◌≤◌, Bool, Some, IfOk, Result, Ok, Err, String, Global, option_and_then, string_bytes, ap, ◌∙◌}
 use Rattle.std.proofs.lemmas.Str.{IsUtf8-string_bytes}
 use Rattle.serde_json.specs.Data.{depth}
 use Rattle.serde_json.specs.Read.{read, max_depth}

@@ -8,6 +8,7 @@ use Rattle.arrow_ipc.specs.Fault.{breaks}
 use Rattle.arrow_ipc.specs.declared.fault.IpcRule.TheVariants.{Envelope}
 use Rattle.arrow_ipc.specs.Schema.{message_in, cut, schema_of_message}
 use Rattle.arrow_ipc.specs.Wire.{integer_at}
+use Rattle.arrow_ipc.specs.Entries.{entries_of_message}
 use Rattle.column_files.specs.Forms.{IsForm, head_form}
 use Rattle.column_files.specs.Files.{size_in, IsSchemaRead, IsFileRead}
 use Rattle.column_files.specs.Reading.{GivesSchema, IsHead, ReadAs}
@@ -55,7 +56,7 @@ same_bytes : (form : Form) (bytes all : List ℕ) → bytes ≡ all → ReadAs f
 same_bytes form bytes all same = λ r. (λ is. subst (λ l. IsFileRead form l r) same is, λ is. subst (λ l. IsFileRead form l r) (sym same) is)
 
 same_found : (bytes all : List ℕ) → message_in bytes ≡ message_in all → ReadAs ArrowStream bytes all
-same_found bytes all same = λ r. (λ is. subst (λ f. IsSchemaRead f (schema_of_message 61) r) same is, λ is. subst (λ f. IsSchemaRead f (schema_of_message 61) r) (sym same) is)
+same_found bytes all same = λ r. (λ is. subst (λ f. IsSchemaRead f (schema_of_message 61) entries_of_message r) same is, λ is. subst (λ f. IsSchemaRead f (schema_of_message 61) entries_of_message r) (sym same) is)
 
 of_stream : (head four more ys : List ℕ) → head ≡ 255 ∷ 255 ∷ 255 ∷ 255 ∷ four → 8 ≤ length head → GivesUpTo (8 + size_in (drop 4 head) - length head) (Some (more ++ ys)) (Some ys) more
     → ReadAs ArrowStream (head ++ more) (head ++ (more ++ ys))

@@ -1,5 +1,5 @@
 -- The footer of an Arrow file is found by the file's end alone.
-use Rattle.std.proofs.Common.{◌≡◌, ◌⊎◌, inl, inr, ℕ, ◌+◌, ◌-◌, ◌^◌, ◌<◌, ◌≤◌, min, Bool, true, false, ◌&&◌, nat_lt, nat_le, List, [], ◌∷◌, ◌++◌, length, take, drop, get_or, if◌then◌else◌, Result, Ok, Err, refl, sym, ap, ◌∙◌, subst, codes, arith}
+use Rattle.std.proofs.Common.{◌≡◌, ◌⊎◌, inl, inr, ℕ, ◌+◌, ◌-◌, ◌^◌, ◌<◌, ◌≤◌, min, Bool, true, false, ◌&&◌, nat_lt, nat_le, List, [], ◌∷◌, ◌++◌, length, take, drop, map, get_or, if◌then◌else◌, Result, Ok, Err, refl, sym, ap, ◌∙◌, subst, codes, arith}
 use Rattle.std.specs.Int.{w32, from_le_bytes}
 use Rattle.std.specs.Str.{bytes_eq}
 use Rattle.std.proofs.Math.Seq.{drop-append-add, take-append-add}
@@ -12,7 +12,10 @@ use Rattle.arrow_ipc.specs.declared.fault.IpcError.{IpcError}
 use Rattle.arrow_ipc.specs.declared.fault.IpcError.TheVariants.{Broken, Budget, OutOfMemory}
 use Rattle.arrow_ipc.specs.declared.fault.IpcRule.TheVariants.{Envelope}
 use Rattle.arrow_ipc.specs.declared.schema.Schema.{Schema}
-use Rattle.column_files.specs.Files.{size_in, HasFooter, IsFooterRead, further, footer_begin}
+use Rattle.arrow_columns.specs.Column.{ColumnTree, column_tree}
+use Rattle.arrow_ipc.specs.Entries.{entries_of_footer}
+use Rattle.parquet_columns.specs.Findings.{Finding, finding}
+use Rattle.column_files.specs.Files.{size_in, HasFooter, AreRepeated, IsFooterRead, further, footer_begin}
 use Rattle.column_files.specs.declared.columns.FileFault.{FileFault}
 use Rattle.column_files.specs.declared.columns.FileFault.TheVariants.{NoField, Empty, Foreign, ReportTooLarge, Ipc, Parquet, OutOfMemory as OutOfMemoryFault}
 use Rattle.column_files.specs.declared.opening.File.{File}
@@ -164,6 +167,14 @@ of_columns by (Err fault) read s is = absurd (other fault s is)
     other : (fault : IpcFault) (s : Schema) → Ok s ≡ Err (Broken fault) → ⊥
     other fault s is = cc
 
+of_entries : (by : ℕ) (found : Result (List ℕ) IpcFault) (s : Schema) → Meets found (schema_of_footer 61) (Ok s) → (cs : List ColumnTree) (fs : List Finding)
+    → AreRepeated found entries_of_footer cs fs → AreRepeated (moved by found) entries_of_footer cs fs
+of_entries by (Ok footer) s meets cs fs is = is
+of_entries by (Err fault) s meets cs fs is = absurd (other fault s meets)
+  where
+    other : (fault : IpcFault) (s : Schema) → Ok s ≡ Err (Broken fault) → ⊥
+    other fault s is = cc
+
 -- how the whole file is refused
 abbrev Refuses : List ℕ → Result (List ℕ) IpcFault → IpcError → Type 0
 Refuses bytes found error = (inner : IpcError) × Meets found (schema_of_footer 61) (Err inner) × (error ≡ further (0 + footer_begin bytes found) inner)
@@ -192,8 +203,13 @@ of_whole front end fits r is = by_result r is
     found = same_found front end n (omega (arith, fits)) (omega (arith, fits))
 
     by_result : (r : Result File FileFault) → IsFooterRead (length front) end r → IsFooterRead 0 (front ++ end) r
-    by_result (Ok file) (s, meets, is) =
-        (s, subst (λ f. Meets f (schema_of_footer 61) (Ok s)) (sym found) (of_columns (length front) (footer_in end) (schema_of_footer 61) s meets), is)
+    by_result (Ok file) (s, meets, is, repeated) =
+        let whole = of_entries (length front) (footer_in end) s meets (map column_tree file.columns.items) (map finding file.findings.items) repeated in (
+          s,
+          subst (λ f. Meets f (schema_of_footer 61) (Ok s)) (sym found) (of_columns (length front) (footer_in end) (schema_of_footer 61) s meets),
+          is,
+          subst (λ f. AreRepeated f entries_of_footer (map column_tree file.columns.items) (map finding file.findings.items)) (sym found) whole,
+        )
     by_result (Err (Ipc error)) (inner, meets, is) =
         subst (λ f. Refuses (front ++ end) f error) (sym found) (of_refusal front end (footer_in end) refl error inner meets is)
     by_result (Err (NoField k fault)) is = absurd is
@@ -201,7 +217,7 @@ of_whole front end fits r is = by_result r is
     by_result (Err (Foreign foreign)) is = absurd is
     by_result (Err ReportTooLarge) is = absurd is
     by_result (Err (Parquet error)) is = absurd is
-    by_result (Err OutOfMemoryFault) is = absurd is
+    by_result (Err OutOfMemoryFault) is = tt
 
 pub of_end : (start : ℕ) (end : List ℕ) (r : Result File FileFault) → IsFooterRead start end r
     → (front : List ℕ) → length front ≡ start → HasFooter 10 start end → IsFooterRead 0 (front ++ end) r

@@ -1,21 +1,19 @@
 -- Bytes that are held, and the line that they begin with, over plain variables.
-use Rattle.std.proofs.Common.{Bool, ◌≡◌, inl, inr, ℕ, ◌+◌, ◌-◌, ◌<◌, ◌≤◌, min, true, false, List, [], ◌∷◌, ◌++◌, length, take, drop, drop_of_length-le, get_or, Option, Some, None, IfSome, Err, refl, sym, ap, ◌∙◌, subst, arith}
-use Rattle.std.proofs.lemmas.Bool.{cases_lt}
-use Rattle.std.proofs.lemmas.List.{append-nil, append_assoc, get_or_append_left, get_or-drop, length-append, length-drop, length-take, length-take-le, take-append-le, take_all, drop-append-le}
+use Rattle.std.proofs.Common.{Bool, ◌≡◌, inl, inr, ℕ, ◌+◌, ◌<◌, ◌≤◌, min, true, false, List, [], ◌∷◌, ◌++◌, length, take, drop, drop_of_length-le, Option, Some, None, IfSome, Err, refl, sym, ap, ◌∙◌, subst, arith}
+use Rattle.std.proofs.lemmas.List.{append-nil, append_assoc, get_or_append_left, length-append, length-take, take-append-le, take_all, drop-append-le}
 use Rattle.std.proofs.lemmas.List.Elements.{All-nil, All-push}
-use Rattle.std.specs.Io.KnownBytes.{Keeps, Consumes, IsAtEnd, prepend_known}
+use Rattle.std.specs.Io.KnownBytes.{Keeps, IsAtEnd, prepend_known}
 use Rattle.memchr.specs.Find.{is_byte, Passes, Nowhere, IsFirstByte}
-use Rattle.arrow_columns.specs.Column.{ColumnTree}
-use Rattle.column_files.specs.Lines.{line_feed, FirstLine, LinesTo, Denote, is_blank}
-use Rattle.column_files.specs.LineFaults.{IsLineRead, DenotesNone}
-use Rattle.column_files.specs.declared.line.LineFault.{LineFault}
+use Rattle.column_files.specs.Lines.{line_feed, FirstLine, LinesTo}
+use Rattle.column_files.specs.LineItems.{LineItem, Gives}
 use Rattle.line_reader.specs.Lines.{max_line_bytes, max_count, HasNoFeed, IsLong, HasLine, IsUnfinished}
 use Rattle.line_reader.specs.Sources.{ReadsOn}
 use Rattle.line_reader.specs.declared.error.LineError.{LineError}
 use Rattle.line_reader.specs.declared.error.LineError.TheVariants.{Input, LongLine, OutOfMemory}
 use Rattle.column_files.specs.Faults.{read_fault}
-use Rattle.column_files.specs.Reading.{Goes, PassesLines, IsNext}
-use Rattle.column_files.proofs.Steps.{lines_more, denote_more}
+use Rattle.column_files.specs.declared.fault.ReadFault.{ReadFault}
+use Rattle.column_files.specs.Reading.{Goes, PassesLines, IsNext, answered, is_item}
+use Rattle.column_files.proofs.Steps.{lines_more, items_more, one_line}
 
 -- ---- line feeds
 
@@ -94,8 +92,8 @@ goes_on lines (Some text) None new goes kept = absurd goes
 goes_on lines (Some text) (Some rest) None goes kept = absurd kept
 goes_on lines (Some text) (Some rest) (Some later) goes kept = subst (LinesTo text lines) (sym kept) goes
 
-pub passes_kept : (n m k : ℕ) (old mid new : Option (List ℕ)) (cs : List ColumnTree) → PassesLines n m old mid cs → k ≡ m → Keeps mid new → PassesLines n k old new cs
-passes_kept n m k old mid new cs (lines, count, short, denote, goes) same kept = (lines, same ∙ count, short, denote, goes_on lines old mid new goes kept)
+pub passes_kept : (n m k : ℕ) (old mid new : Option (List ℕ)) (items : List LineItem) → PassesLines n m old mid items → k ≡ m → Keeps mid new → PassesLines n k old new items
+passes_kept n m k old mid new items (lines, count, short, are, goes) same kept = (lines, same ∙ count, short, are, goes_on lines old mid new goes kept)
 
 -- the line at hand is passed over too
 goes_past : (lines : List (List ℕ)) (old rest : Option (List ℕ)) (held : List ℕ) (len : ℕ) → Goes (λ text rest. LinesTo text lines rest) old (prepend_known held rest)
@@ -106,26 +104,19 @@ goes_past lines (Some text) (Some more) held len goes line =
     let behind = drop (len + 1) held ++ more in
     lines_more lines (take len held ∷ []) text (held ++ more) behind goes (behind, (first_line held more len line).0, refl)
 
-pub passes_line : (n m k : ℕ) (old rest now : Option (List ℕ)) (held : List ℕ) (len : ℕ) (cs : List ColumnTree) → PassesLines n m old (prepend_known held rest) [] → k ≡ min (m + 1) max_count
-    → HasLine held rest (Some len) → Denote (take len held ∷ []) cs → now ≡ prepend_known (drop (len + 1) held) rest → PassesLines n k old now cs
-passes_line n m k old rest now held len cs (lines, count, short, denote, goes) next line here left =
+pub passes_line : (n m k : ℕ) (old rest now : Option (List ℕ)) (held : List ℕ) (len : ℕ) (items : List LineItem) → PassesLines n m old (prepend_known held rest) [] → k ≡ min (m + 1) max_count
+    → HasLine held rest (Some len) → Gives m (take len held) items → now ≡ prepend_known (drop (len + 1) held) rest → PassesLines n k old now items
+passes_line n m k old rest now held len items (lines, count, short, are, goes) next line here left =
     let one : length (take len held) ≤ max_line_bytes = omega (arith, line.0, length-take len held) in
     let all = lines ++ take len held ∷ [] in (
       all,
       omega (arith, next, count, length-append lines (take len held ∷ [])),
       All-push (λ line. length line ≤ max_line_bytes) lines (take len held) short one,
-      denote_more lines (take len held ∷ []) [] cs denote here,
+      items_more n m lines (take len held ∷ []) [] items are (omega (arith, count)) (one_line m (take len held) items here),
       subst (Goes (λ text rest. LinesTo text all rest) old) (sym left) (goes_past lines old rest held len goes line),
     )
 
 -- ---- what is answered of it
-
-pub fault_next : (rest : Option (List ℕ)) (held : List ℕ) (len : ℕ) (fault : LineFault) → HasLine held rest (Some len) → is_blank (take len held) ≡ false
-    → IsLineRead (take len held) (Err fault) → IfSome (prepend_known held rest) (λ text. ¬ IsLong text × DenotesNone text fault)
-fault_next None held len fault line filled read = tt
-fault_next (Some more) held len fault line filled read =
-    let (first, short) = first_line held more len line in
-    (short, (take len held, drop (len + 1) held ++ more, first, filled, read.0, read.1))
 
 pub long_next : (rest : Option (List ℕ)) (held : List ℕ) → IsLong held → IfSome (prepend_known held rest) IsLong
 long_next None held long = tt
@@ -136,7 +127,11 @@ pub end_next : (rest : Option (List ℕ)) (held : List ℕ) → HasLine held res
 end_next None held line = line.1
 end_next (Some more) held line = ap (λ l. l ++ more) line.0 ∙ line.1
 
-pub unfinished_next : (n : ℕ) (some : Bool) (rest : Option (List ℕ)) (held : List ℕ) (error : LineError) → IsUnfinished n held error → IsNext n some (prepend_known held rest) held (Err (read_fault error))
-unfinished_next n some rest held (LongLine k) is = (is.0, long_next rest held is.1)
-unfinished_next n some rest held (Input error) is = (is.0.0, is.1)
-unfinished_next n some rest held OutOfMemory is = tt
+-- a line that is not read, and so not answered
+abbrev pub IsUnread : ℕ → Bool → Option (List ℕ) → List ℕ → ReadFault → Type 0
+IsUnread n some rest held fault = (answered (Err fault) ≡ []) × (is_item (Err fault) ≡ false) × IsNext n some (prepend_known held rest) held (Err fault)
+
+pub unfinished_next : (n : ℕ) (some : Bool) (rest : Option (List ℕ)) (held : List ℕ) (error : LineError) → IsUnfinished n held error → IsUnread n some rest held (read_fault error)
+unfinished_next n some rest held (LongLine k) is = (refl, refl, (is.0, long_next rest held is.1))
+unfinished_next n some rest held (Input error) is = (refl, refl, (is.0.0, is.1))
+unfinished_next n some rest held OutOfMemory is = (refl, refl, tt)

@@ -1,16 +1,16 @@
 -- Which part of a value is at fault, where it denotes no column.
-use Rattle.std.proofs.Common.{◌≡◌, List, [], ◌∷◌, is_some, Bool, true, false, bytes_eq, Option, Some, None, option_map, option_and_then, refl, sym, ap, ◌∙◌, true≢false, codes}
+use Rattle.std.proofs.Common.{◌≡◌, List, ◌∷◌, is_some, Bool, true, false, Option, Some, None, option_map, option_and_then, refl, sym, ap, ◌∙◌, true≢false, codes}
 use Rattle.std.specs.Option.{IsSome}
 use Rattle.std.proofs.lemmas.Option.{none-some}
-use Rattle.serde_json.specs.Data.{Data, null, boolean, number, string, array, object, Members}
+use Rattle.serde_json.specs.Data.{Data, object, Members}
 use Rattle.serde_json.specs.Find.{get_member, get, as_str, as_bool, as_object}
 use Rattle.serde_json.specs.View.{view, members_view}
 use Rattle.serde_json.proofs.Views.{Entry}
 use Rattle.arrow_values.specs.Tree.{Text, Tree, Metadata as Texts, FieldTree}
 use Rattle.arrow_columns.specs.Column.{column_of}
-use Rattle.field_lines.specs.FieldOfValue.{under, field_from, field_of_value, type_in, type_of_value, texts_in, metadata_of_value}
+use Rattle.field_lines.specs.FieldOfValue.{field_from, field_of_value, type_in, type_of_value, texts_in, metadata_of_value}
 use Rattle.field_lines.specs.ColumnOfValue.{other_of_value, column_type, column_type_of_value, column_from, column_of_value}
-use Rattle.column_files.specs.LineFaults.{HasName, HasNullable, HasMetadata, HasType, IsKeyFault, IsValueFault}
+use Rattle.column_files.specs.LineFaults.{HasName, HasNullable, HasMetadata, IsKeyFault, IsValueFault}
 use Rattle.column_files.specs.declared.line.LineFault.{LineFault}
 use Rattle.column_files.specs.declared.line.LineFault.TheVariants.{NotUtf8, NotJson, OpenObject, OpenArray, NotObject, GeoJson, Name, Nullable, Metadata, TypeUnknown}
 use Rattle.column_files.proofs.LineReads.{FieldIsColumn}

@@ -1,11 +1,13 @@
 -- Which columns the bytes of a file denote, with all that is read of it beside them; or why they denote none.
-use Rattle.std.specs.Prelude.{◌≡◌, ◌≢◌, ◌⊎◌, ℕ, ◌+◌, ◌-◌, ◌^◌, ◌≤◌, min, List, [], ◌∷◌, ◌++◌, length, drop, map, Option, Result, Ok, Err, ⊤}
+use Rattle.std.specs.Prelude.{◌≡◌, ◌≢◌, ◌⊎◌, ℕ, ◌+◌, ◌-◌, ◌^◌, ◌≤◌, min, true, List, [], ◌∷◌, ◌++◌, length, drop, map, Option, Result, Ok, Err, ⊤}
 use Rattle.std.specs.Int.{w32, from_le_bytes}
 use Rattle.arrow_values.specs.Texts.{text_at}
 use Rattle.arrow_values.specs.View.{texts_of}
 use Rattle.arrow_columns.specs.Column.{ColumnTree, column_tree}
 use Rattle.arrow_columns.specs.declared.column.SchemaColumn.{SchemaColumn}
 use Rattle.arrow_ipc.specs.Schema.{SchemaTree, Meets, message_in, footer_in, schema_of_message, schema_of_footer}
+use Rattle.arrow_ipc.specs.Entries.{EntriesTree, AreEntries, entries_tree, entries_of_message, entries_of_footer}
+use Rattle.arrow_ipc.specs.declared.entries.SchemaEntries.{SchemaEntries}
 use Rattle.arrow_ipc.specs.declared.fault.IpcFault.{IpcFault}
 use Rattle.arrow_ipc.specs.declared.fault.IpcError.{IpcError}
 use Rattle.arrow_ipc.specs.declared.fault.IpcError.TheVariants.{Broken, Budget, OutOfMemory as IpcOutOfMemory}
@@ -13,61 +15,96 @@ use Rattle.arrow_ipc.specs.declared.schema.Schema.{Schema}
 use Rattle.std.specs.declared.vec.Vec.{Vec}
 use Rattle.std.specs.declared.alloc.Global.{Global}
 use Rattle.column_files.specs.Forms.{IsForm, unmarked}
-use Rattle.column_files.specs.Lines.{LinesTo, Denote}
-use Rattle.column_files.specs.LineFaults.{DenotesNone}
+use Rattle.column_files.specs.LineItems.{LineItem, LinesGive, bad_in, refuses_file, AreKept, IsOfItems}
 use Rattle.column_files.specs.Geo.{Geo, absent, geo_key, geo_of, of_footer, of_schema}
+use Rattle.column_files.specs.declared.bad_lines.BadLine.{BadLine}
 use Rattle.column_files.specs.declared.form.Form.{Form}
 use Rattle.column_files.specs.declared.form.Form.TheVariants.{ArrowFile, ArrowStream, Parquet, Lines, Foreign}
 use Rattle.column_files.specs.declared.columns.FileFault.{FileFault}
 use Rattle.column_files.specs.declared.columns.FileFault.TheVariants.{NoField, Empty, Foreign as ForeignFault, Ipc, Parquet as ParquetFault, OutOfMemory}
+use Rattle.column_files.specs.declared.line.LineFault.{LineFault}
+use Rattle.column_files.specs.declared.lines.LinesRead.{LinesRead}
 use Rattle.column_files.specs.declared.opening.File.{File}
 use Rattle.parquet_columns.specs.Reads as parquet
+use Rattle.parquet_columns.specs.Findings.{Finding, finding}
+use Rattle.parquet_columns.specs.Entries.{repeated_entries}
+use Rattle.parquet_columns.specs.declared.code.FilePart.TheVariants.{Field}
 use Rattle.parquet_columns.specs.declared.error.SchemaError.{SchemaError}
 use Rattle.parquet_columns.specs.declared.footer.FooterColumns.{FooterColumns}
 use Rattle.parquet_footer.specs.Findings.{finding as text_finding}
 use Rattle.parquet_footer.specs.Spelled.{Spelled}
 
--- no elements say anything and nothing is found, as in each file but a Parquet file
+-- no elements say anything, as in each file but a Parquet file; and nothing is found, as in lines
+abbrev pub HasNoElements : File → Type 0
+HasNoElements file = (file.elements.items ≡ []) × (file.texts.items ≡ [])
+
 abbrev pub HasNoFooter : File → Type 0
-HasNoFooter file = (file.elements.items ≡ []) × (file.findings.items ≡ []) × (file.texts.items ≡ [])
+HasNoFooter file = HasNoElements file × (file.findings.items ≡ [])
+
+-- no line is bad, as in each file but one of lines
+abbrev pub HasNoBadLines : File → Type 0
+HasNoBadLines file = AreKept [] file.bad_lines
 
 -- ---- lines
 
--- what is read of lines: the columns that they denote; or how many lines stand before the first that is not blank and denotes none, and why
-abbrev pub AreUnmarkedRead : List ℕ → Result (Vec SchemaColumn Global) FileFault → Type 0
-AreUnmarkedRead text (Ok columns) = (lines : List (List ℕ)) × LinesTo text lines [] × Denote lines (map column_tree columns.items)
-AreUnmarkedRead text (Err (NoField n fault)) =
-    (before : List (List ℕ)) × (cs : List ColumnTree) × (rest : List ℕ) × (length before ≡ n) × LinesTo text before rest × Denote before cs × DenotesNone rest fault
+-- a bad line behind so many lines
+abbrev pub bad_line : ℕ → LineFault → BadLine
+bad_line n fault = record { before = n; fault = fault }
+
+-- what is read of all lines: what they give; or the first that is not blank refuses the file, and why
+abbrev pub AreUnmarkedRead : List ℕ → Result LinesRead FileFault → Type 0
+AreUnmarkedRead text (Ok read) = (items : List LineItem) × LinesGive text items [] × IsOfItems items read
+AreUnmarkedRead text (Err (NoField n fault)) = (rest : List ℕ) × LinesGive text (Err (bad_line n fault) ∷ []) rest × (refuses_file fault ≡ true)
 AreUnmarkedRead text (Err OutOfMemory) = ⊤
 AreUnmarkedRead text (Err fault) = ⊥
 
 -- the byte order mark before them is passed over
+abbrev pub AreAllRead : List ℕ → Result LinesRead FileFault → Type 0
+AreAllRead text r = AreUnmarkedRead (unmarked text) r
+
+-- what is read of lines each of which is to be a column: the columns, where all lines that are not blank denote one; or the first that denotes none, and why
 abbrev pub AreLinesRead : List ℕ → Result (Vec SchemaColumn Global) FileFault → Type 0
-AreLinesRead text r = AreUnmarkedRead (unmarked text) r
+AreLinesRead text (Ok columns) = LinesGive (unmarked text) (map Ok (map column_tree columns.items)) []
+AreLinesRead text (Err (NoField n fault)) =
+    (items : List LineItem) × (rest : List ℕ) × (others : List BadLine) × LinesGive (unmarked text) items rest × (bad_in items ≡ bad_line n fault ∷ others)
+AreLinesRead text (Err OutOfMemory) = ⊤
+AreLinesRead text (Err fault) = ⊥
 
--- what is read of a file of lines: the same; but that it is empty, where its lines denote no column
-abbrev pub AreLinesInFile : List ℕ → Result (Vec SchemaColumn Global) FileFault → Type 0
-AreLinesInFile text (Ok columns) = AreLinesRead text (Ok columns) × (columns.items ≢ [])
-AreLinesInFile text (Err Empty) = (lines : List (List ℕ)) × LinesTo (unmarked text) lines [] × Denote lines []
-AreLinesInFile text (Err fault) = AreLinesRead text (Err fault)
+-- what is read of a file of lines, beside which nothing else is: its columns and bad lines, of which there are some; or that it has neither; or its first
+-- line that is not blank refuses it
+abbrev pub lines_read : File → LinesRead
+lines_read file = record { columns = file.columns; bad_lines = file.bad_lines }
 
--- the columns of lines, where nothing else is read of a file
 abbrev pub IsOfLines : List ℕ → Result File FileFault → Type 0
-IsOfLines text (Ok file) = AreLinesInFile text (Ok file.columns) × HasNoFooter file × (geo_of file.geo ≡ absent)
-IsOfLines text (Err fault) = AreLinesInFile text (Err fault)
+IsOfLines text (Ok file) =
+    AreAllRead text (Ok (lines_read file)) × ((file.columns.items ≢ []) ⊎ (file.bad_lines.first.items ≢ [])) × HasNoFooter file × (geo_of file.geo ≡ absent)
+IsOfLines text (Err Empty) = LinesGive (unmarked text) [] []
+IsOfLines text (Err fault) = AreAllRead text (Err fault)
 
 -- ---- schemas
 
 -- what is read of a schema: its columns, and the text at the key `geo` of its metadata
 abbrev pub IsOfSchema : Schema → File → Type 0
 IsOfSchema s file =
-    (file.columns ≡ s.columns) × (geo_of file.geo ≡ of_schema (text_at geo_key (texts_of s.metadata.entries))) × HasNoFooter file
+    (file.columns ≡ s.columns) × (geo_of file.geo ≡ of_schema (text_at geo_key (texts_of s.metadata.entries))) × HasNoElements file × HasNoBadLines file
 
--- what is read where a flatbuffer holds a schema: that of the schema, or how it is refused
-abbrev pub IsSchemaRead : Result (List ℕ) IpcFault → (List ℕ → Result (SchemaTree × ℕ) IpcFault) → Result File FileFault → Type 0
-IsSchemaRead found read (Ok file) = (s : Schema) × Meets found read (Ok s) × IsOfSchema s file
-IsSchemaRead found read (Err (Ipc error)) = Meets found read (Err error)
-IsSchemaRead found read (Err fault) = ⊥
+-- what is found of keys that stand several times in the metadata of columns, and of the schema, by their entries; nothing where these are not read
+abbrev pub IsRepeatedIn : List ColumnTree → Result SchemaEntries IpcError → List Finding → Type 0
+IsRepeatedIn cs (Ok e) fs = fs ≡ repeated_entries Field cs (entries_tree e)
+IsRepeatedIn cs (Err IpcOutOfMemory) fs = ⊥
+IsRepeatedIn cs (Err error) fs = fs ≡ []
+
+-- and where a flatbuffer holds the entries
+abbrev pub AreRepeated : Result (List ℕ) IpcFault → (List ℕ → Result (EntriesTree × ℕ) IpcFault) → List ColumnTree → List Finding → Type 0
+AreRepeated found entries cs fs = (read : Result SchemaEntries IpcError) × AreEntries found entries read × IsRepeatedIn cs read fs
+
+-- what is read where a flatbuffer holds a schema: that of the schema, with what is found of it; or how it is refused
+abbrev pub IsSchemaRead : Result (List ℕ) IpcFault → (List ℕ → Result (SchemaTree × ℕ) IpcFault) → (List ℕ → Result (EntriesTree × ℕ) IpcFault) → Result File FileFault → Type 0
+IsSchemaRead found read entries (Ok file) =
+    (s : Schema) × Meets found read (Ok s) × IsOfSchema s file × AreRepeated found entries (map column_tree file.columns.items) (map finding file.findings.items)
+IsSchemaRead found read entries (Err (Ipc error)) = Meets found read (Err error)
+IsSchemaRead found read entries (Err OutOfMemory) = ⊤
+IsSchemaRead found read entries (Err fault) = ⊥
 
 -- a refusal whose place is so many bytes further on; places stop at `usize::MAX`
 abbrev pub further : ℕ → IpcError → IpcError
@@ -84,7 +121,7 @@ footer_begin bytes (Err fault) = 0
 abbrev pub IsFooterRead : ℕ → List ℕ → Result File FileFault → Type 0
 IsFooterRead start bytes (Err (Ipc error)) =
     (inner : IpcError) × Meets (footer_in bytes) (schema_of_footer 61) (Err inner) × (error ≡ further (start + footer_begin bytes (footer_in bytes)) inner)
-IsFooterRead start bytes r = IsSchemaRead (footer_in bytes) (schema_of_footer 61) r
+IsFooterRead start bytes r = IsSchemaRead (footer_in bytes) (schema_of_footer 61) entries_of_footer r
 
 -- ---- Parquet files
 
@@ -100,6 +137,7 @@ footer_columns file = record { columns = file.columns; elements = file.elements;
 abbrev pub IsParquetRead : Result (List ℕ) SchemaError → Result File FileFault → Type 0
 IsParquetRead footer (Ok file) =
     parquet.IsFileRead footer (Ok (footer_columns file)) × parquet.AreTextsRead footer (map text_finding file.texts.items) × HasGeo footer (geo_of file.geo)
+    × HasNoBadLines file
 IsParquetRead footer (Err (ParquetFault error)) = parquet.IsFileRead footer (Err error)
 IsParquetRead footer (Err fault) = ⊥
 
@@ -108,7 +146,7 @@ IsParquetRead footer (Err fault) = ⊥
 -- what is read of the bytes of a file in that format
 abbrev pub IsFileRead : Form → List ℕ → Result File FileFault → Type 0
 IsFileRead ArrowFile bytes r = IsFooterRead 0 bytes r
-IsFileRead ArrowStream bytes r = IsSchemaRead (message_in bytes) (schema_of_message 61) r
+IsFileRead ArrowStream bytes r = IsSchemaRead (message_in bytes) (schema_of_message 61) entries_of_message r
 IsFileRead Parquet bytes r = IsParquetRead (parquet.footer_in bytes) r
 IsFileRead Lines bytes r = IsOfLines bytes r
 IsFileRead (Foreign foreign) bytes r = r ≡ Err (ForeignFault foreign)

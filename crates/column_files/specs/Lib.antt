@@ -2,6 +2,7 @@ pub mod Foreigns
 pub mod Forms
 pub mod Lines
 pub mod LineFaults
+pub mod LineItems
 pub mod ColumnLines
 pub mod Geo
 pub mod Files

@@ -1,5 +1,5 @@
 -- Why a line denotes no column.
-use Rattle.std.specs.Prelude.{◌≡◌, ◌==◌, ◌&&◌, ◌||◌, ℕ, Bool, true, false, not, List, [], ◌∷◌, ◌++◌, bytes_eq, map, Option, Some, None, option_and_then, is_some, Result, Ok, Err, IsSome, codes}
+use Rattle.std.specs.Prelude.{◌≡◌, ◌==◌, ◌&&◌, ◌||◌, ℕ, Bool, true, false, not, List, [], ◌∷◌, bytes_eq, Option, Some, None, option_and_then, is_some, Result, Ok, Err, IsSome, codes}
 use Rattle.std.specs.Str.{IsUtf8}
 use Rattle.std.specs.Str.Lossy.{utf8_valid_len}
 use Rattle.serde_json.specs.Data.{Data, object, Members}
@@ -11,7 +11,7 @@ use Rattle.arrow_columns.specs.declared.column.SchemaColumn.{SchemaColumn}
 use Rattle.field_lines.specs.FieldOfValue.{under, type_in, metadata_of_value}
 use Rattle.field_lines.specs.ColumnOfValue.{other_of_value, value_of_line, column_of_line}
 use Rattle.column_files.specs.Forms.{behind_blanks}
-use Rattle.column_files.specs.Lines.{is_blank, FirstLine, Denote}
+use Rattle.column_files.specs.Lines.{is_blank}
 use Rattle.column_files.specs.declared.line.LineFault.{LineFault}
 use Rattle.column_files.specs.declared.line.LineFault.TheVariants.{NotUtf8, NotJson, OpenObject, OpenArray, NotObject, GeoJson, Name, Nullable, Metadata, TypeUnknown}
 
@@ -85,13 +85,3 @@ IsLineFault line fault = (d : Data) × (value_of_line line ≡ Some d) × IsValu
 abbrev pub IsLineRead : Text → Result SchemaColumn LineFault → Type 0
 IsLineRead line (Ok column) = column_of_line line ≡ Some (column_tree column)
 IsLineRead line (Err fault) = (column_of_line line ≡ None) × IsLineFault line fault
-
--- the first line of the text is not blank and denotes no column, and why
-abbrev pub DenotesNone : List ℕ → LineFault → Type 0
-DenotesNone text fault =
-    (line : List ℕ) × (rest : List ℕ) × FirstLine text line rest × (is_blank line ≡ false) × (column_of_line line ≡ None) × IsLineFault line fault
-
--- what a line adds to the columns before it: its own, or none where it is blank; or why it denotes none; for private clauses
-abbrev pub IsLineAdded : List ℕ → List SchemaColumn → List SchemaColumn → Option LineFault → Type 0
-IsLineAdded line old new None = (cs : List SchemaColumn) × (new ≡ old ++ cs) × Denote (line ∷ []) (map column_tree cs)
-IsLineAdded line old new (Some fault) = (new ≡ old) × (is_blank line ≡ false) × IsLineRead line (Err fault)

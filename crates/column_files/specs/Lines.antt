@@ -1,9 +1,7 @@
--- The columns that lines denote, each of them a field, or a column of another type (field_lines, `specs/ColumnOfValue`).
-use Rattle.std.specs.Prelude.{◌≡◌, ◌≢◌, ◌+◌, ℕ, Bool, not, ◌||◌, ◌==◌, List, [], ◌∷◌, map, take, drop, Option, Some, MatchOption}
-use Rattle.std.specs.List.{filter, list_all}
+-- The lines of a text, one after another.
+use Rattle.std.specs.Prelude.{◌≡◌, ◌≢◌, ◌+◌, ℕ, Bool, ◌||◌, ◌==◌, List, [], ◌∷◌, take, drop, Option, MatchOption}
+use Rattle.std.specs.List.{list_all}
 use Rattle.memchr.specs.Find.{is_byte, IsFirstByte}
-use Rattle.arrow_columns.specs.Column.{ColumnTree}
-use Rattle.field_lines.specs.ColumnOfValue.{column_of_line}
 
 -- the byte that ends a line
 abbrev pub line_feed : ℕ
@@ -26,10 +24,3 @@ is_blank_byte byte = (byte == 32) || ((byte == 9) || (byte == 13))
 
 abbrev pub is_blank : List ℕ → Bool
 is_blank line = list_all is_blank_byte line
-
-abbrev pub is_filled : List ℕ → Bool
-is_filled line = not (is_blank line)
-
--- the lines that are not blank denote these columns, in order
-abbrev pub Denote : List (List ℕ) → List ColumnTree → Type 0
-Denote lines cs = map column_of_line (filter is_filled lines) ≡ map Some cs

@@ -1,17 +1,17 @@
 -- What is read of a source: its lines one after another, and the bytes that hold its schema.
-use Rattle.std.specs.Prelude.{◌≡◌, ◌≢◌, ℕ, ◌+◌, ◌-◌, ◌≤◌, ◌⊎◌, ◌↔◌, min, Bool, true, false, List, [], ◌∷◌, ◌++◌, length, take, drop, Option, Some, None, IfSome, Result, Ok, Err, ⊤}
+use Rattle.std.specs.Prelude.{◌≡◌, ◌≢◌, ℕ, ◌+◌, ◌-◌, ◌≤◌, ◌⊎◌, ◌↔◌, min, Bool, true, false, List, [], ◌∷◌, ◌++◌, length, drop, Option, Some, None, IfSome, Result, Ok, Err, ⊤}
 use Rattle.std.specs.List.{All}
 use Rattle.std.specs.Io.KnownBytes.{Consumes, IsAtEnd, prepend_known}
 use Rattle.std.specs.IoError.{error_kind}
 use Rattle.std.specs.declared.io.ErrorKind.TheVariants.{Interrupted}
 use Rattle.line_reader.specs.Lines.{max_line_bytes, max_count, held, passed as passed_lines, HasNoFeed, IsLong}
 use Rattle.line_reader.specs.Sources.{GivesUpTo}
-use Rattle.arrow_columns.specs.Column.{ColumnTree, column_tree}
+use Rattle.arrow_columns.specs.Column.{column_tree}
 use Rattle.arrow_columns.specs.declared.column.SchemaColumn.{SchemaColumn}
 use Rattle.column_files.specs.Forms.{head_bytes}
-use Rattle.column_files.specs.Lines.{LinesTo, Denote}
-use Rattle.column_files.specs.LineFaults.{DenotesNone}
-use Rattle.column_files.specs.Files.{IsFileRead, size_in, HasFooter}
+use Rattle.column_files.specs.Lines.{LinesTo}
+use Rattle.column_files.specs.LineItems.{LineItem, AreItems}
+use Rattle.column_files.specs.Files.{bad_line, IsFileRead, size_in, HasFooter}
 use Rattle.column_files.specs.declared.form.Form.{Form}
 use Rattle.column_files.specs.declared.form.Form.TheVariants.{ArrowFile, ArrowStream, Parquet, Foreign}
 use Rattle.column_files.specs.declared.columns.FileFault.{FileFault}
@@ -27,12 +27,12 @@ use Rattle.column_files.specs.declared.opening.File.{File as OpenedFile}
 abbrev pub ahead : {R : Type 0} → LineColumns R → List ℕ
 ahead r = held r.lines
 
--- how many lines are passed, blank ones too, which stops at the greatest `usize`; and whether one of them denotes a column
+-- how many lines are passed, blank ones too, which stops at the greatest `usize`; and whether one of them is not blank
 abbrev pub passed : {R : Type 0} → LineColumns R → ℕ
 passed r = passed_lines r.lines
 
-abbrev pub has_column : {R : Type 0} → LineColumns R → Bool
-has_column r = r.has_column
+abbrev pub has_item : {R : Type 0} → LineColumns R → Bool
+has_item r = r.has_item
 
 -- the text whose lines are left, where the bytes of the source are known
 abbrev pub text_left : {R : Type 0} → (R → Option (List ℕ)) → LineColumns R → Option (List ℕ)
@@ -44,33 +44,35 @@ Goes Step None rest = ⊤
 Goes Step (Some text) None = ⊥
 Goes Step (Some text) (Some rest) = Step text rest
 
--- the columns that a call answers: one, or none
-abbrev pub answered : Result (Option SchemaColumn) ReadFault → List ColumnTree
-answered (Ok (Some column)) = column_tree column ∷ []
+-- what a call answers of a line: its column, or that it is bad, and why
+abbrev pub answered : Result (Option SchemaColumn) ReadFault → List LineItem
+answered (Ok (Some column)) = Ok (column_tree column) ∷ []
+answered (Err (File (NoField n fault))) = Err (bad_line n fault) ∷ []
 answered r = []
 
--- what a call passes that leaves the known text old as new, after n lines and then after m: lines, none of them too long, that denote the columns answered
-abbrev pub PassesLines : ℕ → ℕ → Option (List ℕ) → Option (List ℕ) → List ColumnTree → Type 0
-PassesLines n m old new cs =
-    (lines : List (List ℕ)) × (m ≡ min (n + length lines) max_count) × All (λ line. length line ≤ max_line_bytes) lines × Denote lines cs
+-- what a call passes that leaves the known text old as new, after n lines and then after m: lines, none of them too long, that give the items answered
+abbrev pub PassesLines : ℕ → ℕ → Option (List ℕ) → Option (List ℕ) → List LineItem → Type 0
+PassesLines n m old new items =
+    (lines : List (List ℕ)) × (m ≡ min (n + length lines) max_count) × All (λ line. length line ≤ max_line_bytes) lines × AreItems n lines items
     × Goes (λ text rest. LinesTo text lines rest) old new
 
--- what a call answers behind m lines, with the known text left, and of that `held` at hand: the last line's column; that no text is left, where a line had a
--- column, else that there is none; or why the next line, which is not blank, has no column
+-- what a call answers behind m lines, with the known text left, and of that `held` at hand: what the last of these lines is, a column or a bad line; that no
+-- text is left, where a line was not blank, else that there is none; or why the next line is not read
 abbrev pub IsNext : ℕ → Bool → Option (List ℕ) → List ℕ → Result (Option SchemaColumn) ReadFault → Type 0
 IsNext m some left held (Ok (Some column)) = ⊤
 IsNext m some left held (Ok None) = (some ≡ true) × IsAtEnd left
 IsNext m some left held (Err (LongLine k)) = (k ≡ m) × IfSome left IsLong
-IsNext m some left held (Err (File (NoField k fault))) = (k ≡ m) × IfSome left (λ text. ¬ IsLong text × DenotesNone text fault)
+IsNext m some left held (Err (File (NoField k fault))) = ⊤
 IsNext m some left held (Err (File Empty)) = (some ≡ false) × IsAtEnd left
 IsNext m some left held (Err (File OutOfMemory)) = ⊤
 IsNext m some left held (Err (File fault)) = ⊥
 IsNext m some left held (Err (Input error)) = HasNoFeed held × (error_kind error ≢ Interrupted)
 
--- whether a call answers a column
-abbrev pub is_column : Result (Option SchemaColumn) ReadFault → Bool
-is_column (Ok (Some column)) = true
-is_column r = false
+-- whether a call answers a column or a bad line
+abbrev pub is_item : Result (Option SchemaColumn) ReadFault → Bool
+is_item (Ok (Some column)) = true
+is_item (Err (File (NoField n fault))) = true
+is_item r = false
 
 -- ---- schemas
 

@@ -1,25 +1,28 @@
 //! What is read of a file, or why nothing is.
-ghost use Rattle.std.specs.Prelude.{◌≡◌, ◌+◌, ℕ, List, Result, IfOk};
-ghost use Rattle.arrow_ipc.specs.Schema.{SchemaTree, Meets, footer_in, schema_of_footer};
-ghost use Rattle.arrow_ipc.specs.declared.fault.IpcFault.{IpcFault};
-ghost use Rattle.column_files.specs.Files.{IsFooterRead, IsSchemaRead, AreLinesRead, IsOfLines};
-ghost use Rattle.column_files.specs.Files.{further, footer_begin, IsOfSchema};
+ghost use Rattle.std.specs.Prelude.{◌≡◌, ◌+◌, ℕ, List, IfOk, map};
+ghost use Rattle.arrow_columns.specs.Column.{column_tree};
+ghost use Rattle.arrow_ipc.specs.Entries.{entries_of_message};
+ghost use Rattle.arrow_ipc.specs.Schema.{Meets, footer_in, message_in, schema_of_footer, schema_of_message};
+ghost use Rattle.parquet_columns.specs.Findings.{finding};
+ghost use Rattle.column_files.specs.Files.{IsFooterRead, IsSchemaRead, AreAllRead, IsOfLines};
+ghost use Rattle.column_files.specs.Files.{further, footer_begin, IsOfSchema, IsRepeatedIn};
 
+use crate::bad_lines::BadLines;
 use crate::foreign::Foreign;
 use crate::form::Form;
 use crate::geo::{GeoText, take_geo};
 use crate::line::LineFault;
+use crate::lines::LinesRead;
 use crate::opening::File;
-use arrow_columns::SchemaColumn;
-use arrow_ipc::{IpcError, IpcFault, Schema};
-use parquet_columns::SchemaError;
+use arrow_ipc::{IpcError, IpcFault, Schema, SchemaEntries, read_entries, read_file_entries};
+use parquet_columns::{FileFinding, FilePart, SchemaError, repeated_entries};
 use std::alloc::{AllocError, AllocFailed, Global};
 
 /// Why the columns of a file are not read.
 #[derive(Debug, Clone, Copy, PartialEq, Eq)]
 pub enum FileFault {
     /// Behind so many lines, blank ones too, stands one that is not blank and denotes no column,
-    /// for this reason.
+    /// for this reason. It refuses a file only where it is the first that is not blank.
     NoField(usize, LineFault),
     /// The file has no bytes, or blank lines alone.
     Empty,
@@ -58,19 +61,20 @@ impl<T: Drop> From<AllocFailed<T>> for FileFault {
     }
 }
 
-/// What is read of a file of lines, whose columns are read.
+/// What is read of a file of lines, whose columns and bad lines are read.
 pub(crate) fn file_of_lines<'a>(
     alloc: Global,
-    read: Result<Vec<SchemaColumn>, FileFault>,
+    read: Result<LinesRead, FileFault>,
 ) -> Result<File<'a>, FileFault>
     ensures form { IfOk result (λ file. file.form ≡ Form.Lines) }
-    ensures is { (text : List ℕ) → AreLinesRead text read → IsOfLines text result }
+    ensures is { (text : List ℕ) → AreAllRead text read → IsOfLines text result }
 {
     match read {
-        Ok(columns) if columns.is_empty() => Err(FileFault::Empty),
-        Ok(columns) => Ok(File {
+        Ok(read) if read.is_empty() => Err(FileFault::Empty),
+        Ok(LinesRead { columns, bad_lines }) => Ok(File {
             form: Form::Lines,
             columns,
+            bad_lines,
             elements: Vec::new(alloc),
             findings: Vec::new(alloc),
             texts: Vec::new(alloc),
@@ -93,7 +97,10 @@ pub(crate) fn file_of_footer<'a>(
     ensures is { IsFooterRead start bytes.now result }
 {
     match read {
-        Ok(schema) => Ok(file_of_schema(alloc, Form::ArrowFile, schema)),
+        Ok(schema) => {
+            let found = repeated_in(alloc, &schema, read_file_entries(alloc, bytes))?;
+            Ok(file_of_schema(alloc, Form::ArrowFile, schema, found))
+        }
         Err(error) => Err(FileFault::Ipc(further(
             error,
             start.saturating_add(footer_begin(bytes)),
@@ -140,21 +147,49 @@ fn footer_begin(bytes: &[u8]) -> usize
 pub(crate) fn file_of_message<'a>(
     alloc: Global,
     read: Result<Schema, IpcError>,
+    stream: &[u8],
 ) -> Result<File<'a>, FileFault>
+    requires { Meets (message_in stream.now) (schema_of_message 61) read }
     ensures form { IfOk result (λ file. file.form ≡ Form.ArrowStream) }
-    ensures is { (found : Result (List ℕ) IpcFault) (reads : List ℕ → Result (SchemaTree × ℕ) IpcFault)
-        → Meets found reads read → IsSchemaRead found reads result }
+    ensures is { IsSchemaRead (message_in stream.now) (schema_of_message 61) entries_of_message result }
 {
     match read {
-        Ok(schema) => Ok(file_of_schema(alloc, Form::ArrowStream, schema)),
+        Ok(schema) => {
+            let found = repeated_in(alloc, &schema, read_entries(alloc, stream))?;
+            Ok(file_of_schema(alloc, Form::ArrowStream, schema, found))
+        }
         Err(error) => Err(FileFault::Ipc(error)),
     }
 }
 
-/// The file in that format of a schema.
-fn file_of_schema<'a>(alloc: Global, form: Form, schema: Schema) -> File<'a>
+/// What is found of keys that stand several times among the entries of metadata of a schema, by what
+/// is read of these; nothing where they are not read. Errs only when out of memory.
+fn repeated_in(
+    alloc: Global,
+    schema: &Schema,
+    read: Result<SchemaEntries<'_>, IpcError>,
+) -> Result<Vec<FileFinding>, AllocError>
+    ensures { IfOk result (λ found. IsRepeatedIn (map column_tree schema.now.columns.items) read.entry (map finding found.items)) }
+{
+    match read {
+        Ok(entries) => {
+            repeated_entries(alloc, FilePart::Field, schema.columns.as_slice(), &entries)
+        }
+        Err(IpcError::Broken(_) | IpcError::Budget(_)) => Ok(Vec::new(alloc)),
+        Err(IpcError::OutOfMemory) => Err(AllocError),
+    }
+}
+
+/// The file in that format of a schema, of which that is found.
+fn file_of_schema<'a>(
+    alloc: Global,
+    form: Form,
+    schema: Schema,
+    found: Vec<FileFinding>,
+) -> File<'a>
     ensures form { result.form ≡ form }
     ensures is { IsOfSchema schema result }
+    ensures found { result.findings ≡ found }
 {
     let Schema {
         columns,
@@ -166,8 +201,9 @@ fn file_of_schema<'a>(alloc: Global, form: Form, schema: Schema) -> File<'a>
     File {
         form,
         columns,
+        bad_lines: BadLines::new(alloc),
         elements: Vec::new(alloc),
-        findings: Vec::new(alloc),
+        findings: found,
         texts: Vec::new(alloc),
         geo,
     }

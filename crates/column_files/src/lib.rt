@@ -1,6 +1,7 @@
 //! The columns of a file, whichever of the formats it is in: an Arrow or Parquet file, an Arrow stream, or lines of fields.
 #![tactic(auto)]
 
+mod bad_lines;
 mod columns;
 mod fault;
 mod foreign;
@@ -14,6 +15,7 @@ mod reading;
 mod refusal;
 mod schema_bytes;
 
+pub use bad_lines::{BadLine, BadLines, MAX_BAD_LINES};
 pub use columns::FileFault;
 pub use fault::ReadFault;
 pub use foreign::Foreign;
@@ -24,5 +26,5 @@ pub use line_reader::MAX_LINE_BYTES;
 pub use lines::columns_of_lines;
 pub use opening::{File, open, open_end};
 pub use reading::LineColumns;
-pub use refusal::{Fault, Place, fault_of, long_line, write_fault};
+pub use refusal::{Fault, Place, bad_line_fault, fault_of, long_line, write_fault};
 pub use schema_bytes::{FileEnd, read_head, read_schema_bytes, read_schema_end};

@@ -7,6 +7,7 @@ ghost use Rattle.arrow_columns.specs.Column.{column_tree};
 ghost use Rattle.field_lines.specs.FieldOfValue.{texts_in, metadata_of_value};
 ghost use Rattle.field_lines.specs.ColumnOfValue.{column_of_value, column_of_line};
 ghost use Rattle.column_files.specs.ColumnLines.{line_of_column, FitsLine};
+ghost use Rattle.column_files.specs.LineItems.{refuses_file};
 ghost use Rattle.column_files.specs.LineFaults.{IsLineRead, IsLineFault, IsJsonFault, is_lone, IsValueFault, IsKeyFault, is_geojson, is_geojson_type};
 
 use crate::form::behind_blanks;
@@ -44,6 +45,19 @@ pub enum LineFault {
     Metadata,
     /// There is no type at the key `type`.
     TypeUnknown,
+}
+
+impl LineFault {
+    /// Whether a file is refused whose first line that is not blank has this fault
+    /// (docs/FORMAT.md, 2.7).
+    pub fn refuses_file(self) -> bool
+        ensures { result ≡ refuses_file self }
+    {
+        matches!(
+            self,
+            LineFault::OpenObject(_) | LineFault::OpenArray(_) | LineFault::GeoJson
+        )
+    }
 }
 
 /// The column that a line denotes: of a field (docs/FORMAT.md, 2.1), or of another type (2.7); or why it denotes none. The line is the

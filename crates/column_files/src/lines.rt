@@ -1,9 +1,10 @@
-//! The columns of lines.
-ghost use Rattle.std.specs.Prelude.{◌≡◌, ◌≢◌, [], ◌<◌, length, IfOk};
+//! The columns and the bad lines of a text.
+ghost use Rattle.std.specs.Prelude.{◌≡◌, ◌≢◌, ◌⊎◌, [], ◌<◌, length, IfOk, MatchBool};
 ghost use Rattle.column_files.specs.Lines.{FirstLine, is_blank};
-ghost use Rattle.column_files.specs.LineFaults.{IsLineAdded};
-ghost use Rattle.column_files.specs.Files.{AreLinesRead, AreUnmarkedRead};
+ghost use Rattle.column_files.specs.LineItems.{IsLineAdded};
+ghost use Rattle.column_files.specs.Files.{AreLinesRead, AreAllRead, AreUnmarkedRead};
 
+use crate::bad_lines::{BadLine, BadLines};
 use crate::columns::FileFault;
 use crate::form::unmarked;
 use crate::line::{LineFault, parse_column_line};
@@ -12,10 +13,29 @@ use json::Scratch;
 use memchr::memchr;
 use std::alloc::{AllocError, Global};
 
+/// What is read of lines.
+#[derive(Debug, Drop)]
+pub(crate) struct LinesRead {
+    /// The columns that they denote.
+    pub(crate) columns: Vec<SchemaColumn>,
+    /// The lines that are not blank and denote none.
+    pub(crate) bad_lines: BadLines,
+}
+
+impl LinesRead {
+    /// Whether no line gave anything.
+    pub(crate) fn is_empty(&self) -> bool
+        ensures { MatchBool result ((self.now.columns.items ≡ []) × (self.now.bad_lines.first.items ≡ []))
+            ((self.now.columns.items ≢ []) ⊎ (self.now.bad_lines.first.items ≢ [])) }
+    {
+        self.columns.is_empty() && self.bad_lines.is_empty()
+    }
+}
+
 /// Returns the columns that the lines of a text denote (docs/FORMAT.md, 2.7); no columns where
 /// there are no lines, or blank ones alone. A byte order mark before them is passed over. Errs with
-/// `NoField` at the first line that is not blank and denotes no column, with how many lines stand
-/// before it, and why; and when out of memory.
+/// `NoField` where a line that is not blank denotes no column: of the first of these, with how many
+/// lines stand before it, and why; and when out of memory.
 ///
 /// ```rust
 /// let columns = columns_of_lines(alloc, b" \n");
@@ -26,47 +46,72 @@ use std::alloc::{AllocError, Global};
 pub fn columns_of_lines(alloc: Global, text: &[u8]) -> Result<Vec<SchemaColumn>, FileFault>
     ensures { AreLinesRead text.now result }
 {
-    columns_of_unmarked(alloc, unmarked(text))
+    match read_lines(alloc, text) {
+        Ok(LinesRead { columns, bad_lines }) => match bad_lines.first.as_slice() {
+            [bad, ..] => Err(FileFault::NoField(bad.before, bad.fault)),
+            [] => Ok(columns),
+        },
+        Err(fault) => Err(fault),
+    }
 }
 
-/// Returns what [`columns_of_lines`] does of a text behind its byte order mark.
-fn columns_of_unmarked(alloc: Global, text: &[u8]) -> Result<Vec<SchemaColumn>, FileFault>
+/// Returns what the lines of a text give: the columns and the bad lines. A byte order mark before
+/// them is passed over. Errs with `NoField` where the first line that is not blank refuses the file,
+/// and when out of memory.
+pub(crate) fn read_lines(alloc: Global, text: &[u8]) -> Result<LinesRead, FileFault>
+    ensures { AreAllRead text.now result }
+{
+    read_unmarked(alloc, unmarked(text))
+}
+
+/// Returns what [`read_lines`] does of a text behind its byte order mark.
+fn read_unmarked(alloc: Global, text: &[u8]) -> Result<LinesRead, FileFault>
     ensures { AreUnmarkedRead text.now result }
 {
-    let mut columns = Vec::new(alloc);
+    let mut read = LinesRead {
+        columns: Vec::new(alloc),
+        bad_lines: BadLines::new(alloc),
+    };
     let mut scratch = Scratch::new(alloc);
     let mut rest = text;
     let mut count = 0;
     while !rest.is_empty() {
         let (line, behind) = first_line(rest);
-        if let Some(fault) = add_column(alloc, line, &mut scratch, &mut columns)? {
+        if let Some(fault) = add_line(alloc, line, count, &mut scratch, &mut read)? {
             return Err(FileFault::NoField(count, fault));
         }
         rest = behind;
         count += 1;
     }
-    Ok(columns)
+    Ok(read)
 }
 
-/// Adds the column that a line denotes to those before it, or says why it denotes none. A blank
-/// line adds nothing.
-fn add_column(
+/// Adds what a line gives, before which so many stand, to what is read of these; or says why it
+/// refuses the file.
+fn add_line(
     alloc: Global,
     line: &[u8],
+    before: usize,
     scratch: &mut Scratch,
-    columns: &mut Vec<SchemaColumn>,
+    read: &mut LinesRead,
 ) -> Result<Option<LineFault>, AllocError>
-    ensures { IfOk result (IsLineAdded line.now columns.old.items columns.new.items) }
+    ensures { IfOk result (IsLineAdded before line.now read.old read.new) }
 {
     if is_blank(line) {
         return Ok(None);
     }
     match parse_column_line(alloc, line, scratch)? {
         Ok(column) => {
-            columns.push(column)?;
+            read.columns.push(column)?;
             Ok(None)
         }
-        Err(fault) => Ok(Some(fault)),
+        Err(fault) => {
+            if fault.refuses_file() && read.is_empty() {
+                return Ok(Some(fault));
+            }
+            read.bad_lines.add(BadLine { before, fault })?;
+            Ok(None)
+        }
     }
 }
 

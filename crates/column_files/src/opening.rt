@@ -3,10 +3,11 @@ ghost use Rattle.std.specs.Prelude.{◌≡◌, IfOk};
 ghost use Rattle.parquet_columns.specs.Reads.{footer_in};
 ghost use Rattle.column_files.specs.Files.{IsOpened, IsEndOpened, IsParquetRead};
 
+use crate::bad_lines::BadLines;
 use crate::columns::{FileFault, file_of_footer, file_of_lines, file_of_message};
 use crate::form::{Form, form_of};
 use crate::geo::{GEO_KEY, GeoText, geo_of_footer};
-use crate::lines::columns_of_lines;
+use crate::lines::read_lines;
 use arrow_columns::SchemaColumn;
 use arrow_ipc::{read_file_footer, read_schema};
 use parquet_columns::{ElementClaim, FileFinding, read_file};
@@ -20,11 +21,13 @@ pub struct File<'a> {
     pub form: Form,
     /// Its columns.
     pub columns: Vec<SchemaColumn>,
+    /// Of lines, those that are not blank and denote no column (docs/FORMAT.md, 2.7); else none.
+    pub bad_lines: BadLines,
     /// Of a Parquet file, what the elements say beside its columns (docs/FORMAT.md, 4.6), one claim
     /// for each; else none.
     pub elements: Vec<ElementClaim>,
-    /// Of a Parquet file, what is found of `ARROW:schema` and of repeated keys (docs/FORMAT.md, 4.5);
-    /// else nothing.
+    /// What is found of `ARROW:schema`, of elements and of repeated keys (docs/FORMAT.md, 4.5): of an
+    /// Arrow file or stream of the latter alone, and of lines nothing.
     pub findings: Vec<FileFinding>,
     /// Of a Parquet file, names, keys and values that are not UTF-8 (docs/FORMAT.md, 4.3); else
     /// nothing.
@@ -35,11 +38,11 @@ pub struct File<'a> {
 
 /// Opens a file by its bytes, whose first tell the format (docs/FORMAT.md, 2.7). The columns are of
 /// an Arrow file or stream those of its schema, of a Parquet file those of its footer, and of lines
-/// a column for each that is not blank. Of a stream only the first message is looked at, so these
+/// a column for each that denotes one; the others that are not blank are its bad lines. Of a stream only the first message is looked at, so these
 /// bytes alone may be given; of an Arrow or Parquet file only the end is, which [`open_end`] takes.
 ///
-/// Errs with `NoField` at the first line that is not blank and denotes no column, with how many
-/// lines stand before it, and why; with `Empty` where lines have no column at all; with `Foreign`
+/// Errs with `NoField` where the first line that is not blank is `{` or `[` alone, or GeoJSON, with
+/// how many lines stand before it, and why; with `Empty` where all lines are blank; with `Foreign`
 /// where the first bytes tell a format that is not read, and which; with `Ipc` as
 /// `read_schema` and `read_file_footer` of `arrow_ipc` do, which say the rule that is broken, and
 /// the byte, of an Arrow file that of the file; with `Parquet` as `read_file` of `parquet_columns`
@@ -49,8 +52,10 @@ pub struct File<'a> {
 /// let file = open(alloc, br#"{"name":"a","nullable":true,"type":"int64"}"#);
 /// assert!(rt; matches!(file, Ok(file) if file.columns.len() == 1));
 /// assert!(rt; matches!(open(alloc, b" \n"), Err(FileFault::Empty)));
-/// let refused = open(alloc, b"\n{]\n");
-/// assert!(rt; matches!(refused, Err(FileFault::NoField(1, LineFault::NotJson(_)))));
+/// let file = open(alloc, b"\n{]\n");
+/// assert!(rt; matches!(file, Ok(file) if file.bad_lines.first.len() == 1));
+/// let refused = open(alloc, b"\n{\n");
+/// assert!(rt; matches!(refused, Err(FileFault::NoField(1, LineFault::OpenObject(_)))));
 /// ```
 pub fn open<'a>(alloc: Global, bytes: &'a [u8]) -> Result<File<'a>, FileFault>
     ensures { IsOpened bytes.now result }
@@ -80,9 +85,9 @@ pub fn open_end<'a>(
             let read = read_file_footer(alloc, end);
             file_of_footer(alloc, read, start as usize, end)
         }
-        Form::ArrowStream => file_of_message(alloc, read_schema(alloc, end)),
+        Form::ArrowStream => file_of_message(alloc, read_schema(alloc, end), end),
         Form::Parquet => open_parquet(alloc, end),
-        Form::Lines => file_of_lines(alloc, columns_of_lines(alloc, end)),
+        Form::Lines => file_of_lines(alloc, read_lines(alloc, end)),
         Form::Foreign(foreign) => Err(FileFault::Foreign(foreign)),
     }
 }
@@ -96,6 +101,7 @@ fn open_parquet<'a>(alloc: Global, end: &'a [u8]) -> Result<File<'a>, FileFault>
         Ok(read) => Ok(File {
             form: Form::Parquet,
             columns: read.columns,
+            bad_lines: BadLines::new(alloc),
             elements: read.elements,
             findings: read.findings,
             texts: read.texts,

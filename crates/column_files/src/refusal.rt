@@ -7,6 +7,7 @@ ghost use Rattle.column_files.specs.Refusals.{behind, line_place, byte_place, me
 ghost use Rattle.column_files.specs.Refusals.{fault_place, write_place, long_line_code, long_line_message};
 ghost use Rattle.arrow_ipc.specs.Rules.{write_code, write_message};
 
+use crate::bad_lines::BadLine;
 use crate::columns::FileFault;
 use crate::form::Form;
 use crate::line::LineFault;
@@ -208,6 +209,23 @@ pub fn fault_of(form: Form, fault: FileFault) -> Fault
         found: fault.found(),
         help: fault.help(),
     }
+}
+
+/// Returns the fault of a bad line. Allocates nothing.
+///
+/// ```rust
+/// let fault = bad_line_fault(BadLine { before: 1, fault: LineFault::NotObject });
+/// assert_eq!(rt; fault.code, "LineNotObject");
+/// assert_eq!(rt; fault.place, Place::Line(2));
+/// ```
+pub fn bad_line_fault(bad: BadLine) -> Fault
+    ensures code { result.code.now ≡ line_code bad.fault }
+    ensures message { result.message.now ≡ line_message bad.fault }
+    ensures place { result.place ≡ line_place (behind bad.before) bad.fault }
+    ensures found { text_of result.found ≡ line_found bad.fault }
+    ensures help { text_of result.help ≡ line_help bad.fault }
+{
+    fault_of(Form::Lines, FileFault::NoField(bad.before, bad.fault))
 }
 
 /// Returns the fault of a line of a source that has more bytes than [`crate::MAX_LINE_BYTES`],

@@ -2,6 +2,9 @@
 use Rattle.std.specs.Prelude.{◌≡◌, Bool, true, List}
 use Rattle.arrow_columns.specs.Column.{ColumnTree, column_tree}
 use Rattle.column_check.specs.Finding.{IsFinding}
+use Rattle.column_check.specs.declared.finding.Finding.{Finding}
+use Rattle.column_check.specs.declared.finding.Finding.TheVariants.{Invalid}
+use Rattle.column_check.specs.declared.finding.Reasons.TheVariants.{Unread}
 use Rattle.column_check.specs.Warnings.{AreWarnings}
 use Rattle.column_check.specs.declared.warning.Warning.{Warning}
 use Rattle.geoparquet.specs.Facts.{facts_view}
@@ -9,13 +12,20 @@ use Rattle.column_reports.specs.Gathered.{of_warnings}
 use Rattle.column_reports.specs.Named.{Known}
 use Rattle.column_reports.specs.Weighed.{weighed}
 use Rattle.column_reports.specs.Weights.{Weighing}
+use Rattle.column_reports.specs.declared.named.NamedBy.{NamedBy}
+use Rattle.column_reports.specs.declared.named.NamedBy.TheVariants.{Nobody}
 use Rattle.column_reports.specs.declared.report.ColumnReport.{ColumnReport}
+
+-- what is said of a column whose name is by that: of one that is not read, that a finding of the file says why
+abbrev pub IsFoundBy : NamedBy → Bool → ColumnTree → Finding → Type 0
+IsFoundBy Nobody infer c f = f ≡ Invalid Unread
+IsFoundBy by infer c f = IsFinding infer c f
 
 -- the report of a column of which that is known, where types are inferred or not and that is asked of findings: the column itself, what is said of it,
 -- its facts, and those of what is found of it that are told and shown
 pub record IsColumnReport (infer : Bool) (w : Weighing) (c : ColumnTree) (k : Known) (r : ColumnReport) : Type 0 where
   pub column : column_tree r.column ≡ c
-  pub finding : IsFinding infer c r.finding
+  pub finding : IsFoundBy k.by infer c r.finding
   pub facts : facts_view r.facts ≡ k.facts
   pub warnings : List Warning
   pub are : AreWarnings true c r.finding warnings

@@ -1,11 +1,17 @@
 -- Why a file is refused, as one JSON value and in words (docs/FORMAT.md, 2.8).
-use Rattle.std.specs.Prelude.{ℕ, List, ◌++◌, codes, decimal, Option, None, Some}
+use Rattle.std.specs.Prelude.{ℕ, ◌-◌, List, ◌++◌, codes, decimal, drop, flat_map, length, take, Option, None, Some}
 use Rattle.json.specs.Json.{Json}
+use Rattle.json.specs.Print.{print}
+use Rattle.json.specs.Tree.{json_tokens}
 use Rattle.arrow_values.specs.Tree.{Text}
 use Rattle.arrow_values.specs.Texts.{text_of}
+use Rattle.column_files.specs.Refusals.{behind, line_code, line_message, line_place, line_found, line_help}
+use Rattle.column_files.specs.declared.bad_lines.BadLine.{BadLine}
+use Rattle.column_files.specs.declared.bad_lines.BadLines.{BadLines}
 use Rattle.column_files.specs.declared.refusal.Fault.{Fault}
 use Rattle.column_files.specs.declared.refusal.Place.{Place}
 use Rattle.column_files.specs.declared.refusal.Place.TheVariants.{File, Line, LineByte, Byte, MessageByte, FooterByte, Element, Column}
+use Rattle.column_reports.specs.FindingLines.{more_if}
 use Rattle.column_reports.specs.Objects.{object_of, string_if, number_if}
 
 -- the numbers of a place
@@ -60,25 +66,72 @@ placed (Some place) said = place ++ (codes ": " ++ said)
 abbrev pub fault_text : Fault → Text
 fault_text fault = placed (place_text fault.place) (said_of fault)
 
--- the members, in the order of their keys
+-- what is told of a fault
+pub record Told : Type 0 where
+  pub code : Text
+  pub message : Text
+  pub place : Place
+  pub found : Option Text
+  pub help : Option Text
+
+abbrev pub told : Fault → Told
+told fault = record {
+  code = fault.code.now;
+  message = fault.message.now;
+  place = fault.place;
+  found = text_of fault.found;
+  help = text_of fault.help;
+}
+
+-- its members, in the order of their keys
 abbrev pub numbers_of : Place → List (Text × Json)
 numbers_of place =
     number_if (codes "byte") (byte_in place)
     ++ number_if (codes "column") (column_in place)
     ++ number_if (codes "element") (element_in place)
 
-abbrev pub words_of : Option Text → Fault → List (Text × Json)
-words_of file fault =
-    string_if (codes "error") (Some fault.code.now)
+abbrev pub words_of : Option Text → Told → List (Text × Json)
+words_of file t =
+    string_if (codes "error") (Some t.code)
     ++ string_if (codes "file") file
-    ++ string_if (codes "found") (text_of fault.found)
-    ++ string_if (codes "help") (text_of fault.help)
+    ++ string_if (codes "found") t.found
+    ++ string_if (codes "help") t.help
 
-abbrev pub message_of : Fault → List (Text × Json)
-message_of fault =
-    number_if (codes "line") (line_in fault.place)
-    ++ string_if (codes "message") (Some fault.message.now)
-    ++ string_if (codes "place") (place_text fault.place)
+abbrev pub message_of : ℕ → Told → List (Text × Json)
+message_of more t =
+    number_if (codes "line") (line_in t.place)
+    ++ string_if (codes "message") (Some t.message)
+    ++ more_if more
+    ++ string_if (codes "place") (place_text t.place)
+
+-- with how many more there are, if there are any
+abbrev pub told_report : Option Text → ℕ → Told → Json
+told_report file more t = object_of (numbers_of t.place ++ (words_of file t ++ message_of more t))
 
 abbrev pub fault_report : Option Text → Fault → Json
-fault_report file fault = object_of (numbers_of fault.place ++ (words_of file fault ++ message_of fault))
+fault_report file fault = told_report file 0 (told fault)
+
+-- ---- bad lines
+
+abbrev pub bad_told : BadLine → Told
+bad_told bad = record {
+  code = line_code bad.fault;
+  message = line_message bad.fault;
+  place = line_place (behind bad.before) bad.fault;
+  found = line_found bad.fault;
+  help = line_help bad.fault;
+}
+
+-- the line of a bad line, with its line feed, and those of some
+abbrev pub bad_text : Option Text → ℕ → BadLine → Text
+bad_text file more bad = print (json_tokens (told_report file more (bad_told bad))) ++ codes "\n"
+
+abbrev pub bad_texts : Option Text → ℕ → List BadLine → Text
+bad_texts file more bad = flat_map (bad_text file more) bad
+
+-- those of all that are kept, of which the last says how many more there are
+abbrev pub kept_text : Option Text → BadLines → Text
+kept_text file kept =
+    let bad = kept.first.items in
+    let others = length bad - 1 in
+    bad_texts file 0 (take others bad) ++ bad_texts file kept.more (drop others bad)

@@ -23,6 +23,7 @@ use Rattle.geoparquet.specs.declared.finding.GeoReport.{GeoReport}
 use Rattle.parquet_columns.specs.Budget.{budget}
 use Rattle.parquet_columns.specs.Claims.{claim}
 use Rattle.column_reports.specs.Columns.{IsColumnReport}
+use Rattle.column_reports.specs.Faults.{kept_text}
 use Rattle.column_reports.specs.FindingLines.{findings_text}
 use Rattle.column_reports.specs.Gathered.{of_file}
 use Rattle.column_reports.specs.Named.{Known, all_known, all_named_by}
@@ -62,7 +63,8 @@ pub record IsReport (infer : Bool) (w : Weighing) (opened : File) (r : FileRepor
   pub geo : GeoReport
   pub is_geo : AreGeoFindings (source_in opened.form opened.geo) (map column_tree opened.columns.items) (map claim opened.elements.items) geo.version (map finding geo.findings.items)
   pub findings : r.findings.items ≡ weighed w (of_file opened.texts.items opened.findings.items geo)
-  pub summary : IsSummary r.columns.items r.findings.items r.summary
+  pub bad_lines : r.bad_lines ≡ opened.bad_lines
+  pub summary : IsSummary r.columns.items r.findings.items r.bad_lines.first.items r.summary
 
 -- ---- as lines of JSON
 
@@ -74,9 +76,9 @@ abbrev pub lines_of : Option Text → ℕ → List ColumnReport → Text
 lines_of file index [] = []
 lines_of file index (r ∷ rs) = line_of file index r ++ lines_of file (index + 1) rs
 
--- the lines of a report: those of its columns, and those of what is found of the file
+-- the lines of a report: those of its columns, those of its bad lines, and those of what is found of the file
 abbrev pub report_text : Option Text → FileReport → Text
-report_text file r = lines_of file 0 r.columns.items ++ findings_text file r.findings.items
+report_text file r = lines_of file 0 r.columns.items ++ (kept_text file r.bad_lines ++ findings_text file r.findings.items)
 
 -- what a call answers of a text within a limit of bytes: the text; or that it has more, or that memory is lacking
 abbrev pub IsWithin : ℕ → Text → Result (String Global) FileFault → Type 0

@@ -1,26 +1,30 @@
 -- Who gives a column its extension name and metadata (docs/FORMAT.md, 2.6).
-use Rattle.std.specs.Prelude.{◌&&◌, ◌||◌, not, Bool, true, false, List, map, Option, None, Some, is_some}
+use Rattle.std.specs.Prelude.{◌&&◌, ◌||◌, not, Bool, true, false, List, map, Option, None, Some, is_some, if◌then◌else◌}
 use Rattle.std.specs.List.{zip}
 use Rattle.arrow_values.specs.Tree.{Text}
 use Rattle.arrow_columns.specs.Column.{ColumnTree, name_on}
 use Rattle.parquet_columns.specs.Claims.{Claim, gives}
+use Rattle.parquet_columns.specs.Unreadable.{is_unreadable}
 use Rattle.geoparquet.specs.Sources.{with_elements}
 use Rattle.geoparquet.specs.Facts.{FactsOf, facts_alone}
-use Rattle.geoparquet.specs.declared.text_facts.EncodingFact.{EncodingFact}
 use Rattle.column_check.specs.declared.code.WarningCode.{WarningCode}
 use Rattle.column_check.specs.declared.code.WarningCode.TheVariants.{NestedGeometry}
 use Rattle.column_check.specs.declared.warning.Warning.{Warning}
 use Rattle.column_reports.specs.declared.named.NamedBy.{NamedBy}
-use Rattle.column_reports.specs.declared.named.NamedBy.TheVariants.{Field, Element, Geo}
+use Rattle.column_reports.specs.declared.named.NamedBy.TheVariants.{Nobody, Field, Element, Geo}
 
--- the geometry type of its element; or its field; or the member of `columns`, if anything does
+-- nobody, where it is not read; the geometry type of its element; or its field; or the member of `columns`, if anything does
 abbrev pub field_or_geo : Option Text → NamedBy
 field_or_geo None = Geo
 field_or_geo (Some name) = Field
 
+abbrev pub named_beside : ColumnTree → Claim → NamedBy
+named_beside c (gives names_crs) = Element
+named_beside c e = field_or_geo (name_on c)
+
 abbrev pub named_by : ColumnTree → Option Claim → NamedBy
-named_by c (Some (gives names_crs)) = Element
-named_by c e = field_or_geo (name_on c)
+named_by c None = field_or_geo (name_on c)
+named_by c (Some e) = if is_unreadable c.data_type then Nobody else named_beside c e
 
 -- of the columns of a file, beside which its elements say that
 abbrev pub all_named_by : List ColumnTree → List Claim → List NamedBy
@@ -43,18 +47,18 @@ all_known fs bys = map known (zip fs bys)
 abbrev pub known_alone : ColumnTree → Known
 known_alone c = record { facts = facts_alone c; by = Field }
 
--- what its member of `columns` gives a column is judged there: the extension metadata; and the layout, where it is not that of the encoding, but not what
--- lies below
+-- what its member of `columns` gives a column is judged there: the extension metadata; and the layout, where `GeoLayout` is found of it, but not what lies
+-- below
 abbrev pub is_nested : WarningCode → Bool
 is_nested NestedGeometry = true
 is_nested code = false
 
-abbrev pub is_told_beside_geo : Option EncodingFact → Warning → Bool
-is_told_beside_geo encoding w = not (is_some w.pointer) && (is_some encoding || is_nested w.code)
+abbrev pub is_told_beside_geo : Bool → Warning → Bool
+is_told_beside_geo contradicts w = not (is_some w.pointer) && (not contradicts || is_nested w.code)
 
-abbrev pub is_told_by : NamedBy → Option EncodingFact → ColumnTree → Warning → Bool
-is_told_by Geo encoding c w = not (is_some (name_on c)) || is_told_beside_geo encoding w
-is_told_by by encoding c w = true
+abbrev pub is_told_by : NamedBy → Bool → ColumnTree → Warning → Bool
+is_told_by Geo contradicts c w = not (is_some (name_on c)) || is_told_beside_geo contradicts w
+is_told_by by contradicts c w = true
 
 abbrev pub is_told : Known → ColumnTree → Warning → Bool
-is_told k c w = is_told_by k.by k.facts.encoding c w
+is_told k c w = is_told_by k.by k.facts.layout_contradicts c w

@@ -6,8 +6,9 @@ ghost use Rattle.arrow_values.specs.Texts.{text_of};
 ghost use Rattle.column_reports.specs.Objects.{AddsMembers};
 ghost use Rattle.column_reports.specs.Faults.{byte_in, line_in, element_in, column_in, counted};
 ghost use Rattle.column_reports.specs.Faults.{place_text, placed, with_more, said_of, fault_text};
-ghost use Rattle.column_reports.specs.Faults.{numbers_of, words_of, message_of, fault_report};
+ghost use Rattle.column_reports.specs.Faults.{numbers_of, words_of, message_of, told, told_report, fault_report};
 
+use crate::finding_json::put_more;
 use crate::put::{put_number_if, put_text, put_text_if};
 use column_files::{Fault, Place};
 use json::Writer;
@@ -27,12 +28,26 @@ pub fn fault_line(alloc: Global, file: Option<&str>, fault: &Fault) -> Result<St
     ensures text { IfOk result (λ line. string_bytes line ≡ print (json_tokens (fault_report (text_of file.entry) fault.now))) }
     ensures one_line { IfOk result (λ line. All (λ b. b ≢ 10) (string_bytes line)) }
 {
+    line_with(alloc, file, 0, fault)
+}
+
+/// Returns the line of a fault, as [`fault_line`] does, with how many more there are, if there are
+/// any.
+pub(crate) fn line_with(
+    alloc: Global,
+    file: Option<&str>,
+    more: usize,
+    fault: &Fault,
+) -> Result<String, AllocError>
+    ensures text { IfOk result (λ line. string_bytes line ≡ print (json_tokens (told_report (text_of file.entry) more (told fault.now)))) }
+    ensures one_line { IfOk result (λ line. All (λ b. b ≢ 10) (string_bytes line)) }
+{
     let place = place_text(alloc, fault.place)?;
     let mut out = Writer::new(Vec::new(alloc));
     out.begin_object()?;
     put_numbers(&mut out, fault.place)?;
     put_words(&mut out, file, fault)?;
-    put_message(&mut out, fault, &place)?;
+    put_message(&mut out, fault, more, &place)?;
     out.end_object()?;
     Ok(text_of(out))
 }
@@ -131,7 +146,7 @@ fn put_numbers(out: &mut Writer, place: Place) -> Result<(), AllocError>
 
 /// Writes the code, the name of the file, what is found and what to try.
 fn put_words(out: &mut Writer, file: Option<&str>, fault: &Fault) -> Result<(), AllocError>
-    ensures { OnOk result (AddsMembers (words_of (text_of file.entry) fault.now) out.old out.new) }
+    ensures { OnOk result (AddsMembers (words_of (text_of file.entry) (told fault.now)) out.old out.new) }
 {
     put_text(out, "error", fault.code)?;
     put_text_if(out, "file", file)?;
@@ -139,13 +154,19 @@ fn put_words(out: &mut Writer, file: Option<&str>, fault: &Fault) -> Result<(), 
     put_text_if(out, "help", fault.help)
 }
 
-/// Writes the number of the line, what is wrong, and the place in words.
-fn put_message(out: &mut Writer, fault: &Fault, place: &Option<String>) -> Result<(), AllocError>
+/// Writes the number of the line, what is wrong, how many more there are, and the place in words.
+fn put_message(
+    out: &mut Writer,
+    fault: &Fault,
+    more: usize,
+    place: &Option<String>,
+) -> Result<(), AllocError>
     requires { option_map string_bytes place.now ≡ place_text fault.now.place }
-    ensures { OnOk result (AddsMembers (message_of fault.now) out.old out.new) }
+    ensures { OnOk result (AddsMembers (message_of more (told fault.now)) out.old out.new) }
 {
     put_number_if(out, "line", line_in(fault.place))?;
     put_text(out, "message", fault.message)?;
+    put_more(out, more)?;
     put_text_if(out, "place", place.as_deref())
 }
 

@@ -1,5 +1,5 @@
 //! The report of a file, as one value.
-ghost use Rattle.std.specs.Prelude.{◌≡◌, ◌||◌, IfOk, map};
+ghost use Rattle.std.specs.Prelude.{◌≡◌, ◌==◌, ◌||◌, IfOk, length, map, not};
 ghost use Rattle.std.specs.List.{list_any, zip};
 ghost use Rattle.arrow_values.specs.Texts.{text_of};
 ghost use Rattle.arrow_columns.specs.Column.{column_tree};
@@ -19,7 +19,7 @@ use crate::summary::{Summary, has_error};
 use crate::weighed::{Weighed, weigh};
 use crate::weights::Weights;
 use arrow_columns::SchemaColumn;
-use column_files::{File, FileFault, Form, open};
+use column_files::{BadLine, BadLines, File, FileFault, Form, open};
 use geoparquet::{ColumnFacts, inspect_geo};
 use json::Scratch;
 use parquet_columns::report_budget;
@@ -35,13 +35,15 @@ pub struct FileReport<'a> {
     /// What is found of the file and shown: of the texts of its footer (docs/FORMAT.md, 4.3), then of its
     /// schemas and keys (4.5), then of its GeoParquet metadata (5).
     pub findings: Vec<Weighed<'a>>,
-    /// What counts of the columns and of the findings.
+    /// Of lines, those that are not blank and denote no column (docs/FORMAT.md, 2.7).
+    pub bad_lines: BadLines,
+    /// What counts of the columns, of the findings and of the bad lines.
     pub summary: Summary,
 }
 
 /// Returns the report of a file that was opened: what each of its columns holds and what is found
 /// of it, where the columns are those by its GeoParquet metadata; the facts of each, by all that says
-/// them; and what is found of the file.
+/// them; its bad lines; and what is found of the file.
 /// Errs only when out of memory.
 ///
 /// ```rust
@@ -76,6 +78,7 @@ pub fn weighed_report<'a>(
     let File {
         form,
         columns,
+        bad_lines,
         elements,
         findings,
         texts,
@@ -87,11 +90,13 @@ pub fn weighed_report<'a>(
     let found = of_file(alloc, texts, findings, answer.report)?;
     let findings = weigh(alloc, weights, found)?;
     let columns = report_columns(alloc, answer.columns, answer.facts, named, infer, weights)?;
-    let summary = summary_of(columns.as_slice(), findings.as_slice());
+    let bad = bad_lines.first.as_slice();
+    let summary = summary_of(columns.as_slice(), findings.as_slice(), bad);
     Ok(FileReport {
         form,
         columns,
         findings,
+        bad_lines,
         summary,
     })
 }
@@ -118,16 +123,18 @@ fn report_columns(
     Ok(reported)
 }
 
-/// Returns what counts of columns, and of what is found of a file.
-fn summary_of(columns: &[ColumnReport], findings: &[Weighed<'_>]) -> Summary
+/// Returns what counts of columns, of what is found of a file, and of its bad lines.
+fn summary_of(columns: &[ColumnReport], findings: &[Weighed<'_>], bad: &[BadLine]) -> Summary
     ensures invalid { result.has_invalid ≡ list_any (λ r. is_invalid r.finding) columns.now }
     ensures geometry { result.has_geometry ≡ list_any (λ r. is_geometry r.finding) columns.now }
     ensures failed { result.has_failed ≡ (list_any (λ r. has_error r.findings.items) columns.now || has_error findings.now) }
+    ensures bad { result.has_bad_lines ≡ not (length bad.now == 0) }
 {
     Summary {
         has_invalid: is_one_invalid(columns),
         has_geometry: is_one_geometry(columns),
         has_failed: is_one_failed(columns) | has_error(findings),
+        has_bad_lines: !bad.is_empty(),
     }
 }
 
@@ -155,9 +162,9 @@ fn is_one_failed(columns: &[ColumnReport]) -> bool
 }
 
 /// Returns the report of a file, from its bytes, as lines of JSON: what each of its columns holds
-/// and what is found of it; and behind these lines one for each finding of the file, of notes where
-/// notes are asked for (docs/FORMAT.md, 2.5 and 5.1). `file` is the name that the lines give the
-/// file, if any.
+/// and what is found of it; and behind these lines one for each bad line (docs/FORMAT.md, 2.8), and
+/// one for each finding of the file, of notes where notes are asked for (docs/FORMAT.md, 2.5 and
+/// 5.1). `file` is the name that the lines give the file, if any.
 ///
 /// Errs as `open` of `column_files` does; with `ReportTooLarge` where the lines have more bytes than
 /// `report_budget` of the length of the file (docs/FORMAT.md, 2.5); and when out of memory.

@@ -132,7 +132,7 @@ fn put_words(alloc: Global, out: &mut Writer, finding: &Finding<'_>) -> Result<(
 }
 
 /// Writes how many more there are, if there are any.
-fn put_more(out: &mut Writer, more: usize) -> Result<(), AllocError>
+pub(crate) fn put_more(out: &mut Writer, more: usize) -> Result<(), AllocError>
     ensures { OnOk result (AddsMembers (more_if more) out.old out.new) }
 {
     if more == 0 {

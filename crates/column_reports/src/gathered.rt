@@ -10,7 +10,7 @@ use crate::finding::Finding;
 use crate::named::NamedBy;
 use arrow_columns::SchemaColumn;
 use column_check::{Warning, WarningCode};
-use geoparquet::{ColumnFacts, EncodingFact, GeoCode, GeoFinding, GeoReport, Version};
+use geoparquet::{ColumnFacts, GeoCode, GeoFinding, GeoReport, Version};
 use parquet_columns::{FileCode, FileFinding};
 use parquet_footer::FooterFinding;
 use std::alloc::{AllocError, Global};
@@ -50,13 +50,13 @@ fn add_told(
 }
 
 /// Whether a finding is told of a column to which its member of `columns` gives its extension name:
-/// none is of the extension metadata, and of a layout that is not that of the encoding only what
-/// lies below.
-fn is_told_beside_geo(encoding: Option<EncodingFact>, warning: &Warning) -> bool
-    ensures { result ≡ is_told_beside_geo encoding warning.now }
+/// none is of the extension metadata, and of a layout of which `GeoLayout` is found only what lies
+/// below.
+fn is_told_beside_geo(contradicts: bool, warning: &Warning) -> bool
+    ensures { result ≡ is_told_beside_geo contradicts warning.now }
 {
     warning.pointer.is_none()
-        && (encoding.is_some() || matches!(warning.code, WarningCode::NestedGeometry))
+        && (!contradicts || matches!(warning.code, WarningCode::NestedGeometry))
 }
 
 /// Whether a finding is told of a column.
@@ -65,9 +65,10 @@ fn is_told(by: NamedBy, facts: &ColumnFacts, column: &SchemaColumn, warning: &Wa
 {
     match by {
         NamedBy::Geo => {
-            column.extension_type_name().is_none() || is_told_beside_geo(facts.encoding, warning)
+            column.extension_type_name().is_none()
+                || is_told_beside_geo(facts.layout_contradicts, warning)
         }
-        NamedBy::Field | NamedBy::Element => true,
+        NamedBy::Nobody | NamedBy::Field | NamedBy::Element => true,
     }
 }
 

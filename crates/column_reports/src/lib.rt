@@ -7,6 +7,7 @@
 //! [`Weights`] say which findings are shown, and how much each counts.
 #![tactic(auto)]
 
+mod bad_lines;
 mod bytes;
 mod code;
 mod fact_members;
@@ -29,6 +30,7 @@ mod weighed;
 mod weights;
 mod words;
 
+pub use bad_lines::bad_line_lines;
 pub use code::Code;
 pub use fault::{fault_line, fault_text};
 pub use file::{FileReport, report_file, report_of, weighed_report};

@@ -3,6 +3,7 @@ ghost use Rattle.std.specs.Prelude.{◌≡◌, ◌≤◌, ◌<◌, ◌++◌, OnO
 ghost use Rattle.arrow_values.specs.Texts.{text_of};
 ghost use Rattle.column_reports.specs.FileReport.{line_of, lines_of, report_text, IsWithin};
 
+use crate::bad_lines::bad_line_lines;
 use crate::file::FileReport;
 use crate::line::json_line;
 use crate::report::ColumnReport;
@@ -12,8 +13,8 @@ use json::Scratch;
 use std::alloc::{AllocError, Global};
 
 /// Returns the report of a file as lines of JSON, each with its line feed: one for each column
-/// (docs/FORMAT.md, 2.5), and behind them one for each finding of the file that is shown
-/// (docs/FORMAT.md, 5.1). `file` is the name that the lines give the file, if any.
+/// (docs/FORMAT.md, 2.5), and behind them one for each bad line (docs/FORMAT.md, 2.8), and one for
+/// each finding of the file that is shown (docs/FORMAT.md, 5.1). `file` is the name that the lines give the file, if any.
 ///
 /// Errs with `ReportTooLarge` where the lines have more than `limit` bytes, as soon as those of the
 /// first columns have; and when out of memory.
@@ -27,8 +28,9 @@ pub fn json_lines(
 {
     match column_lines(alloc, file, report.columns.as_slice(), limit) {
         Ok(lines) => {
-            let findings = report.findings.as_slice();
-            let behind = finding_lines(alloc, file, findings)?;
+            let mut behind = bad_line_lines(alloc, file, &report.bad_lines)?;
+            let findings = finding_lines(alloc, file, report.findings.as_slice())?;
+            behind.push_str(findings.as_str())?;
             let mut text = lines;
             text.push_str(behind.as_str())?;
             within(text, limit)

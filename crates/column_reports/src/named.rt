@@ -1,17 +1,19 @@
 //! Who gives a column its extension name and metadata.
 ghost use Rattle.std.specs.Prelude.{◌≡◌, ◌∷◌, ◌++◌, IfOk, List, OnOk, map, option_map};
-ghost use Rattle.arrow_columns.specs.Column.{ColumnTree, column_tree};
+ghost use Rattle.arrow_columns.specs.Column.{ColumnTree, column_tree, name_on};
 ghost use Rattle.parquet_columns.specs.Claims.{claim};
 ghost use Rattle.geoparquet.specs.Sources.{with_elements};
-ghost use Rattle.column_reports.specs.Named.{named_by, all_named_by};
+ghost use Rattle.column_reports.specs.Named.{field_or_geo, named_by, all_named_by};
 
 use arrow_columns::SchemaColumn;
-use parquet_columns::ElementClaim;
+use parquet_columns::{ElementClaim, is_unreadable};
 use std::alloc::{AllocError, Global};
 
 /// Who gives a column its extension name and metadata, if it has any (docs/FORMAT.md, 2.6).
 #[derive(Debug, Clone, Copy, PartialEq, Eq)]
 pub enum NamedBy {
+    /// Nobody: the column is not read, as an element of it breaks a rule (docs/FORMAT.md, 4.4).
+    Nobody,
     /// Its field.
     Field,
     /// The geometry type of its element.
@@ -20,16 +22,29 @@ pub enum NamedBy {
     Geo,
 }
 
+/// Whether the field of a column, or its member of `columns`, gives it its name.
+fn field_or_geo(column: &SchemaColumn) -> NamedBy
+    ensures { result ≡ field_or_geo (name_on (column_tree column.now)) }
+{
+    match column.extension_type_name() {
+        Some(_) => NamedBy::Field,
+        None => NamedBy::Geo,
+    }
+}
+
 /// Who gives a column its name, by what its element says, if it says something.
 fn named_by(column: &SchemaColumn, element: Option<&ElementClaim>) -> NamedBy
     ensures { result ≡ named_by (column_tree column.now) (option_map (λ e. claim e.now) element.entry) }
 {
+    let Some(element) = element else {
+        return field_or_geo(column);
+    };
+    if is_unreadable(&column.data_type) {
+        return NamedBy::Nobody;
+    }
     match element {
-        Some(ElementClaim::Given { .. }) => NamedBy::Element,
-        _ => match column.extension_type_name() {
-            Some(_) => NamedBy::Field,
-            None => NamedBy::Geo,
-        },
+        ElementClaim::Given { .. } => NamedBy::Element,
+        ElementClaim::Silent | ElementClaim::Beside(_) => field_or_geo(column),
     }
 }
 

@@ -2,7 +2,7 @@
 ghost use Rattle.std.specs.Prelude.{IfOk};
 ghost use Rattle.arrow_columns.specs.Column.{column_tree};
 ghost use Rattle.geoparquet.specs.Facts.{facts_view};
-ghost use Rattle.column_reports.specs.Columns.{IsColumnReport};
+ghost use Rattle.column_reports.specs.Columns.{IsFoundBy, IsColumnReport};
 ghost use Rattle.column_reports.specs.Named.{known, known_alone};
 ghost use Rattle.column_reports.specs.Weights.{plain, weighing};
 
@@ -11,7 +11,7 @@ use crate::named::NamedBy;
 use crate::weighed::{Weighed, weigh};
 use crate::weights::Weights;
 use arrow_columns::SchemaColumn;
-use column_check::{inspect_column, warnings};
+use column_check::{Finding, Reasons, inspect_column, warnings};
 use geoparquet::{ColumnFacts, field_facts};
 use json::Scratch;
 use std::alloc::{AllocError, Global};
@@ -105,7 +105,7 @@ pub(crate) fn column_with(
 ) -> Result<ColumnReport, AllocError>
     ensures { IfOk result (IsColumnReport infer (weighing weights.now) (column_tree column) (known (facts_view facts, by))) }
 {
-    let finding = inspect_column(alloc, scratch, &column, infer)?;
+    let finding = said_of(alloc, scratch, &column, by, infer)?;
     let warnings = warnings(alloc, &column, &finding, true)?;
     let told = of_warnings(alloc, by, &facts, &column, warnings)?;
     let findings = weigh(alloc, weights, told)?;
@@ -115,4 +115,23 @@ pub(crate) fn column_with(
         facts,
         findings,
     })
+}
+
+/// Returns what is said of a column which has its extension name by that: one that is not read is
+/// invalid. Errs only when out of memory.
+fn said_of(
+    alloc: Global,
+    scratch: &mut Scratch,
+    column: &SchemaColumn,
+    by: NamedBy,
+    infer: bool,
+) -> Result<Finding, AllocError>
+    ensures { IfOk result (IsFoundBy by infer (column_tree column.now)) }
+{
+    match by {
+        NamedBy::Nobody => Ok(Finding::Invalid(Reasons::Unread)),
+        NamedBy::Field | NamedBy::Element | NamedBy::Geo => {
+            inspect_column(alloc, scratch, column, infer)
+        }
+    }
 }

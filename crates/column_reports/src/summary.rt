@@ -6,7 +6,8 @@ ghost use Rattle.column_reports.specs.Summary.{has_error, status};
 use crate::report::ColumnReport;
 use crate::weighed::Weighed;
 
-/// What counts of a file for its status: of its columns, and of what is found of them and of it.
+/// What counts of a file for its status: of its columns, of what is found of them and of it, and of
+/// its bad lines.
 #[derive(Debug, Clone, Copy)]
 pub struct Summary {
     /// Whether a column is invalid.
@@ -16,6 +17,8 @@ pub struct Summary {
     pub has_geometry: bool,
     /// Whether a finding, of a column or of the file, counts as an error.
     pub has_failed: bool,
+    /// Whether a line is bad: it is not blank, and denotes no column.
+    pub has_bad_lines: bool,
 }
 
 impl Summary {
@@ -24,11 +27,13 @@ impl Summary {
         ensures invalid { result.has_invalid ≡ false }
         ensures geometry { result.has_geometry ≡ false }
         ensures failed { result.has_failed ≡ false }
+        ensures bad { result.has_bad_lines ≡ false }
     {
         Summary {
             has_invalid: false,
             has_geometry: false,
             has_failed: false,
+            has_bad_lines: false,
         }
     }
 
@@ -37,15 +42,16 @@ impl Summary {
         ensures invalid { self.new.has_invalid ≡ (self.old.has_invalid || is_invalid said.now.finding) }
         ensures geometry { self.new.has_geometry ≡ (self.old.has_geometry || is_geometry said.now.finding) }
         ensures failed { self.new.has_failed ≡ (self.old.has_failed || has_error said.now.findings.items) }
+        ensures bad { self.new.has_bad_lines ≡ self.old.has_bad_lines }
     {
         self.has_invalid = self.has_invalid | said.finding.is_invalid();
         self.has_geometry = self.has_geometry | said.finding.is_geometry();
         self.has_failed = self.has_failed | has_error(said.findings.as_slice());
     }
 
-    /// Returns the status of a file that is reported to its end (`docs/FORMAT.md`, 2.7): 1 where a
-    /// column is invalid, where a finding counts as an error, or where what is asked of the file is not
-    /// met, and else 0.
+    /// Returns the status of a file that is reported to its end (`docs/FORMAT.md`, 2.7): 2 where a
+    /// line is bad; otherwise 1 where a column is invalid, where a finding counts as an error, or where
+    /// what is asked of the file is not met, and else 0.
     ///
     /// ```rust
     /// let summary = Summary::new();
@@ -53,11 +59,15 @@ impl Summary {
     /// assert_eq!(rt; summary.status(true), 1);
     /// let failed = Summary { has_failed: true, ..summary };
     /// assert_eq!(rt; failed.status(false), 1);
+    /// let bad = Summary { has_bad_lines: true, ..summary };
+    /// assert_eq!(rt; bad.status(true), 2);
     /// ```
     pub fn status(&self, is_unmet: bool) -> u8
         ensures { result ≡ status self.now is_unmet }
     {
-        if self.has_invalid || self.has_failed || is_unmet {
+        if self.has_bad_lines {
+            2
+        } else if self.has_invalid || self.has_failed || is_unmet {
             1
         } else {
             0

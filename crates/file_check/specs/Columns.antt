@@ -5,6 +5,7 @@ use Rattle.arrow_values.specs.Tree.{Text}
 use Rattle.arrow_columns.specs.Column.{ColumnTree, column_tree, name_on}
 use Rattle.column_check.specs.declared.finding.Finding.{Finding as ColumnFinding}
 use Rattle.column_check.specs.declared.finding.Finding.TheVariants.{Geometry, Invalid, Extension, Inferred, Plain}
+use Rattle.column_check.specs.declared.finding.Reasons.TheVariants.{Unread}
 use Rattle.column_check.specs.States.{geometry_in}
 use Rattle.geoparquet.specs.Facts.{FactsOf, facts_view}
 use Rattle.column_reports.specs.FactMembers.{facts_in}
@@ -24,6 +25,7 @@ abbrev pub held : ColumnTree → ColumnFinding → Text
 held c (Geometry g) = type_word c (Some g)
 held c (Inferred g) = codes "taken for " ++ type_word c (Some g)
 held c Plain = shown (type_word c None)
+held c (Invalid Unread) = shown (type_word c None)
 held c (Invalid r) = codes "invalid " ++ shown (extension_word c)
 held c Extension = codes "extension " ++ shown (extension_word c)
 

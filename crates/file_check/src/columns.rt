@@ -4,6 +4,7 @@ ghost use Rattle.std.specs.Option.{unwrap_or};
 ghost use Rattle.arrow_columns.specs.Column.{column_tree};
 ghost use Rattle.geoparquet.specs.Facts.{facts_view};
 ghost use Rattle.column_reports.specs.FindingWords.{finding_words};
+ghost use Rattle.column_reports.specs.Report.{type_word};
 ghost use Rattle.file_check.specs.Table.{line_of, cut};
 ghost use Rattle.file_check.specs.Columns.{extension_word, facts_of, held, row_of};
 ghost use Rattle.file_check.specs.Crs.{crs_that_counts, edges_that_count};
@@ -14,7 +15,7 @@ use crate::crs::{crs_that_counts, edges_that_count};
 use crate::table::Row;
 use crate::text::shown;
 use arrow_columns::SchemaColumn;
-use column_check::Finding;
+use column_check::{Finding, Reasons};
 use column_reports::{ColumnReport, Weighed, finding_words, type_word};
 use geoparquet::ColumnFacts;
 use std::alloc::{AllocError, Global};
@@ -62,13 +63,19 @@ fn held(alloc: Global, column: &SchemaColumn, finding: &Finding) -> Result<Strin
             let word = type_word(alloc, column, Some(geometry))?;
             joined(alloc, "taken for ", word.as_str())
         }
-        Finding::Plain => {
-            let word = type_word(alloc, column, None)?;
-            shown(alloc, word.as_str())
-        }
+        Finding::Plain => type_shown(alloc, column),
+        Finding::Invalid(Reasons::Unread) => type_shown(alloc, column),
         Finding::Invalid(_) => extension_shown(alloc, "invalid ", column),
         Finding::Extension => extension_shown(alloc, "extension ", column),
     }
+}
+
+/// The type of a column that holds no geometries.
+fn type_shown(alloc: Global, column: &SchemaColumn) -> Result<String, AllocError>
+    ensures { IfOk result (λ text. string_bytes text ≡ shown (type_word (column_tree column.now) None)) }
+{
+    let word = type_word(alloc, column, None)?;
+    shown(alloc, word.as_str())
 }
 
 /// A word, and the extension name of a column.

@@ -5,16 +5,18 @@ use crate::columns::row_of;
 use crate::counted::Counted;
 use crate::names::named;
 use crate::print::{KEPT_BYTES, Made, named_table, print_made, push_line};
-use crate::refusal::refuse;
+use crate::refusal::{refuse, tell_bad_lines};
 use crate::table::{Row, row_bytes};
 use crate::wants::Found;
 use arrow_columns::SchemaColumn;
-use column_files::{FileFault, Form, LineColumns, MAX_LINE_BYTES, ReadFault, column_line};
+use column_files::{
+    BadLine, BadLines, FileFault, Form, LineColumns, MAX_LINE_BYTES, ReadFault, column_line,
+};
 use column_reports::{ColumnReport, Summary, json_line, report_budget, weighed_column};
 use json::Scratch;
 use std::alloc::{AllocError, Global};
-use std::io;
 use std::io::{Read, Write};
+use std::{io, mem};
 
 /// What is made of lines so far.
 #[derive(Drop)]
@@ -30,6 +32,7 @@ struct LineReport<'a> {
     /// The columns for a stream.
     columns: Vec<SchemaColumn>,
     counted: Counted,
+    bad_lines: BadLines,
     /// How many columns there are.
     count: usize,
 }
@@ -45,9 +48,13 @@ pub(crate) fn check_lines<R: Read + Drop, W: Write, E: Write>(
 ) -> io::Result<u8> {
     let mut report = LineReport::new(alloc, asked, file)?;
     match report.add_all(lines, out)? {
-        None => print_made(alloc, asked, file, report.made()?, out, err),
+        None if report.bad_lines.is_empty() => {
+            print_made(alloc, asked, file, report.made()?, out, err)
+        }
+        None => report.print_beside(out, err),
         Some(fault) => {
             report.write(out)?;
+            tell_bad_lines(alloc, asked, file, &report.bad_lines, out, err)?;
             refuse(alloc, asked, file, Form::Lines, fault, out, err)
         }
     }
@@ -69,12 +76,13 @@ impl<'a> LineReport<'a> {
                 summary: Summary::new(),
                 found,
             },
+            bad_lines: BadLines::new(alloc),
             count: 0,
         })
     }
 
-    /// Adds the columns of all lines, and writes what is to be printed of them as it grows. Returns
-    /// why the lines are not read to their end.
+    /// Adds the columns and the bad lines of all lines, and writes what is to be printed of the
+    /// columns as it grows. Returns why the lines are not read to their end.
     fn add_all<R: Read + Drop, W: Write>(
         &mut self,
         lines: LineColumns<R>,
@@ -82,12 +90,15 @@ impl<'a> LineReport<'a> {
     ) -> io::Result<Option<ReadFault>> {
         let mut lines = lines;
         for _ in 0..u64::MAX {
-            let column = match lines.next_column() {
-                Ok(Some(column)) => column,
+            let added = match lines.next_column() {
+                Ok(Some(column)) => self.add(column),
                 Ok(None) => return Ok(None),
+                Err(ReadFault::File(FileFault::NoField(before, fault))) => {
+                    self.add_bad(BadLine { before, fault })
+                }
                 Err(fault) => return Ok(Some(fault)),
             };
-            if let Err(fault) = self.add(column) {
+            if let Err(fault) = added {
                 return Ok(Some(ReadFault::File(fault)));
             }
             if self.text.len() >= KEPT_BYTES {
@@ -116,6 +127,16 @@ impl<'a> LineReport<'a> {
         }
         self.count = self.count.saturating_add(1);
         Ok(())
+    }
+
+    /// Adds a bad line. Errs with its fault where it refuses the file.
+    fn add_bad(&mut self, bad: BadLine) -> Result<(), FileFault> {
+        let is_first = self.count == 0 && self.bad_lines.is_empty();
+        if is_first && bad.fault.refuses_file() {
+            return Err(FileFault::NoField(bad.before, bad.fault));
+        }
+        self.counted.summary.has_bad_lines = true;
+        Ok(self.bad_lines.add(bad)?)
     }
 
     /// Looks at a column for each expectation.
@@ -152,6 +173,19 @@ impl<'a> LineReport<'a> {
         Ok(())
     }
 
+    /// Prints what is made of all lines, some of which are bad, and says what is asked of the file
+    /// and not met. No stream is written. Returns the status.
+    fn print_beside<W: Write, E: Write>(self, out: &mut W, err: &mut E) -> io::Result<u8> {
+        let mut report = self;
+        let (alloc, asked, file) = (report.alloc, report.asked, report.file);
+        let bad_lines = mem::replace(&mut report.bad_lines, BadLines::new(alloc));
+        let made = report.made()?;
+        out.write_all(made.text.as_bytes())?;
+        tell_bad_lines(alloc, asked, file, &bad_lines, out, err)?;
+        made.counted.say_unmet(alloc, asked, file, err)?;
+        Ok(made.counted.status(asked))
+    }
+
     /// What is made of all lines, and not written yet.
     fn made(self) -> Result<Made, AllocError> {
         let LineReport {
@@ -163,6 +197,7 @@ impl<'a> LineReport<'a> {
             rows,
             columns,
             counted,
+            bad_lines: _,
             count: _,
         } = self;
         let text = match asked.flags.output() {

@@ -8,8 +8,8 @@ ghost use Rattle.std.specs.Io.KnownBytes.{Appends};
 use crate::asked::{Asked, Output};
 use crate::names::named;
 use crate::text::shown;
-use column_files::{Fault, Form, ReadFault, fault_of, long_line};
-use column_reports::{fault_line, fault_text};
+use column_files::{BadLines, Fault, Form, ReadFault, bad_line_fault, fault_of, long_line};
+use column_reports::{bad_line_lines, fault_line, fault_text};
 use std::alloc::Global;
 use std::io;
 use std::io::Write;
@@ -63,6 +63,40 @@ fn refuse_for<W: Write, E: Write>(
     let words = fault_text(alloc, fault)?;
     say(alloc, file, words.as_str(), err)?;
     Ok(2)
+}
+
+/// Says on standard error, `err`, why lines denote no columns, and with `--json` prints their faults
+/// as lines on standard output, `out` (docs/FORMAT.md, 2.7 and 2.8). Errs where a writer fails, and
+/// when out of memory.
+pub(crate) fn tell_bad_lines<W: Write, E: Write>(
+    alloc: Global,
+    asked: &Asked,
+    file: &str,
+    bad_lines: &BadLines,
+    out: &mut W,
+    err: &mut E,
+) -> io::Result<()> {
+    if matches!(asked.flags.output(), Output::Json) {
+        let lines = bad_line_lines(alloc, named(file), bad_lines)?;
+        out.write_all(lines.as_bytes())?;
+    }
+    for bad in &bad_lines.first {
+        let words = fault_text(alloc, &bad_line_fault(*bad))?;
+        say(alloc, file, words.as_str(), err)?;
+    }
+    say_more(alloc, file, bad_lines.more, err)
+}
+
+/// Says how many more lines denote no columns, if any do.
+fn say_more<E: Write>(alloc: Global, file: &str, more: usize, err: &mut E) -> io::Result<()> {
+    match more {
+        0 => Ok(()),
+        1 => say(alloc, file, "1 more line is no column", err),
+        _ => {
+            let words = format!(in alloc; "{more} more lines are no columns")?;
+            say(alloc, file, words.as_str(), err)
+        }
+    }
 }
 
 /// Prints a fault as a line of JSON.

@@ -44,6 +44,8 @@ fn name_if(name: &str) -> Option<&str>
 /// 2.5). The options are 0, or a sum of 1, by which a column without an extension name is taken for
 /// what is inferred from its data type, and 2, by which the notes stand among the warnings
 /// (docs/FORMAT.md, 2.6). `name` is the name that the lines give the file, if it has any bytes.
+/// Of a file of lines, a line that is no column has a line with `error` behind the columns
+/// (docs/FORMAT.md, 2.8), and the others are columns.
 ///
 /// Returns 0; or 5 where the bytes are refused: the line that says why, with its line feed, stands
 /// in place of a report (docs/FORMAT.md, 2.8). Returns 1 where `out` is too small for what would

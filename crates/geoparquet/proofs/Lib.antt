@@ -10,6 +10,7 @@ pub mod Sourcing
 pub mod Utf8
 pub mod Telling
 pub mod Gathering
+pub mod Seeing
 pub mod FactLists
 pub mod CountingSources
 pub mod Answered

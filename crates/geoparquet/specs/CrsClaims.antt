@@ -10,7 +10,7 @@ use Rattle.crs_identity.specs.declared.verdict.Verdict.{Verdict}
 use Rattle.crs_identity.specs.declared.verdict.Verdict.TheVariants.{Agree, Contradict, NotCompared}
 use Rattle.geoparquet.specs.Findings.{Finding, shown_value}
 use Rattle.geoparquet.specs.Identifiers.{default_identifier}
-use Rattle.geoparquet.specs.Malformed.{is_projjson}
+use Rattle.geoparquet.specs.Malformed.{is_malformed, is_projjson}
 use Rattle.geoparquet.specs.Pairs.{first_pair, pair_findings}
 use Rattle.geoparquet.specs.Sources.{Element, silent, gives, beside}
 use Rattle.geoparquet.specs.Versions.{is_judged}
@@ -61,6 +61,23 @@ is_srid (Some s) = bytes_eq s (codes "srid")
 abbrev pub typed_crs : Bool → Json → Claimed
 typed_crs opaque j = claimed (if opaque then srid j else value j)
 
+-- what is to be PROJJSON: the value itself, or the value that a text is where `crs_type` says so
+abbrev pub is_projjson_type : Option Text → Bool
+is_projjson_type None = false
+is_projjson_type (Some s) = bytes_eq s (codes "projjson")
+
+abbrev pub judged_in : Bool → Json → Option Json
+judged_in typed (string s) = if typed then json_in s else None
+judged_in typed j = Some j
+
+abbrev pub is_broken_by : Bool → Option Json → Bool
+is_broken_by typed None = false
+is_broken_by typed (Some j) = is_malformed (judged_in typed j)
+
+-- whether the CRS of extension metadata is an object that is no PROJJSON, of which `CrsMalformed` is found (docs/FORMAT.md, 5.3)
+abbrev pub is_broken : Json → Bool
+is_broken j = is_broken_by (is_projjson_type (option_and_then as_str (get (codes "crs_type") j))) (get (codes "crs") j)
+
 -- the CRS that extension metadata say; null and the empty text say nothing
 abbrev pub crs_under : Bool → Option Json → Option Claimed
 crs_under opaque None = None
@@ -71,9 +88,13 @@ crs_under opaque (Some j) = Some (typed_crs opaque j)
 abbrev pub own_crs : Json → Option Claimed
 own_crs j = crs_under (is_srid (option_and_then as_str (get (codes "crs_type") j))) (get (codes "crs") j)
 
+-- one that is broken says nothing
+abbrev pub whole_crs : Json → Option Claimed
+whole_crs j = if is_broken j then None else own_crs j
+
 abbrev pub own_crs_in : Option Json → Option Claimed
 own_crs_in None = None
-own_crs_in (Some j) = own_crs j
+own_crs_in (Some j) = whole_crs j
 
 -- ---- what an element and a field say
 
@@ -91,17 +112,21 @@ field_json (Some silent) c = own_json c
 field_json (Some (gives names_crs)) c = None
 field_json (Some (beside s)) c = own_json c
 
--- the CRS that an element says, if it is of a geometry type: the default where it names none
+-- the CRS that an element says, if it is of a geometry type: the default where it names none, and nothing where it is broken
 abbrev pub or_default : Option Claimed → Option Claimed
 or_default None = Some default_claim
 or_default (Some c) = Some c
+
+abbrev pub named_crs : Option Json → Option Claimed
+named_crs None = Some default_claim
+named_crs (Some j) = if is_broken j then None else or_default (own_crs j)
 
 abbrev pub element_crs : Option Element → Option Json → Option Claimed
 element_crs None own = None
 element_crs (Some silent) own = None
 element_crs (Some (gives false)) own = Some default_claim
-element_crs (Some (gives true)) own = or_default (own_crs_in own)
-element_crs (Some (beside s)) own = or_default (own_crs_in own)
+element_crs (Some (gives true)) own = named_crs own
+element_crs (Some (beside s)) own = named_crs own
 
 -- ---- findings
 
@@ -154,10 +179,15 @@ three_findings key found shown own element field said =
     verdicts_findings key found shown (crs_at own) (own_shown own)
     (pair_verdict element said) (pair_verdict element field) (pair_verdict field said)
 
+-- by the claims of the element and of `geo`, and the metadata of the element and of the field
+abbrev pub claimed_findings : Text → Option Json → Option Claimed → Option Json → Option Json → Option Claimed → List Finding
+claimed_findings key found claimed element field said =
+    three_findings key found (claim_shown claimed element) field claimed (own_crs_in field) said
+
 -- by the metadata of the element and of the field
 abbrev pub crs_json_findings : Text → Option Json → Option Element → Option Json → Option Json → Option Claimed → List Finding
 crs_json_findings key found e element field said =
-    three_findings key found (claim_shown (element_crs e element) element) field (element_crs e element) (own_crs_in field) said
+    claimed_findings key found (element_crs e element) element field said
 
 -- two of the element, the field and `crs` say two CRSs, or it is not known whether they are one
 abbrev pub crs_claims_findings : Text → Option Json → Option ColumnTree → Option Element → Option Claimed → List Finding

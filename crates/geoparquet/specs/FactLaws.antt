@@ -1,11 +1,14 @@
 -- Laws of facts.
-use Rattle.std.specs.Prelude.{◌≡◌, Option, Some, option_and_then}
+use Rattle.std.specs.Prelude.{◌≡◌, not, Option, Some, option_and_then}
 use Rattle.json.specs.Json.{Json}
+use Rattle.arrow_values.specs.Tree.{Text}
 use Rattle.arrow_columns.specs.Column.{ColumnTree}
 use Rattle.crs_identity.specs.Verdicts.{Claimed}
+use Rattle.geoparquet.specs.Contradictions.{layout_findings}
 use Rattle.geoparquet.specs.Counting.{crs_that_counts}
 use Rattle.geoparquet.specs.FactSources.{BySource, of_source, source_counting}
-use Rattle.geoparquet.specs.Facts.{crs_claims, crs_defaults, json_sources}
+use Rattle.geoparquet.specs.Facts.{crs_claims, crs_defaults, json_sources, layout_contradicts}
+use Rattle.geoparquet.specs.MemberFacts.{are_kept}
 use Rattle.geoparquet.specs.Sources.{Element}
 use Rattle.geoparquet.specs.declared.finding.Version.{Version}
 
@@ -18,3 +21,9 @@ abbrev pub IsJudgedByFact : Type 0
 IsJudgedByFact =
     (version : Version) (c : ColumnTree) (e : Option Element) (j : Json)
     → crs_that_counts version (Some c) e j ≡ claim_counting (crs_claims version e (json_sources (Some j) c e))
+
+-- of a column with a member `GeoLayout` is found exactly where its facts say so
+abbrev pub IsLayoutFound : Type 0
+IsLayoutFound =
+    (version : Version) (key : Text) (c : ColumnTree) (j : Json)
+    → are_kept (layout_findings version key (Some c) j) ≡ not (layout_contradicts version (Some j) c)

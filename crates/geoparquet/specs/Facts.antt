@@ -1,5 +1,5 @@
 -- The facts of a column: of its CRS, its edges and its encoding what counts, by which source, and what the others say against it (docs/FORMAT.md, 5).
-use Rattle.std.specs.Prelude.{Bool, true, false, List, [], ◌∷◌, ◌++◌, codes, string_bytes, Option, None, Some, is_some, option_and_then, option_map, unwrap_or, if◌then◌else◌}
+use Rattle.std.specs.Prelude.{Bool, true, false, not, List, [], ◌∷◌, ◌++◌, codes, string_bytes, Option, None, Some, is_some, option_and_then, option_map, unwrap_or, if◌then◌else◌}
 use Rattle.std.specs.Str.{is_utf8}
 use Rattle.json.specs.Json.{Json, null, object, string}
 use Rattle.json.specs.Find.{get, as_str}
@@ -15,6 +15,8 @@ use Rattle.geoparquet.specs.Contradictions.{element_edges, element_encoding, ele
 use Rattle.geoparquet.specs.CrsClaims.{crs_at, element_crs, element_json, field_json, own_crs_in, said_crs}
 use Rattle.geoparquet.specs.FactSources.{BySource, against, of_source, source_counting, text_verdict}
 use Rattle.geoparquet.specs.GeoColumns.{left_for}
+use Rattle.geoparquet.specs.MemberRules.{encoding_of}
+use Rattle.geoparquet.specs.StrictLayouts.{layout_of}
 use Rattle.geoparquet.specs.MemberFacts.{SaidOf, member_facts, member_facts_view}
 use Rattle.geoparquet.specs.Identifiers.{default_identifier}
 use Rattle.geoparquet.specs.Sources.{Element, Source, unasked, missing, value, with_elements}
@@ -46,6 +48,7 @@ pub record FactsOf : Type 0 where
   pub crs : Option CrsOf
   pub edges : Option EdgesOf
   pub encoding : Option EncodingFact
+  pub layout_contradicts : Bool
   pub member : SaidOf
 
 abbrev pub crs_view : CrsFact → CrsOf
@@ -55,7 +58,7 @@ abbrev pub edges_view : EdgesFact → EdgesOf
 edges_view f = record { from = f.from; edges = string_bytes f.edges; against = f.against }
 
 abbrev pub facts_view : ColumnFacts → FactsOf
-facts_view f = record { crs = option_map crs_view f.crs; edges = option_map edges_view f.edges; encoding = f.encoding; member = member_facts_view f.member }
+facts_view f = record { crs = option_map crs_view f.crs; edges = option_map edges_view f.edges; encoding = f.encoding; layout_contradicts = f.layout_contradicts; member = member_facts_view f.member }
 
 -- ---- the CRS
 
@@ -190,12 +193,21 @@ encoding_fact_of ts = option_map (λ from. record { from = from; against = again
 abbrev pub encoding_fact : Version → Option Json → ColumnTree → Option Element → Option EncodingFact
 encoding_fact version member c e = encoding_fact_of (encodings version member c e)
 
+-- whether the column has another layout than that of the encoding that its member says: of it `GeoLayout` is found
+abbrev pub has_other_layout : Option Text → ColumnTree → Bool
+has_other_layout None c = false
+has_other_layout (Some s) c = not (is_some (layout_of s c.data_type))
+
+abbrev pub layout_contradicts : Version → Option Json → ColumnTree → Bool
+layout_contradicts version None c = false
+layout_contradicts version (Some j) c = has_other_layout (encoding_of version j) c
+
 -- ---- of columns
 
 -- the facts of a column with a member of `geo`, or none, and what its element says, if it says something
 abbrev pub column_facts : Version → Option Json → ColumnTree → Option Element → FactsOf
 column_facts version member c e =
-    record { crs = crs_fact version member c e; edges = edges_fact version member c e; encoding = encoding_fact version member c e; member = member_facts version member }
+    record { crs = crs_fact version member c e; edges = edges_fact version member c e; encoding = encoding_fact version member c e; layout_contradicts = layout_contradicts version member c; member = member_facts version member }
 
 -- the JSON that a file has at the key `geo`; null where there is none
 abbrev pub json_at_geo : Source → Option Json

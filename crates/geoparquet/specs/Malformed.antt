@@ -1,5 +1,5 @@
 -- An object at `crs` that is no PROJJSON (docs/FORMAT.md, 5 and 5.3).
-use Rattle.std.specs.Prelude.{ℕ, Bool, true, false, List, [], ◌∷◌, ◌++◌, codes, map, Option, None, Some, option_and_then, if◌then◌else◌}
+use Rattle.std.specs.Prelude.{◌&&◌, not, ℕ, Bool, true, false, List, [], ◌∷◌, ◌++◌, codes, map, Option, None, Some, option_and_then, if◌then◌else◌}
 use Rattle.json.specs.Json.{Json}
 use Rattle.json.specs.Find.{at, get}
 use Rattle.value_tokens.specs.Values.{is_object}
@@ -20,6 +20,11 @@ are_none (p ∷ ps) = false
 
 abbrev pub is_projjson : Json → Bool
 is_projjson j = are_none (malformed_parts j)
+
+-- a value that is an object, and no PROJJSON
+abbrev pub is_malformed : Option Json → Bool
+is_malformed None = false
+is_malformed (Some j) = is_object j && not (is_projjson j)
 
 -- what stands at a part
 abbrev pub id_at : ℕ → Json → Option Json

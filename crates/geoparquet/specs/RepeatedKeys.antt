@@ -1,5 +1,5 @@
 -- Keys that stand several times in an object of the metadata (docs/FORMAT.md, 5).
-use Rattle.std.specs.Prelude.{◌≡◌, ◌&&◌, ℕ, ◌+◌, Bool, true, false, bytes_eq, List, [], ◌∷◌, ◌++◌, codes, flat_map, length, map, nat_lt, take, Option, None, Some, if◌then◌else◌}
+use Rattle.std.specs.Prelude.{◌≡◌, ◌&&◌, ℕ, ◌+◌, Bool, true, false, ⊤, is_some, bytes_eq, List, [], ◌∷◌, ◌++◌, codes, flat_map, length, map, nat_lt, take, Option, None, Some, if◌then◌else◌}
 use Rattle.std.specs.Bool.{beq}
 use Rattle.std.specs.Borrow.{Bor}
 use Rattle.std.specs.BTreeMap.{BTreeMap, get_by}
@@ -128,6 +128,14 @@ abbrev pub steps_on : Way → List Step
 steps_on Whole = []
 steps_on (Member' p way k) = steps_on way ++ key k.now ∷ []
 steps_on (Item' p way n) = steps_on way ++ index n ∷ []
+
+-- no key has several values
+abbrev pub AreDistinct : Members → Type 0
+AreDistinct ms = (k : Text) → nat_lt 1 (length (values_at k ms)) ≡ false
+
+-- whether a map has a key
+abbrev pub has_key : BTreeMap (Bor Text) ⊤ → Text → Bool
+has_key seen k = is_some (get_by (λ l. slice_cmp nat_cmp k l.now) seen)
 
 -- the values that a map has at a key
 abbrev pub held : Held → Json

@@ -7,7 +7,7 @@ ghost use Rattle.arrow_values.specs.Texts.{text_of};
 ghost use Rattle.arrow_columns.specs.Column.{column_tree};
 ghost use Rattle.crs_identity.specs.Verdicts.{claim};
 ghost use Rattle.geoparquet.specs.Findings.{finding};
-ghost use Rattle.geoparquet.specs.CrsClaims.{said_crs};
+ghost use Rattle.geoparquet.specs.CrsClaims.{own_crs_in, said_crs};
 ghost use Rattle.geoparquet.specs.Counting.{counting, crs_counting, crs_that_counts, is_projected_class, is_projected, is_asked, is_paired_by, is_crs_paired, member_edges, edges_that_count, is_planar, are_planar, edges_on_projected_findings};
 ghost use Rattle.geoparquet.specs.Identifiers.{default_identifier};
 ghost use Rattle.geoparquet.specs.Sources.{element_view};
@@ -106,6 +106,38 @@ fn is_asked_of_three(
     is_asked_of_two(alloc, asked, Some(second), own)
 }
 
+/// Returns what is asked of the CRS that counts, by what the element and the member say and the metadata
+/// of the field. Errs only when out of memory.
+fn is_asked_claimed(
+    alloc: Global,
+    asked: Asked,
+    claimed: Option<Claim<'_, '_>>,
+    said: Option<Claim<'_, '_>>,
+    own: Option<&Value<'_>>,
+) -> Result<bool, AllocError>
+    ensures { IfOk result (λ is. is ≡ is_asked asked (counting (counting (option_map claim claimed.entry) (option_map claim said.entry)) (own_crs_in (option_map (λ v. value_view v.now) own.entry)))) }
+{
+    let field = own_crs_in(alloc, own)?;
+    is_asked_of_three(alloc, asked, claimed, said, field)
+}
+
+/// Returns what is asked of the CRS that counts, by what the member says and the metadata of the
+/// element and of the field. Errs only when out of memory.
+fn is_asked_beside(
+    alloc: Global,
+    asked: Asked,
+    element: Option<&ElementClaim>,
+    metadata: Option<&Value<'_>>,
+    own: Option<&Value<'_>>,
+    said: Option<Claim<'_, '_>>,
+) -> Result<bool, AllocError>
+    ensures { IfOk result (λ is. is ≡ is_asked asked (crs_counting (option_map (λ e. element_view e.now) element.entry) (option_map (λ v. value_view v.now) metadata.entry) (option_map (λ v. value_view v.now) own.entry) (option_map claim said.entry))) }
+{
+    let default = Value::String(DEFAULT_CRS);
+    let claimed = element_crs(alloc, element, metadata, &default)?;
+    is_asked_claimed(alloc, asked, claimed, said, own)
+}
+
 /// Returns whether the CRS that counts is projected, by the metadata of the element and of the field.
 /// Errs only when out of memory.
 fn is_projected_beside(
@@ -120,10 +152,8 @@ fn is_projected_beside(
 {
     let default = Value::String(DEFAULT_CRS);
     let said = said_crs(alloc, version, member.get("crs"), &default)?;
-    let other = Value::String(DEFAULT_CRS);
-    let claimed = element_crs(element, metadata, &other);
     let asked = Asked::Projected;
-    is_asked_of_three(alloc, asked, claimed, said, own_crs_in(own))
+    is_asked_beside(alloc, asked, element, metadata, own, said)
 }
 
 /// Returns whether the CRS that counts is projected. Errs only when out of memory.
@@ -166,10 +196,8 @@ fn is_paired_beside(
     let Some(said) = said_crs(alloc, version, member.get("crs"), &default)? else {
         return Ok(false);
     };
-    let other = Value::String(DEFAULT_CRS);
-    let claimed = element_crs(element, metadata, &other);
     let asked = Asked::Paired;
-    is_asked_of_three(alloc, asked, claimed, Some(said), own_crs_in(own))
+    is_asked_beside(alloc, asked, element, metadata, own, Some(said))
 }
 
 /// Returns whether the CRS that counts has an identifier of the table of pairs, where the member says

@@ -10,12 +10,13 @@ ghost use Rattle.crs_identity.specs.Forms.{json_in, said};
 ghost use Rattle.crs_identity.specs.Verdicts.{claim};
 ghost use Rattle.geoparquet.specs.Identifiers.{default_identifier};
 ghost use Rattle.geoparquet.specs.Findings.{finding};
-ghost use Rattle.geoparquet.specs.CrsClaims.{own_json, is_srid, typed_crs, crs_under, own_crs_in, absent_crs, text_crs, projjson_crs, object_crs, said_crs, claimed, default_claim, element_json, field_json, or_default, element_crs, crs_at, own_shown, claim_shown, pair_verdict, is_contradict, is_not_compared, verdict_findings, verdicts_findings, three_findings, crs_json_findings, crs_claims_findings, crs_contradicts_findings};
+ghost use Rattle.geoparquet.specs.CrsClaims.{own_json, is_srid, typed_crs, crs_under, is_projjson_type, judged_in, is_broken_by, is_broken, own_crs, own_crs_in, named_crs, absent_crs, text_crs, projjson_crs, object_crs, said_crs, claimed, default_claim, element_json, field_json, or_default, element_crs, crs_at, own_shown, claim_shown, pair_verdict, is_contradict, is_not_compared, verdict_findings, verdicts_findings, three_findings, claimed_findings, crs_json_findings, crs_claims_findings, crs_contradicts_findings};
+ghost use Rattle.geoparquet.specs.Malformed.{is_malformed};
 ghost use Rattle.geoparquet.specs.Sources.{element_view};
 
 use crate::code::GeoCode;
 use crate::finding::{GeoFinding, Version};
-use crate::malformed::is_projjson;
+use crate::malformed::{is_malformed, is_projjson};
 use crate::pairs::{Pair, add_pair, first_pair};
 use crate::place::shown_value;
 use crate::version::is_judged;
@@ -194,13 +195,83 @@ pub(crate) fn text_at<'a>(value: &Value<'a>, key: &str) -> Option<&'a str>
     value.get(key)?.as_str()
 }
 
-/// Returns the CRS that extension metadata say, if there are some.
-pub(crate) fn own_crs_in<'v, 'a>(own: Option<&'v Value<'a>>) -> Option<Claim<'v, 'a>>
-    ensures { option_map claim result ≡ own_crs_in (option_map (λ v. value_view v.now) own.entry) }
+/// Whether a text says that a CRS is PROJJSON.
+fn is_projjson_type(crs_type: Option<&str>) -> bool
+    ensures { result ≡ is_projjson_type (text_of crs_type.entry) }
 {
-    let own = own?;
+    match crs_type {
+        Some(text) => text == "projjson",
+        None => false,
+    }
+}
+
+/// Returns whether a text is an object that is no PROJJSON. Errs only when out of memory.
+fn is_text_broken(alloc: Global, text: &str) -> Result<bool, AllocError>
+    ensures { IfOk result (λ is. is ≡ is_malformed (json_in text.now)) }
+{
+    let mut scratch = Scratch::new(alloc);
+    let value = json_in(alloc, text, &mut scratch)?;
+    is_malformed(alloc, value.as_ref())
+}
+
+/// Returns whether what is to be PROJJSON is an object that is none. Errs only when out of memory.
+fn is_value_broken(alloc: Global, typed: bool, value: &Value<'_>) -> Result<bool, AllocError>
+    ensures { IfOk result (λ is. is ≡ is_malformed (judged_in typed (value_view value.now))) }
+{
+    match value {
+        Value::String(text) => {
+            if typed {
+                is_text_broken(alloc, text)
+            } else {
+                Ok(false)
+            }
+        }
+        _ => is_malformed(alloc, Some(value)),
+    }
+}
+
+/// Returns whether the value at `crs` is broken. Errs only when out of memory.
+fn is_broken_by(alloc: Global, typed: bool, found: Option<&Value<'_>>) -> Result<bool, AllocError>
+    ensures { IfOk result (λ is. is ≡ is_broken_by typed (option_map (λ v. value_view v.now) found.entry)) }
+{
+    match found {
+        Some(value) => is_value_broken(alloc, typed, value),
+        None => Ok(false),
+    }
+}
+
+/// Returns whether the CRS of extension metadata is an object that is no PROJJSON. Errs only when out
+/// of memory.
+fn is_broken(alloc: Global, own: &Value<'_>) -> Result<bool, AllocError>
+    ensures { IfOk result (λ is. is ≡ is_broken (value_view own.now)) }
+{
+    let typed = is_projjson_type(text_at(own, "crs_type"));
+    is_broken_by(alloc, typed, own.get("crs"))
+}
+
+/// Returns the CRS that extension metadata say, broken or not.
+fn own_crs<'v, 'a>(own: &'v Value<'a>) -> Option<Claim<'v, 'a>>
+    ensures { option_map claim result ≡ own_crs (value_view own.now) }
+{
     let opaque = is_srid(text_at(own, "crs_type"));
     crs_under(opaque, own.get("crs"))
+}
+
+/// Returns the CRS that extension metadata say, if there are some; none where it is broken. Errs only
+/// when out of memory.
+pub(crate) fn own_crs_in<'v, 'a>(
+    alloc: Global,
+    own: Option<&'v Value<'a>>,
+) -> Result<Option<Claim<'v, 'a>>, AllocError>
+    ensures { IfOk result (λ said. option_map claim said ≡ own_crs_in (option_map (λ v. value_view v.now) own.entry)) }
+{
+    let Some(own) = own else {
+        return Ok(None);
+    };
+    if is_broken(alloc, own)? {
+        return Ok(None);
+    }
+    Ok(own_crs(own))
 }
 
 /// Returns the extension metadata of an element, where they are JSON. Errs only when out of memory.
@@ -255,23 +326,43 @@ fn or_default<'v, 'a>(said: Option<Claim<'v, 'a>>, default: &'v Value<'a>) -> Op
     }
 }
 
-/// Returns the CRS that an element says, by its metadata.
+/// Returns the CRS that an element of a geometry type says by its metadata, and the default where they
+/// name none; none where it is broken. Errs only when out of memory.
+fn named_crs<'v, 'a>(
+    alloc: Global,
+    own: Option<&'v Value<'a>>,
+    default: &'v Value<'a>,
+) -> Result<Option<Claim<'v, 'a>>, AllocError>
+    requires { value_view default.now ≡ string default_identifier }
+    ensures { IfOk result (λ said. option_map claim said ≡ named_crs (option_map (λ v. value_view v.now) own.entry)) }
+{
+    let Some(own) = own else {
+        return Ok(Some(default_claim(default)));
+    };
+    if is_broken(alloc, own)? {
+        return Ok(None);
+    }
+    Ok(or_default(own_crs(own), default))
+}
+
+/// Returns the CRS that an element says, by its metadata. Errs only when out of memory.
 pub(crate) fn element_crs<'v, 'a>(
+    alloc: Global,
     element: Option<&ElementClaim>,
     own: Option<&'v Value<'a>>,
     default: &'v Value<'a>,
-) -> Option<Claim<'v, 'a>>
+) -> Result<Option<Claim<'v, 'a>>, AllocError>
     requires { value_view default.now ≡ string default_identifier }
-    ensures { option_map claim result ≡ element_crs (option_map (λ e. element_view e.now) element.entry) (option_map (λ v. value_view v.now) own.entry) }
+    ensures { IfOk result (λ said. option_map claim said ≡ element_crs (option_map (λ e. element_view e.now) element.entry) (option_map (λ v. value_view v.now) own.entry)) }
 {
     let Some(element) = element else {
-        return None;
+        return Ok(None);
     };
     match element {
-        ElementClaim::Silent => None,
-        ElementClaim::Given { names_crs: true } => or_default(own_crs_in(own), default),
-        ElementClaim::Given { names_crs: false } => Some(default_claim(default)),
-        ElementClaim::Beside(_) => or_default(own_crs_in(own), default),
+        ElementClaim::Silent => Ok(None),
+        ElementClaim::Given { names_crs: true } => named_crs(alloc, own, default),
+        ElementClaim::Given { names_crs: false } => Ok(Some(default_claim(default))),
+        ElementClaim::Beside(_) => named_crs(alloc, own, default),
     }
 }
 
@@ -471,6 +562,32 @@ fn add_three(
     )
 }
 
+/// Adds what is found by what the element and `geo` say and the metadata of the element and of the
+/// field. Errs only when out of memory.
+fn add_claimed(
+    alloc: Global,
+    findings: &mut Vec<GeoFinding>,
+    key: &str,
+    found: Option<&Value<'_>>,
+    metadata: Option<&Value<'_>>,
+    own: Option<&Value<'_>>,
+    element: Option<Claim<'_, '_>>,
+    said: Option<Claim<'_, '_>>,
+) -> Result<(), AllocError>
+    requires found { IfSome found (λ v. IsReadable (value_view v.now)) }
+    requires metadata { IfSome metadata (λ v. IsReadable (value_view v.now)) }
+    requires own { IfSome own (λ v. IsReadable (value_view v.now)) }
+    ensures { OnOk result (map finding findings.new.items ≡ map finding findings.old.items
+        ++ claimed_findings key.now (option_map (λ v. value_view v.now) found.entry) (option_map claim element.entry) (option_map (λ v. value_view v.now) metadata.entry) (option_map (λ v. value_view v.now) own.entry) (option_map claim said.entry)) }
+{
+    let shown = claim_shown(alloc, element, metadata)?;
+    let field = own_crs_in(alloc, own)?;
+    let shown = shown.as_deref();
+    add_three(
+        alloc, findings, key, found, shown, own, element, field, said,
+    )
+}
+
 /// Adds what is found by the metadata of the element and of the field. Errs only when out of memory.
 fn add_json(
     alloc: Global,
@@ -489,19 +606,8 @@ fn add_json(
         ++ crs_json_findings key.now (option_map (λ v. value_view v.now) found.entry) (option_map (λ e. element_view e.now) element.entry) (option_map (λ v. value_view v.now) metadata.entry) (option_map (λ v. value_view v.now) own.entry) (option_map claim said.entry)) }
 {
     let default = Value::String(DEFAULT_CRS);
-    let claimed = element_crs(element, metadata, &default);
-    let shown = claim_shown(alloc, claimed, metadata)?;
-    add_three(
-        alloc,
-        findings,
-        key,
-        found,
-        shown.as_deref(),
-        own,
-        claimed,
-        own_crs_in(own),
-        said,
-    )
+    let claimed = element_crs(alloc, element, metadata, &default)?;
+    add_claimed(alloc, findings, key, found, metadata, own, claimed, said)
 }
 
 /// Adds what is found where two of the element, the field and `crs` say two CRSs, or where it is not

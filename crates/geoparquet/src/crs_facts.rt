@@ -7,6 +7,7 @@ ghost use Rattle.value_tokens.specs.Values.{IsReadable};
 ghost use Rattle.arrow_values.specs.Texts.{text_of};
 ghost use Rattle.arrow_columns.specs.Column.{column_tree};
 ghost use Rattle.crs_identity.specs.Verdicts.{claim};
+ghost use Rattle.geoparquet.specs.CrsClaims.{element_crs, own_crs_in};
 ghost use Rattle.geoparquet.specs.Facts.{crs_by, crs_claims, crs_fact, crs_fact_in, crs_fact_of, crs_from, crs_type_in, crs_value, crs_view, known, member_crs, member_type, own_type};
 ghost use Rattle.geoparquet.specs.FactSources.{of_source};
 ghost use Rattle.geoparquet.specs.Identifiers.{default_identifier};
@@ -261,6 +262,45 @@ fn crs_fact_by(
     }
 }
 
+/// Returns the CRS that counts, by what the element and the member say and the JSON that each source
+/// has. Errs only when out of memory.
+fn crs_fact_claimed(
+    alloc: Global,
+    claimed: Option<Claim<'_, '_>>,
+    said: Option<Claim<'_, '_>>,
+    element: Option<&Value<'_>>,
+    geo: Option<&Value<'_>>,
+    field: Option<&Value<'_>>,
+) -> Result<Option<CrsFact>, AllocError>
+    requires element { IfSome element (λ v. IsReadable (value_view v.now)) }
+    requires geo { IfSome geo (λ v. IsReadable (value_view v.now)) }
+    requires field { IfSome field (λ v. IsReadable (value_view v.now)) }
+    ensures { IfOk result (λ fact. option_map crs_view fact ≡ crs_fact_of (record { element = option_map (λ v. value_view v.now) element.entry; geo = option_map (λ v. value_view v.now) geo.entry; field = option_map (λ v. value_view v.now) field.entry }) (record { element = option_map claim claimed.entry; geo = option_map claim said.entry; field = own_crs_in (option_map (λ v. value_view v.now) field.entry) })) }
+{
+    let own = own_crs_in(alloc, field)?;
+    crs_fact_by(alloc, claimed, said, own, element, geo, field)
+}
+
+/// Returns the CRS that counts, by what the member says and the JSON that each source has. Errs only
+/// when out of memory.
+fn crs_fact_said(
+    alloc: Global,
+    source: Option<&ElementClaim>,
+    said: Option<Claim<'_, '_>>,
+    element: Option<&Value<'_>>,
+    geo: Option<&Value<'_>>,
+    field: Option<&Value<'_>>,
+) -> Result<Option<CrsFact>, AllocError>
+    requires element { IfSome element (λ v. IsReadable (value_view v.now)) }
+    requires geo { IfSome geo (λ v. IsReadable (value_view v.now)) }
+    requires field { IfSome field (λ v. IsReadable (value_view v.now)) }
+    ensures { IfOk result (λ fact. option_map crs_view fact ≡ crs_fact_of (record { element = option_map (λ v. value_view v.now) element.entry; geo = option_map (λ v. value_view v.now) geo.entry; field = option_map (λ v. value_view v.now) field.entry }) (record { element = element_crs (option_map (λ e. element_view e.now) source.entry) (option_map (λ v. value_view v.now) element.entry); geo = option_map claim said.entry; field = own_crs_in (option_map (λ v. value_view v.now) field.entry) })) }
+{
+    let default = Value::String(DEFAULT_CRS);
+    let claimed = element_crs(alloc, source, element, &default)?;
+    crs_fact_claimed(alloc, claimed, said, element, geo, field)
+}
+
 /// Returns the CRS that counts, by the JSON that each source has. Errs only when out of memory.
 fn crs_fact_in(
     alloc: Global,
@@ -277,9 +317,7 @@ fn crs_fact_in(
 {
     let default = Value::String(DEFAULT_CRS);
     let said = member_crs(alloc, version, geo, &default)?;
-    let other = Value::String(DEFAULT_CRS);
-    let claimed = element_crs(claim, element, &other);
-    crs_fact_by(alloc, claimed, said, own_crs_in(field), element, geo, field)
+    crs_fact_said(alloc, claim, said, element, geo, field)
 }
 
 /// Returns the CRS of a column that counts, by its member, if there is one, and what its element says

@@ -15,7 +15,7 @@ use crate::extended::members_of;
 use crate::finding::Version;
 use crate::member_facts::{MemberFacts, member_facts};
 use crate::sources::Sourced;
-use crate::text_facts::{EdgesFact, EncodingFact, edges_fact, encoding_fact};
+use crate::text_facts::{EdgesFact, EncodingFact, edges_fact, encoding_fact, layout_contradicts};
 use crate::version::version_of;
 use arrow_columns::SchemaColumn;
 use json::Value;
@@ -32,6 +32,9 @@ pub struct ColumnFacts {
     pub edges: Option<EdgesFact>,
     /// Its encoding.
     pub encoding: Option<EncodingFact>,
+    /// Whether it has another layout than that of the encoding that its member says: then, and only
+    /// then, `GeoLayout` is found of it.
+    pub layout_contradicts: bool,
     /// What its member of `columns` alone says.
     pub member: MemberFacts,
 }
@@ -101,6 +104,7 @@ fn column_facts(
         crs: crs_fact(alloc, version, member, column, element)?,
         edges: edges_fact(alloc, version, member, column, element)?,
         encoding: encoding_fact(version, member, column, element),
+        layout_contradicts: layout_contradicts(version, member, column),
         member: member_facts(alloc, version, member)?,
     })
 }

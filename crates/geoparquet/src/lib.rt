@@ -54,7 +54,7 @@ pub use column_check::Severity;
 pub use crs_facts::CrsFact;
 pub use encoding::encoded_as;
 pub use equality_laws::geo_code_equality_is_exact;
-pub use fact_laws::columns_are_judged_by_facts;
+pub use fact_laws::{columns_are_judged_by_facts, layouts_are_found_by_facts};
 pub use fact_sources::{Against, FactSource};
 pub use facts::{ColumnFacts, field_facts};
 pub use finding::{GeoFinding, GeoReport, Version};

@@ -6,7 +6,7 @@ ghost use Rattle.value_tokens.specs.Values.{IsReadable};
 ghost use Rattle.crs_identity.specs.Malformed.{pointer};
 ghost use Rattle.geoparquet.specs.Findings.{finding};
 ghost use Rattle.geoparquet.specs.Rules.{part_place};
-ghost use Rattle.geoparquet.specs.Malformed.{are_none, is_projjson, id_at, standing, malformed_finding, malformed_in, malformed_findings};
+ghost use Rattle.geoparquet.specs.Malformed.{are_none, is_projjson, is_malformed, id_at, standing, malformed_finding, malformed_in, malformed_findings};
 
 use crate::adding::add_at;
 use crate::code::GeoCode;
@@ -36,6 +36,19 @@ pub(crate) fn is_projjson(alloc: Global, value: &Value<'_>) -> Result<bool, Allo
 {
     let parts = malformed_parts(alloc, value)?;
     Ok(are_none(parts.as_slice()))
+}
+
+/// Returns whether there is a value that is an object, and no PROJJSON. Errs only when out of memory.
+pub(crate) fn is_malformed(alloc: Global, value: Option<&Value<'_>>) -> Result<bool, AllocError>
+    ensures { IfOk result (λ is. is ≡ is_malformed (option_map (λ v. value_view v.now) value.entry)) }
+{
+    let Some(value) = value else {
+        return Ok(false);
+    };
+    if !is_object(value) {
+        return Ok(false);
+    }
+    Ok(!is_projjson(alloc, value)?)
 }
 
 /// Returns the item of `ids` at an index.

@@ -1,12 +1,12 @@
 //! Keys that stand several times in an object of the metadata.
-ghost use Rattle.std.specs.Prelude.{◌≡◌, [], ◌∷◌, ◌++◌, IfOk, OnOk, map, option_copied, string_bytes};
+ghost use Rattle.std.specs.Prelude.{◌≡◌, [], ◌∷◌, ◌++◌, ◌||◌, IfOk, OnOk, bytes_eq, map, option_copied, string_bytes};
+ghost use Rattle.std.specs.Bool.{OnFalse};
 ghost use Rattle.json.specs.Value.{items_view, members_view, value_view};
 ghost use Rattle.arrow_values.specs.Texts.{text_of};
 ghost use Rattle.arrow_values.specs.Tree.{Text};
-ghost use Rattle.parquet_columns.specs.Findings.{values_text};
 ghost use Rattle.geoparquet.specs.Findings.{finding};
 ghost use Rattle.geoparquet.specs.Ordered.{ordered_members};
-ghost use Rattle.geoparquet.specs.RepeatedKeys.{step_text, pointer, column_on, values_at, repeated_finding, several, key_findings, own_findings, repeated_in, repeated_in_items, repeated_in_members, repeated_findings, AreTold, step_view, steps_on, held, values_of, values_in, value_at, left_at};
+ghost use Rattle.geoparquet.specs.RepeatedKeys.{step_text, pointer, column_on, values_at, repeated_finding, several, key_findings, own_findings, repeated_in, repeated_in_items, repeated_in_members, repeated_findings, AreTold, step_view, steps_on, held, values_of, values_in, value_at, left_at, AreDistinct, has_key};
 
 use crate::code::GeoCode;
 use crate::finding::GeoFinding;
@@ -14,6 +14,7 @@ use crate::ordered::ordered_members;
 use crate::place::{copied, item_place, member_place};
 use crate::same_values::{Held, are_equal};
 use json::Value;
+use parquet_columns::values_text;
 use std::alloc::{AllocError, Global};
 use std::collections::BTreeMap;
 
@@ -115,6 +116,59 @@ fn add_in_members<'a>(
 
 /// Adds what is found of the keys of an object. Errs only when out of memory.
 fn add_own<'a>(
+    alloc: Global,
+    findings: &mut Vec<GeoFinding>,
+    way: &Way<'_>,
+    members: &[(&'a str, Value<'a>)],
+) -> Result<(), AllocError>
+    ensures { OnOk result (AreTold findings.old.items findings.new.items (own_findings (steps_on way.now) (members_view members.now) (ordered_members (members_view members.now)))) }
+{
+    if may_repeat(alloc, members)? {
+        add_repeated(alloc, findings, way, members)
+    } else {
+        Ok(())
+    }
+}
+
+/// Whether a key may stand several times in an object: of fewer than two members none does, and
+/// nothing is allocated. Errs only when out of memory.
+fn may_repeat<'a>(alloc: Global, members: &[(&'a str, Value<'a>)]) -> Result<bool, AllocError>
+    ensures { IfOk result (λ may. OnFalse may (AreDistinct (members_view members.now))) }
+{
+    if members.len() < 2 {
+        Ok(false)
+    } else {
+        is_any_repeated(alloc, members)
+    }
+}
+
+/// Whether a key stands several times in an object: the first that does ends the search. Errs only
+/// when out of memory.
+fn is_any_repeated<'a>(alloc: Global, members: &[(&'a str, Value<'a>)]) -> Result<bool, AllocError>
+    ensures { IfOk result (λ is. OnFalse is (AreDistinct (members_view members.now))) }
+{
+    let mut seen = BTreeMap::new(alloc);
+    for member in members {
+        if is_seen(&mut seen, member.0)? {
+            return Ok(true);
+        }
+    }
+    Ok(false)
+}
+
+/// Returns whether a key was seen before; now it is. Errs only when out of memory.
+fn is_seen<'v>(seen: &mut BTreeMap<&'v str, ()>, key: &'v str) -> Result<bool, AllocError>
+    ensures before { IfOk result (λ before. before ≡ has_key seen.old key.now) }
+    ensures seen { OnOk result ((name : Text) → has_key seen.new name
+        ≡ bytes_eq key.now name || has_key seen.old name) }
+{
+    let before = seen.insert(key, ())?;
+    Ok(before.is_some())
+}
+
+/// Adds what is found of the keys of an object, of which some may stand several times. Errs only
+/// when out of memory.
+fn add_repeated<'a>(
     alloc: Global,
     findings: &mut Vec<GeoFinding>,
     way: &Way<'_>,
@@ -294,16 +348,5 @@ fn step_text(alloc: Global, step: Step<'_>) -> Result<String, AllocError>
     match step {
         Step::Key(key) => member_place(alloc, "", key),
         Step::Index(index) => item_place(alloc, "", index),
-    }
-}
-
-/// Returns how many values a key has, and whether they differ. Errs only when out of memory.
-fn values_text(alloc: Global, count: usize, same: bool) -> Result<String, AllocError>
-    ensures { IfOk result (λ text. string_bytes text ≡ values_text count same) }
-{
-    if same {
-        format!(in alloc; "{count} values, which are equal")
-    } else {
-        format!(in alloc; "{count} values, which differ")
     }
 }

@@ -6,7 +6,7 @@ ghost use Rattle.serde_json.specs.View.{view};
 ghost use Rattle.value_tokens.specs.Values.{IsReadable};
 ghost use Rattle.arrow_values.specs.Texts.{text_of};
 ghost use Rattle.arrow_columns.specs.Column.{column_tree};
-ghost use Rattle.geoparquet.specs.Facts.{are_absent, edges_fact, edges_fact_in, edges_from, edges_view, encoding_fact, encoding_from, has_no_edges, is_default_if, member_edges, member_encoding};
+ghost use Rattle.geoparquet.specs.Facts.{are_absent, edges_fact, edges_fact_in, edges_from, edges_view, encoding_fact, encoding_from, has_no_edges, has_other_layout, is_default_if, layout_contradicts, member_edges, member_encoding};
 ghost use Rattle.geoparquet.specs.Sources.{element_view};
 
 use crate::contradictions::{
@@ -15,6 +15,8 @@ use crate::contradictions::{
 };
 use crate::fact_sources::{Against, FactSource, source_counting, text_from, texts_against};
 use crate::finding::Version;
+use crate::layout::layout_of;
+use crate::members::encoding_of;
 use arrow_columns::SchemaColumn;
 use json::Value;
 use parquet_columns::ElementClaim;
@@ -155,6 +157,32 @@ fn member_encoding<'a>(
         return None;
     };
     layout_encoding(version, Some(column), member)
+}
+
+/// Whether a column has another layout than that of an encoding.
+fn has_other_layout(encoding: Option<&str>, column: &SchemaColumn) -> bool
+    ensures { result ≡ has_other_layout (text_of encoding.entry) (column_tree column.now) }
+{
+    match encoding {
+        Some(encoding) => layout_of(encoding, &column.data_type).is_none(),
+        None => false,
+    }
+}
+
+/// Whether a column has another layout than that of the encoding that its member says, if there is
+/// one (docs/FORMAT.md, 5.1).
+pub(crate) fn layout_contradicts(
+    version: Version,
+    member: Option<&Value<'_>>,
+    column: &SchemaColumn,
+) -> bool
+    requires { IfSome member (λ v. IsReadable (value_view v.now)) }
+    ensures { result ≡ layout_contradicts version (option_map (λ v. value_view v.now) member.entry) (column_tree column.now) }
+{
+    let Some(member) = member else {
+        return false;
+    };
+    has_other_layout(encoding_of(version, member), column)
 }
 
 /// Returns the source of the encoding: the field, else the member, else the element.

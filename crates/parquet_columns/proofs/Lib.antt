@@ -6,12 +6,14 @@ mod Fitting
 mod Found
 mod Resolving
 mod Jsons
+mod Kept
 mod Laters
 mod Maps
 mod Named
 mod Names
 mod Parts
 mod Placed
+mod Repeating
 mod Spending
 mod Steps
 mod Utf8

@@ -6,7 +6,7 @@ use Rattle.parquet_footer.specs.declared.code.Severity.TheVariants.{Error, Warni
 use Rattle.parquet_columns.specs.declared.code.FileCode.{FileCode}
 use Rattle.parquet_columns.specs.declared.code.FileCode.TheVariants.{ArrowSchemaUnreadable, ArrowSchemaNames, ArrowSchemaContradicts, GeoNotInFooter, ElementInvalid, EmptyGroup, LogicalTypeInvalid, UnknownAlgorithm, CrsKeyMissing, NestedGeometry, NoGeoMetadata, RepeatedKey}
 use Rattle.parquet_columns.specs.declared.code.FilePart.{FilePart}
-use Rattle.parquet_columns.specs.declared.code.FilePart.TheVariants.{Footer, StoredText, StoredMessage, Elements}
+use Rattle.parquet_columns.specs.declared.code.FilePart.TheVariants.{Footer, StoredText, StoredMessage, Elements, Field, File}
 
 abbrev pub code_of : FileCode → Text
 code_of ArrowSchemaUnreadable = codes "ArrowSchemaUnreadable"
@@ -49,7 +49,7 @@ rule_of UnknownAlgorithm = codes "the algorithm of a GEOGRAPHY has a number othe
 rule_of CrsKeyMissing = codes "the CRS of a geometry type is projjson:KEY, and KEY has no value that is a JSON object"
 rule_of NestedGeometry = codes "an element below a column, or one that is REPEATED, is GEOMETRY or GEOGRAPHY"
 rule_of NoGeoMetadata = codes "a key is geo but for the case of its letters, and geo has no value"
-rule_of RepeatedKey = codes "geo or ARROW:schema stands several times with a value"
+rule_of RepeatedKey = codes "geo, ARROW:schema or an extension key of a field stands several times with a value"
 
 -- what is expected where a code is found
 abbrev pub expected_of : FileCode → Text
@@ -87,3 +87,5 @@ part_text Footer = codes "footer"
 part_text StoredText = codes "ARROW:schema"
 part_text StoredMessage = codes "ARROW:schema"
 part_text Elements = codes "elements"
+part_text Field = codes "field"
+part_text File = codes "file"

@@ -20,6 +20,7 @@ pub mod Claims
 pub mod Marks
 pub mod Codes
 pub mod Findings
+pub mod Entries
 pub mod GeoKeys
 pub mod Invalid
 pub mod Stored

@@ -63,10 +63,11 @@ choice r = record { columns = map column_tree r.columns.items; findings = map fi
 abbrev pub names_seen : Option (Bor Text) × Option (Bor Text) → Option Text × Option Text
 names_seen p = (text_of p.0, text_of p.1)
 
--- the columns of a stored schema, each as far as it fits its element, if their names are those of the elements' columns; else these
-abbrev pub by_names : Option (Option Text × Option Text) → List Element → List ColumnTree → List ColumnTree → Choice
-by_names None es stored cs = record { columns = resolved_columns (resolved_from 0 es cs stored); findings = resolved_findings (resolved_from 0 es cs stored) }
-by_names (Some names) es stored cs = record { columns = cs; findings = other_names names ∷ [] }
+-- the columns of a stored schema, each as far as it fits its element, if their names are those of the elements' columns, with what was found of them before;
+-- else these
+abbrev pub by_names : Option (Option Text × Option Text) → List Element → List ColumnTree → List Finding → List ColumnTree → Choice
+by_names None es stored found cs = record { columns = resolved_columns (resolved_from 0 es cs stored); findings = resolved_findings (resolved_from 0 es cs stored) ++ found }
+by_names (Some names) es stored found cs = record { columns = cs; findings = other_names names ∷ [] }
 
 -- the key geo in the metadata of a stored schema, which has no value in the footer
 abbrev pub geo_by : Option Text → Option Spelled → List Finding
@@ -83,8 +84,8 @@ and_found read fs = record { columns = read.columns; findings = read.findings ++
 -- by what is stored, beside the columns of the elements
 abbrev pub chosen : Contents → Option Stored → List ColumnTree → Choice
 chosen c None cs = record { columns = cs; findings = [] }
-chosen c (Some (Schema s)) cs = and_found
-    (by_names (first_other (map column_tree s.columns.items) cs) (root_children c.schema) (map column_tree s.columns.items) cs)
+chosen c (Some (Schema s found)) cs = and_found
+    (by_names (first_other (map column_tree s.columns.items) cs) (root_children c.schema) (map column_tree s.columns.items) (map finding found.items) cs)
     (geo_beside (texts_of s.metadata.entries) c.key_value_metadata)
 chosen c (Some (Unreadable fault)) cs = record { columns = cs; findings = unreadable fault ∷ [] }
 

@@ -1,5 +1,5 @@
 -- What the value of ARROW:schema holds: a schema, or why it holds none.
-use Rattle.std.specs.Prelude.{◌≡◌, ℕ, List, Option, Some, None, Result, Ok, Err, ⊤}
+use Rattle.std.specs.Prelude.{◌≡◌, ℕ, List, map, Option, Some, None, Result, Ok, Err, ⊤}
 use Rattle.std.specs.declared.vec.Vec.{Vec}
 use Rattle.std.specs.declared.alloc.Global.{Global}
 use Rattle.base64.specs.Engines.{standard_pad_indifferent}
@@ -9,6 +9,10 @@ use Rattle.arrow_values.specs.Tree.{Text}
 use Rattle.arrow_ipc.specs.Schema.{message_in, schema_of_message, Meets}
 use Rattle.arrow_ipc.specs.declared.fault.IpcError.TheVariants as errors
 use Rattle.parquet_footer.specs.Spelled.{Spelled}
+use Rattle.arrow_columns.specs.Column.{column_tree}
+use Rattle.parquet_columns.specs.Findings.{finding}
+use Rattle.parquet_columns.specs.Entries.{repeated_columns, stored_entries}
+use Rattle.parquet_columns.specs.declared.code.FilePart.TheVariants.{StoredMessage}
 use Rattle.parquet_columns.specs.declared.stored.StoredFault.TheVariants.{Encoding, Broken, Budget}
 use Rattle.parquet_columns.specs.declared.stored.Stored.{Stored}
 use Rattle.parquet_columns.specs.declared.stored.Stored.TheVariants.{Schema, Unreadable}
@@ -18,9 +22,10 @@ abbrev pub IsDecoded : Result (List ℕ) DecodeError → Result (Vec ℕ Global)
 IsDecoded there (Ok bytes) = there ≡ Ok bytes.items
 IsDecoded there (Err error) = there ≡ Err error
 
--- what is read of a message: its schema, or how it is refused
+-- what is read of a message: its schema, and what is found of keys that stand several times on its columns; or how it is refused
 abbrev pub IsSchemaOf : List ℕ → Stored → Type 0
-IsSchemaOf bytes (Schema s) = Meets (message_in bytes) (schema_of_message 61) (Ok s)
+IsSchemaOf bytes (Schema s found) =
+    Meets (message_in bytes) (schema_of_message 61) (Ok s) × (map finding found.items ≡ repeated_columns StoredMessage (map column_tree s.columns.items) (stored_entries bytes))
 IsSchemaOf bytes (Unreadable (Broken fault)) = Meets (message_in bytes) (schema_of_message 61) (Err (errors.Broken fault))
 IsSchemaOf bytes (Unreadable (Budget at)) = Meets (message_in bytes) (schema_of_message 61) (Err (errors.Budget at))
 IsSchemaOf bytes (Unreadable (Encoding error)) = ⊥

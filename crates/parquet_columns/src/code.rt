@@ -32,7 +32,8 @@ pub enum FileCode {
     NestedGeometry,
     /// A key is `geo` but for the case of its letters, and `geo` has no value.
     NoGeoMetadata,
-    /// The key `geo` or `ARROW:schema` stands several times with a value.
+    /// The key `geo` or `ARROW:schema`, or a key of the extension type of a field, stands several
+    /// times with a value.
     RepeatedKey,
 }
 
@@ -117,7 +118,8 @@ impl FileCode {
                 "an element below a column, or one that is REPEATED, is GEOMETRY or GEOGRAPHY",
             Self::NoGeoMetadata =>
                 "a key is geo but for the case of its letters, and geo has no value",
-            Self::RepeatedKey => "geo or ARROW:schema stands several times with a value",
+            Self::RepeatedKey =>
+                "geo, ARROW:schema or an extension key of a field stands several times with a value",
         }
     }
 
@@ -178,10 +180,15 @@ pub enum FilePart {
     StoredMessage,
     /// The elements of the schema; the bytes of the footer are counted.
     Elements,
+    /// A field of an Arrow file.
+    Field,
+    /// The file itself.
+    File,
 }
 
 impl FilePart {
-    /// Returns the part, as reports have it: `footer`, `ARROW:schema` or `elements`.
+    /// Returns the part, as reports have it: `footer`, `ARROW:schema`, `elements`,
+    /// `field` or `file`.
     pub fn text(self) -> &'static str
         ensures { result.now ≡ part_text self }
     {
@@ -190,6 +197,8 @@ impl FilePart {
             Self::StoredText => "ARROW:schema",
             Self::StoredMessage => "ARROW:schema",
             Self::Elements => "elements",
+            Self::Field => "field",
+            Self::File => "file",
         }
     }
 }

@@ -33,7 +33,7 @@ pub struct FileFinding {
 }
 
 /// A text of one's own, if there is one.
-fn owned(alloc: Global, text: Option<&str>) -> Result<Option<String>, AllocError>
+pub(crate) fn owned(alloc: Global, text: Option<&str>) -> Result<Option<String>, AllocError>
     ensures { IfOk result (λ made. option_map string_bytes made ≡ text_of text.entry) }
 {
     match text {

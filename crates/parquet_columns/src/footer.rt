@@ -7,7 +7,7 @@ ghost use Rattle.parquet_footer.specs.Footer.{contents, pairing};
 ghost use Rattle.parquet_columns.specs.Columns.{fault_tree, columns_of};
 ghost use Rattle.parquet_columns.specs.Findings.{finding, first_other, other_names};
 ghost use Rattle.parquet_columns.specs.declared.stored.Stored.TheVariants as holds;
-ghost use Rattle.parquet_columns.specs.Reads.{IsBuilt, names_seen, choice, by_names, geo_beside, chosen, IsReadWith, IsFooterRead};
+ghost use Rattle.parquet_columns.specs.Reads.{IsBuilt, names_seen, choice, by_names, geo_beside, and_found, chosen, IsReadWith, IsFooterRead};
 
 use crate::budget::report_budget;
 use crate::claim::ElementClaim;
@@ -96,22 +96,38 @@ fn other_names(alloc: Global, names: Names<'_>) -> Result<FileFinding, AllocErro
     FileFinding::new(alloc, FileCode::ArrowSchemaNames, place, names.0, names.1)
 }
 
+/// Columns with more that is found, behind what is. Errs only when out of memory.
+fn with_found(read: Unmarked, found: Vec<FileFinding>) -> Result<Unmarked, AllocError>
+    ensures { IfOk result (λ made. choice made ≡ and_found (choice read) (map finding found.items)) }
+{
+    let Unmarked { columns, findings } = read;
+    let mut findings = findings;
+    let mut found = found;
+    findings.append(&mut found)?;
+    Ok(Unmarked { columns, findings })
+}
+
 /// The columns of a stored schema, if their names are those of the elements' columns, each as far
-/// as it fits its element; else these. Errs only when out of memory.
+/// as it fits its element, with what was found of them before; else these. Errs only when out of
+/// memory.
 fn by_names(
     alloc: Global,
     children: &[SchemaElement<'_>],
     stored: Vec<SchemaColumn>,
+    found: Vec<FileFinding>,
     columns: Vec<SchemaColumn>,
 ) -> Result<Unmarked, AllocError>
     ensures { IfOk result (λ read. choice read ≡ by_names (first_other (map column_tree stored.items) (map column_tree columns.items))
-        (map element children.now) (map column_tree stored.items) (map column_tree columns.items)) }
+        (map element children.now) (map column_tree stored.items) (map finding found.items) (map column_tree columns.items)) }
 {
-    let found = match first_other(stored.as_slice(), columns.as_slice()) {
+    let other = match first_other(stored.as_slice(), columns.as_slice()) {
         Some(names) => other_names(alloc, names)?,
-        None => return resolved(alloc, children, columns.as_slice(), stored),
+        None => {
+            let read = resolved(alloc, children, columns.as_slice(), stored)?;
+            return with_found(read, found);
+        }
     };
-    let findings = vec![in alloc; found]?;
+    let findings = vec![in alloc; other]?;
     Ok(Unmarked { columns, findings })
 }
 
@@ -143,9 +159,10 @@ fn of_schema(
     alloc: Global,
     footer: &Footer<'_>,
     schema: Schema,
+    found: Vec<FileFinding>,
     columns: Vec<SchemaColumn>,
 ) -> Result<Unmarked, AllocError>
-    ensures { IfOk result (λ read. choice read ≡ chosen (contents footer.now) (Some (holds.Schema schema)) (map column_tree columns.items)) }
+    ensures { IfOk result (λ read. choice read ≡ chosen (contents footer.now) (Some (holds.Schema schema found)) (map column_tree columns.items)) }
 {
     let Schema {
         columns: stored,
@@ -153,7 +170,7 @@ fn of_schema(
         ..
     } = schema;
     let children = root_children(alloc, footer.schema.as_slice())?;
-    let read = by_names(alloc, children.as_slice(), stored, columns)?;
+    let read = by_names(alloc, children.as_slice(), stored, found, columns)?;
     let Unmarked { columns, findings } = read;
     let mut findings = findings;
     add_geo_beside(alloc, &mut findings, footer, &metadata)?;
@@ -171,7 +188,7 @@ fn chosen(
     ensures { IfOk result (λ read. choice read ≡ chosen (contents footer.now) stored (map column_tree columns.items)) }
 {
     match stored {
-        Some(Stored::Schema(schema)) => of_schema(alloc, footer, schema, columns),
+        Some(Stored::Schema(schema, found)) => { of_schema(alloc, footer, schema, found, columns) }
         Some(Stored::Unreadable(fault)) => {
             let found = unreadable(alloc, fault)?;
             let findings = vec![in alloc; found]?;

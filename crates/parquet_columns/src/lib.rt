@@ -8,6 +8,7 @@ mod claim;
 mod code;
 mod columns;
 mod elements;
+mod entries;
 mod equality_laws;
 mod error;
 mod fault;
@@ -36,6 +37,7 @@ pub use budget::{TOO_LARGE, report_budget};
 pub use claim::ElementClaim;
 pub use code::{FileCode, FilePart};
 pub use columns::{ColumnFault, ElementColumns, NESTING_LIMIT, columns_of};
+pub use entries::repeated_entries;
 pub use equality_laws::{
     columns_error_equality_is_exact, file_code_equality_is_exact, file_place_equality_is_exact,
     rule_equality_is_exact,
@@ -46,3 +48,5 @@ pub use file::{FileColumns, footer_in, read_file};
 pub use finding::{FileFinding, FilePlace};
 pub use footer::{FooterColumns, columns_of_footer};
 pub use keys::{ARROW_SCHEMA_KEY, value_of};
+pub use repeated::values_text;
+pub use unreadable::is_unreadable;

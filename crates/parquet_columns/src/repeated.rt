@@ -51,8 +51,14 @@ fn all_same(one: FooterText<'_>, values: &[FooterText<'_>]) -> bool
     true
 }
 
-/// How many values a key has, and whether they differ.
-fn values_text(alloc: Global, count: usize, same: bool) -> Result<String, AllocError>
+/// Returns how many values a key has, and whether they differ: `2 values, which are equal`, or
+/// `2 values, which differ`. Errs only when out of memory.
+///
+/// ```rust
+/// let text = values_text(alloc, 2, true)?;
+/// assert_eq!(rt; text.as_str(), "2 values, which are equal");
+/// ```
+pub fn values_text(alloc: Global, count: usize, same: bool) -> Result<String, AllocError>
     ensures { IfOk result (λ text. string_bytes text ≡ values_text count same) }
 {
     if same {

@@ -8,6 +8,7 @@ ghost use Rattle.parquet_columns.specs.Findings.{encoding_byte, stored_place, st
 ghost use Rattle.parquet_columns.specs.Stored.{IsDecoded, IsSchemaOf, IsStored, AreStored};
 
 use crate::code::{FileCode, FilePart};
+use crate::entries::stored_repeated;
 use crate::finding::{FileFinding, FilePlace};
 use crate::keys::{ARROW_SCHEMA_KEY, value_of};
 use arrow_ipc::{IpcError, IpcFault, Schema, read_schema};
@@ -30,8 +31,8 @@ pub(crate) enum StoredFault {
 /// What the value of `ARROW:schema` holds.
 #[derive(Drop)]
 pub(crate) enum Stored {
-    /// A schema.
-    Schema(Schema),
+    /// A schema, and what is found of keys that stand several times on its columns.
+    Schema(Schema, Vec<FileFinding>),
     /// None.
     Unreadable(StoredFault),
 }
@@ -47,12 +48,15 @@ fn decode(alloc: Global, text: &[u8]) -> Result<Result<Vec<u8>, DecodeError>, Al
     }
 }
 
-/// The schema of a message, or why there is none.
+/// The schema of a message, and what is found of its columns; or why there is none.
 fn schema_of(alloc: Global, message: &[u8]) -> Result<Stored, AllocError>
     ensures { IfOk result (IsSchemaOf message.now) }
 {
     match read_schema(alloc, message) {
-        Ok(schema) => Ok(Stored::Schema(schema)),
+        Ok(schema) => {
+            let found = stored_repeated(alloc, message, schema.columns.as_slice())?;
+            Ok(Stored::Schema(schema, found))
+        }
         Err(IpcError::Broken(fault)) => Ok(Stored::Unreadable(StoredFault::Broken(fault))),
         Err(IpcError::Budget(at)) => Ok(Stored::Unreadable(StoredFault::Budget(at))),
         Err(IpcError::OutOfMemory) => Err(AllocError),

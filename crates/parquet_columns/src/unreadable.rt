@@ -19,8 +19,9 @@ pub(crate) fn unreadable_column(alloc: Global, name: &[u8]) -> Result<SchemaColu
     plain_column(alloc, name, true, AnyType::Other(text))
 }
 
-/// Whether a type is that of such a column.
-pub(crate) fn is_unreadable(any: &AnyType) -> bool
+/// Returns whether a type is that of a column with an element that breaks a rule, which is not read
+/// (`docs/FORMAT.md`, 4.4).
+pub fn is_unreadable(any: &AnyType) -> bool
     ensures { result ≡ is_unreadable (type_tree any.now) }
 {
     match any {

@@ -29,7 +29,7 @@ use Rattle.reading_laws.specs.Agrees.{values_in, is_odd_text, AgreesWithType, Is
 use Rattle.column_check.specs.declared.data_type.TypeFault.{TypeFault}
 use Rattle.column_check.specs.declared.metadata.MetadataFault.{MetadataFault}
 use Rattle.column_check.specs.declared.finding.Reasons.{Reasons}
-use Rattle.column_check.specs.declared.finding.Reasons.TheVariants.{UnknownExtension, DataType, Metadata as OfMetadata, DataTypeAndMetadata}
+use Rattle.column_check.specs.declared.finding.Reasons.TheVariants.{UnknownExtension, DataType, Metadata as OfMetadata, DataTypeAndMetadata, Unread}
 use Rattle.column_check.specs.declared.finding.Finding.{Finding}
 use Rattle.column_check.specs.declared.finding.Finding.TheVariants.{Geometry, Invalid, Extension, Inferred, Plain}
 
@@ -208,6 +208,7 @@ module _ (f : FieldTree) where
     reasons_refute (DataType t) k m h reads = type_refuted h.0 t k m h.1 h.2 reads
     reasons_refute (OfMetadata x) k m h reads = text_refuted x k m h.3 reads
     reasons_refute (DataTypeAndMetadata t x) k m h reads = type_refuted h.0 t k m h.1 h.2 reads
+    reasons_refute Unread k m h reads = h
 
     pub refuses : (infer : Bool) (r : Finding) → RefusesWithReading infer r f
     refuses infer (Geometry g) = λ is. has_name is.0.0 is.0.1
@@ -215,6 +216,7 @@ module _ (f : FieldTree) where
     refuses infer (Invalid (DataType t)) = λ is. (has_name is.0 is.1, λ k m. reasons_refute (DataType t) k m is)
     refuses infer (Invalid (OfMetadata x)) = λ is. (has_name is.0 is.1, λ k m. reasons_refute (OfMetadata x) k m is)
     refuses infer (Invalid (DataTypeAndMetadata t x)) = λ is. (has_name is.0 is.1, λ k m. reasons_refute (DataTypeAndMetadata t x) k m is)
+    refuses infer (Invalid Unread) = λ is. absurd is
     refuses infer Extension = λ is. other_refuted is.0 is.1.0 is.1.1
     refuses infer (Inferred g) = λ is. unnamed_refuted is.1.0
     refuses infer Plain = λ is. unnamed_refuted is.0
@@ -260,6 +262,7 @@ module _ (f : FieldTree) where
   agrees_with_inference one_values one (Invalid (DataType x)) is none t infers = absurd (unnamed_apart f is.0 is.1 none)
   agrees_with_inference one_values one (Invalid (OfMetadata x)) is none t infers = absurd (unnamed_apart f is.0 is.1 none)
   agrees_with_inference one_values one (Invalid (DataTypeAndMetadata x y)) is none t infers = absurd (unnamed_apart f is.0 is.1 none)
+  agrees_with_inference one_values one (Invalid Unread) is none t infers = absurd is
   agrees_with_inference one_values one Extension is none t infers = absurd (cc (is.1.0, none))
   agrees_with_inference one_values one (Inferred g) is none t infers =
       let taken = takes (kind_of t) (meta_of t) none infers in

@@ -1,9 +1,10 @@
-//! Why bytes are refused, as the library says it.
+//! Why bytes are refused, and why lines are no columns, as the library says it.
+use crate::error::Error;
 use crate::members::{members, Value};
 use std::fmt::{self, Display, Formatter};
 use std::str;
 
-/// Why bytes are refused: a code, what is wrong, and the place, in the words of `geoarrow_check` (docs/FORMAT.md, 2.8). It is shown as that program
+/// Why bytes are refused, or why a line of a file that is read is no column ([`bad_lines`]): a code, what is wrong, and the place, in the words of `geoarrow_check` (docs/FORMAT.md, 2.8). It is shown as that program
 /// shows it behind the name of a file: the place, if there is one, what is wrong, what is found, and what to try.
 #[derive(Debug, Clone, PartialEq, Eq, Hash)]
 pub struct Fault(Box<Said>);
@@ -21,11 +22,13 @@ struct Said {
     byte: Option<u64>,
     element: Option<u64>,
     column: Option<u64>,
+    more: u64,
 }
 
 /// The keys of a line.
-const KEYS: [&str; 10] = [
-    "byte", "column", "element", "error", "file", "found", "help", "line", "message", "place",
+const KEYS: [&str; 11] = [
+    "byte", "column", "element", "error", "file", "found", "help", "line", "message", "more",
+    "place",
 ];
 
 impl Fault {
@@ -46,6 +49,7 @@ impl Fault {
                 ("help", Value::Text(text)) => said.help = Some(text),
                 ("line", Value::Number(number)) => said.line = Some(number),
                 ("message", Value::Text(text)) => message = Some(text),
+                ("more", Value::Number(number)) => said.more = number,
                 ("place", Value::Text(text)) => said.place = Some(text),
                 (known, _) if KEYS.contains(&known) => return None,
                 _ => {}
@@ -119,6 +123,12 @@ impl Fault {
         self.0.file.as_deref()
     }
 
+    /// How many more lines are no columns, of the last that is told; otherwise 0.
+    #[must_use]
+    pub fn more(&self) -> u64 {
+        self.0.more
+    }
+
     /// All of this as the line of JSON that `geoarrow_check --json` prints, without its line feed.
     #[must_use]
     pub fn as_json(&self) -> &str {
@@ -142,12 +152,40 @@ impl Display for Fault {
     }
 }
 
+/// Why lines are no columns: those of a report that [`check`](crate::check) or [`check_named`](crate::check_named) gave of a file of lines, in their
+/// order, at most 100; the last says how many more there are. The other lines of such a file are its columns.
+///
+/// ```
+/// use geoarrow_checked::{bad_lines, check, Options};
+///
+/// let report = check(b"{}\n{\"name\":\"t\",\"nullable\":true,\"type\":\"utf8\"}\n[]\n", Options::default())?;
+/// let bad: Vec<_> = bad_lines(&report)?.iter().map(|fault| (fault.code().to_owned(), fault.line())).collect();
+/// assert_eq!(bad, [("LineName".to_owned(), Some(1)), ("LineNotObject".to_owned(), Some(3))]);
+/// # Ok::<(), geoarrow_checked::Error>(())
+/// ```
+///
+/// # Errors
+///
+/// [`Error::Line`] with the first line that begins as that of a fault, and is none.
+pub fn bad_lines(report: &str) -> Result<Vec<Fault>, Error> {
+    let faults = report.lines().filter(|line| is_of_fault(line));
+    faults
+        .map(|line| Fault::read(line.as_bytes()).ok_or_else(|| Error::Line(line.to_owned())))
+        .collect()
+}
+
+/// Whether a line of a report begins as that of a fault.
+pub(crate) fn is_of_fault(line: &str) -> bool {
+    line.starts_with("{\"error\":") || line.starts_with("{\"byte\":")
+}
+
 #[cfg(test)]
 mod tests {
-    use super::Fault;
+    use super::{bad_lines, Fault};
+    use crate::Error;
 
     /// With a value of its own at each key.
-    const WHOLE: &str = r#"{"byte":1,"column":2,"element":3,"error":"Four","file":"five","found":"nine","help":"ten","line":6,"message":"seven","place":"eight"}"#;
+    const WHOLE: &str = r#"{"byte":1,"column":2,"element":3,"error":"Four","file":"five","found":"nine","help":"ten","line":6,"message":"seven","more":11,"place":"eight"}"#;
     const LEAST: &str = r#"{"error":"EmptyFile","message":"is empty"}"#;
 
     fn read(line: &str) -> Fault {
@@ -159,6 +197,7 @@ mod tests {
         let fault = read(WHOLE);
         let numbers = [fault.byte(), fault.column(), fault.element(), fault.line()];
         assert_eq!(numbers, [1, 2, 3, 6].map(Some));
+        assert_eq!(fault.more(), 11);
         assert_eq!((fault.code(), fault.message()), ("Four", "seven"));
         assert_eq!((fault.file(), fault.place()), (Some("five"), Some("eight")));
         assert_eq!((fault.found(), fault.help()), (Some("nine"), Some("ten")));
@@ -171,6 +210,7 @@ mod tests {
         let fault = read(LEAST);
         let numbers = [fault.byte(), fault.column(), fault.element(), fault.line()];
         assert_eq!(numbers, [None; 4]);
+        assert_eq!(fault.more(), 0);
         assert_eq!((fault.code(), fault.message()), ("EmptyFile", "is empty"));
         assert_eq!((fault.file(), fault.place()), (None, None));
         assert_eq!((fault.found(), fault.help()), (None, None));
@@ -200,6 +240,17 @@ mod tests {
         );
         assert_eq!(fault.file(), Some("🗺 \"\\/\u{7}.json"));
         assert_eq!(fault.message(), "\"name\" is no text");
+    }
+
+    #[test]
+    fn the_faults_of_a_report() {
+        let column = r#"{"column":"a","index":0,"state":"plain","type":"int64"}"#;
+        let finding = r#"{"severity":"error","code":"C","expected":"e"}"#;
+        let report = format!("{column}\n{WHOLE}\n{LEAST}\n{finding}\n");
+        assert_eq!(bad_lines(&report), Ok(vec![read(WHOLE), read(LEAST)]));
+        assert_eq!(bad_lines(""), Ok(Vec::new()));
+        let unread = r#"{"error":5,"message":"m"}"#;
+        assert_eq!(bad_lines(unread), Err(Error::Line(unread.to_owned())));
     }
 
     #[test]

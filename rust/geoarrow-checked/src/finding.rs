@@ -1,5 +1,6 @@
 //! What is found in a file and in its columns, as its report says it.
 use crate::error::Error;
+use crate::fault::is_of_fault;
 use crate::members::{items, members, Value};
 use std::fmt::{self, Display, Formatter};
 
@@ -229,7 +230,8 @@ fn texts(array: &str) -> Option<Vec<String>> {
 }
 
 /// What is found in a file beside its columns: the findings of a report that [`check`](crate::check) or [`check_named`](crate::check_named)
-/// gave, in their order. Its other lines are those of columns, whose own [`column_findings`] reads.
+/// gave, in their order. Its other lines are those of columns, whose own [`column_findings`] reads, and of lines that are no columns, which
+/// [`bad_lines`](crate::bad_lines) reads.
 ///
 /// ```
 /// use geoarrow_checked::{findings, Severity};
@@ -245,9 +247,11 @@ fn texts(array: &str) -> Option<Vec<String>> {
 ///
 /// # Errors
 ///
-/// [`Error::Line`] with the first line that is neither that of a column nor that of a finding.
+/// [`Error::Line`] with the first line that is neither that of a column, nor that of a bad line, nor that of a finding.
 pub fn findings(report: &str) -> Result<Vec<Finding>, Error> {
-    let others = report.lines().filter(|line| !is_of_column(line));
+    let others = report
+        .lines()
+        .filter(|line| !is_of_column(line) && !is_of_fault(line));
     others
         .map(|line| Finding::read(line).ok_or_else(|| unread(line)))
         .collect()

@@ -31,7 +31,7 @@ pub mod arrow;
 
 pub use error::Error;
 pub use facts::{column_facts, Facts, Source, Verdict};
-pub use fault::Fault;
+pub use fault::{bad_lines, Fault};
 pub use finding::{column_findings, findings, Finding, Severity};
 
 /// What is asked of a line.
@@ -75,9 +75,9 @@ pub struct Options {
     pub notes: bool,
 }
 
-/// The report of a file, from its bytes: a line of JSON for each of its columns, and behind them one for each finding beside these, as in the
-/// footer and the GeoParquet metadata of a Parquet file, each with a line feed behind it (docs/FORMAT.md, 2.5 to 2.7, 5.1). [`findings`] and
-/// [`column_findings`] read what is found. An Arrow file (Feather), an Arrow stream, a Parquet file and lines are told apart by their first bytes.
+/// The report of a file, from its bytes: a line of JSON for each of its columns, and behind them one for each line that is no column (2.8), and for
+/// each finding beside these, as in the footer and the GeoParquet metadata of a Parquet file, each with a line feed behind it (docs/FORMAT.md, 2.5
+/// to 2.7, 5.1). [`findings`] and [`column_findings`] read what is found, and [`bad_lines`] which lines are no columns. An Arrow file (Feather), an Arrow stream, a Parquet file and lines are told apart by their first bytes.
 ///
 /// # Errors
 ///
@@ -91,10 +91,10 @@ pub fn check(bytes: &[u8], options: Options) -> Result<String, Error> {
 /// ```
 /// use geoarrow_checked::{check_named, Error, Options};
 ///
-/// let found = check_named("roads.jsonl", b"{\"name\":\"a\"}\n", Options::default());
-/// let Err(Error::Refused(fault)) = found else { panic!("the line is a field") };
-/// assert_eq!(fault.to_string(), "line 1: is JSON, but no field: \"nullable\" is neither true nor false");
-/// assert_eq!((fault.code(), fault.line()), ("LineNullable", Some(1)));
+/// let found = check_named("roads.jsonl", b"{\n\"name\":\"a\"}\n", Options::default());
+/// let Err(Error::Refused(fault)) = found else { panic!("the first line is read") };
+/// assert_eq!((fault.code(), fault.line()), ("LineNotJson", Some(1)));
+/// assert_eq!(fault.help(), Some("One object on each line: try jq -c . FILE"));
 /// assert_eq!(fault.file(), Some("roads.jsonl"));
 /// ```
 ///

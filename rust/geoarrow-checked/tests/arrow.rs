@@ -2,7 +2,7 @@
 #![cfg(feature = "arrow-schema")]
 use arrow_schema::{DataType, Field, TimeUnit};
 use geoarrow_checked::arrow::{check_fields, field_line};
-use geoarrow_checked::{Error, Options};
+use geoarrow_checked::{bad_lines, Error, Options};
 
 fn field(name: &str, kind: DataType, nullable: bool) -> Field {
     Field::new(name, kind, nullable)
@@ -58,10 +58,8 @@ fn a_field_that_nests_too_deep() {
         field("t", DataType::Utf8, true),
         field("d", deep, true), // (of two levels of JSON for each of its own)
     ];
-    match check_fields(&fields, Options::default()) {
-        Err(Error::Refused(fault)) => {
-            assert_eq!((fault.code(), fault.line()), ("LineNotJson", Some(2)));
-        }
-        other => panic!("not refused: {other:?}"),
-    }
+    let report = check_fields(&fields, Options::default()).unwrap();
+    let bad = bad_lines(&report).unwrap();
+    assert_eq!((bad.len(), report.lines().count()), (1, 2));
+    assert_eq!((bad[0].code(), bad[0].line()), ("LineNotJson", Some(2)));
 }

@@ -2,19 +2,28 @@
 mod common;
 
 use common::{from_hex, read, refused};
-use geoarrow_checked::{check, check_named, write_schema, Error, Fault, Options};
+use geoarrow_checked::{
+    bad_lines, check, check_named, findings, write_schema, Error, Fault, Options,
+};
 
 const TEXT: &str = r#"{"name":"t","nullable":true,"type":"utf8"}"#;
 const OTHER: &str = r#"{"name":"at","nullable":true,"type":{"other":"timestamp[ms]"}}"#;
 
 /// The cases of native/refused.rows: the bytes, and the line of their fault without the name of a file.
 fn cases() -> Vec<(Vec<u8>, String)> {
-    let text = String::from_utf8(read("native/refused.rows")).unwrap();
+    let cases = cases_of("native/refused.rows");
+    assert!(cases.len() > 100);
+    cases
+}
+
+/// The cases of a table: the bytes, and the line of their fault without the name of a file.
+fn cases_of(path: &str) -> Vec<(Vec<u8>, String)> {
+    let text = String::from_utf8(read(path)).unwrap();
     let lines: Vec<&str> = text
         .lines()
         .filter(|line| !line.is_empty() && !line.starts_with('#'))
         .collect();
-    assert!(lines.len() % 2 == 0 && lines.len() > 100);
+    assert!(lines.len() % 2 == 0);
     let cases = lines.chunks_exact(2);
     cases
         .map(|case| (from_hex(case[0].as_bytes()), case[1].to_owned()))
@@ -86,6 +95,59 @@ fn each_case_with_a_name() {
 }
 
 #[test]
+fn each_bad_line_of_the_table() {
+    let cases = cases_of("native/bad_lines.rows");
+    assert!(cases.len() > 20);
+    for (bytes, line) in cases {
+        let report = check(&bytes, Options::default()).unwrap();
+        let bad = bad_lines(&report).unwrap();
+        assert_eq!(bad.len(), 1);
+        assert_eq!(bad[0].as_json(), line);
+        assert_eq!(line_of(&bad[0]), line);
+        assert_eq!(bad[0].more(), 0);
+        let filled = bytes.split(|byte| *byte == b'\n').filter(|line| {
+            let blank = |byte: &u8| b" \t\r\xef\xbb\xbf".contains(byte);
+            !line.iter().all(blank)
+        });
+        assert_eq!(report.lines().count(), filled.count());
+    }
+}
+
+#[test]
+fn bad_lines_among_good_ones() {
+    let lines = format!("{{}}\n{TEXT}\n\n[\n{OTHER}\n");
+    let report = check_named("a.jsonl", lines.as_bytes(), Options::default()).unwrap();
+    let bad = bad_lines(&report).unwrap();
+    let places: Vec<_> = bad
+        .iter()
+        .map(|it| (it.code(), it.line(), it.byte()))
+        .collect();
+    assert_eq!(
+        places,
+        [
+            ("LineName", Some(1), None),
+            ("LineNotJson", Some(4), Some(1))
+        ]
+    );
+    assert!(bad.iter().all(|it| it.file() == Some("a.jsonl")));
+    let columns = report.lines().filter(|it| it.starts_with("{\"column\":"));
+    assert_eq!((columns.count(), findings(&report).unwrap().len()), (2, 0));
+}
+
+#[test]
+fn a_hundred_bad_lines_are_told() {
+    for (count, more) in [(99, 0), (100, 0), (101, 1), (250, 150)] {
+        let lines = format!("{TEXT}\n{}", "7\n".repeat(count));
+        let report = check(lines.as_bytes(), Options::default()).unwrap();
+        let bad = bad_lines(&report).unwrap();
+        assert_eq!(bad.len(), count.min(100));
+        assert!(bad[..bad.len() - 1].iter().all(|it| it.more() == 0));
+        assert_eq!(bad.last().map(Fault::more), Some(more));
+        assert_eq!(report.lines().count(), bad.len() + 1);
+    }
+}
+
+#[test]
 fn the_name_is_in_each_line() {
     let name = "a \"b\"/🗺.jsonl";
     let wanted = |file| {
@@ -123,8 +185,6 @@ fn faults_as_they_are_shown() {
     let encrypted = [b"PARE", &[0; 20][..], &20_u32.to_le_bytes(), b"PARE"].concat();
     for (bytes, words) in [
         (&b" \n"[..], "is empty"),
-        (b"\n\n{}\n[]", "line 3: is JSON, but no field: \"name\" is no text"),
-        (b"\n{\xff", "line 2, byte 2: is no UTF-8"),
         (
             b"PK\x03\x04",
             "is of a format that is not read: a zip archive. Unzip it, and check what is in it",

@@ -238,26 +238,32 @@ fn of_lines_fail_at_each_call(rt: HostRuntime) -> Result<(), Fail> {
     Ok(())
 }
 
-/// A line that denotes no column is named each time, with how many stand before it.
+/// A line that denotes no column is named once, with how many stand before it, and lines go on behind it.
 #[test]
-fn of_lines_stop_at_no_field(rt: HostRuntime) -> Result<(), Fail> {
-    assert!(rt; stops_twice(rt.alloc())?);
+fn of_lines_go_on_behind_no_field(rt: HostRuntime) -> Result<(), Fail> {
+    assert!(rt; goes_on(rt.alloc())?);
     Ok(())
 }
 
-/// Whether the columns of one line and of one that denotes none stop at that, and again if they are asked once more.
-fn stops_twice(alloc: Global) -> Result<bool, AllocError> {
-    let input = b"{\"name\":\"c\",\"nullable\":false,\"type\":\"null\"}\n{}\n".as_slice();
+/// Whether the columns of lines of which one denotes none stop at that, and go on if they are asked once more.
+fn goes_on(alloc: Global) -> Result<bool, AllocError> {
+    let input = b"{}\n{\"name\":\"c\",\"nullable\":false,\"type\":\"null\"}\n[]\n".as_slice();
     let mut lines = ManuallyDrop::new(LineColumns::new(alloc, Vec::new(alloc), input));
     let mut text = ManuallyDrop::new(Vec::new(alloc));
     let once = ManuallyDrop::new(add_columns(alloc, &mut lines, &mut text)?);
+    let none = text.len();
     let again = ManuallyDrop::new(add_columns(alloc, &mut lines, &mut text)?);
-    let wanted = ReadFault::File(FileFault::NoField(1, LineFault::Name));
-    let wanted = ManuallyDrop::new(wanted);
+    let end = ManuallyDrop::new(add_columns(alloc, &mut lines, &mut text)?);
+    let first = ReadFault::File(FileFault::NoField(0, LineFault::Name));
+    let first = ManuallyDrop::new(first);
+    let other = ReadFault::File(FileFault::NoField(2, LineFault::NotObject));
+    let other = ManuallyDrop::new(other);
     Ok(
-        text.len() == input.len() - 3
-            && is_same(alloc, &once, &wanted)?
-            && is_same(alloc, &again, &wanted)?,
+        none == 0
+            && text.len() == input.len() - 6
+            && is_same(alloc, &once, &first)?
+            && is_same(alloc, &again, &other)?
+            && end.is_none(),
     )
 }
 

@@ -1,5 +1,5 @@
 use Rattle.std.proofs.Common.{refl}
-use Rattle.column_files.proofs.Steps.{lines_more, denote_more}
+use Rattle.column_files.proofs.Steps.{lines_more, items_more}
 use Rattle.column_files.proofs.laws.columns_follow.Goals as goal
 
 pub returns-clause-none : goal.returns-clause-none
@@ -8,5 +8,5 @@ returns-clause-none c = λ text. refl
 pub returns-clause-lines : goal.returns-clause-lines
 returns-clause-lines c = lines_more
 
-pub returns-clause-columns : goal.returns-clause-columns
-returns-clause-columns c = denote_more
+pub returns-clause-items : goal.returns-clause-items
+returns-clause-items c = items_more

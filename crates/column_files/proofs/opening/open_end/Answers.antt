@@ -1,5 +1,4 @@
 use Rattle.std.proofs.Common.{sym, subst}
-use Rattle.arrow_ipc.specs.Schema.{message_in, schema_of_message}
 use Rattle.column_files.specs.Files.{IsEndOpened}
 use Rattle.column_files.specs.declared.form.Form.TheVariants.{ArrowFile, ArrowStream, Parquet, Lines}
 use Rattle.column_files.proofs.Footers.{of_end}
@@ -18,8 +17,7 @@ returns-in-ArrowStream c =
     let end = c.args.end.now in
     let r = c.file_of_message.result in
     subst (λ f. IsEndOpened f c.args.start end r) (sym c.in-ArrowStream.is)
-    (end_opened ArrowStream c.args.start end r c.file_of_message.ensures.form
-    (c.file_of_message.ensures.is (message_in end) (schema_of_message 61) c.read_schema.ensures))
+    (end_opened ArrowStream c.args.start end r c.file_of_message.ensures.form c.file_of_message.ensures.is)
 
 pub returns-in-Parquet : goal.returns-in-Parquet
 returns-in-Parquet c =
@@ -33,4 +31,4 @@ returns-in-Lines c =
     let end = c.args.end.now in
     let r = c.file_of_lines.result in
     subst (λ f. IsEndOpened f c.args.start end r) (sym c.in-Lines.is)
-    (end_opened Lines c.args.start end r c.file_of_lines.ensures.form (c.file_of_lines.ensures.is end c.columns_of_lines.ensures))
+    (end_opened Lines c.args.start end r c.file_of_lines.ensures.form (c.file_of_lines.ensures.is end c.read_lines.ensures))

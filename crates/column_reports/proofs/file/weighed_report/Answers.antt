@@ -38,5 +38,6 @@ returns c =
           subst (λ s. AreGeoFindings s given (map claim c.args.opened.elements.items) v fs) c.source_of-source.ensures
           (subst (λ es. AreGeoFindings (source c.source_of-source.result) given (map claim es) v fs) c.as_slice-3.ensures.value said.findings);
       findings = c.in_ok-findings.ensures ∙ ap (weighed (weighing c.args.weights.now)) c.in_ok-found.ensures;
-      summary = record { invalid = search rules; geometry = search rules; failed = search rules };
+      bad_lines = refl;
+      summary = record { invalid = search rules; geometry = search rules; failed = search rules; bad_lines = search rules };
     }

@@ -1,7 +1,6 @@
 use Rattle.std.proofs.Common.{◌≡◌, IfOk, Option, option_map, subst}
 use Rattle.json.specs.Json.{Json}
 use Rattle.json.specs.Value.{value_view}
-use Rattle.crs_identity.specs.Verdicts.{Claimed, claim}
 use Rattle.geoparquet.specs.CrsClaims.{element_crs, own_crs_in}
 use Rattle.geoparquet.specs.FactSources.{BySource}
 use Rattle.geoparquet.specs.Facts.{crs_fact_of, crs_view, member_crs}
@@ -16,8 +15,5 @@ returns c =
       field = option_map (λ v. value_view v.now) c.args.field;
     } in
     let e = option_map (λ x. element_view x.now) c.args.claim in
-    let own = option_map claim c.own_crs_in.result in
-    subst (λ f. IfOk c.crs_fact_by.result (λ fact. option_map crs_view fact ≡ crs_fact_of js (record { element = element_crs e js.element; geo = member_crs c.args.version js.geo; field = f }))) c.own_crs_in.ensures
-    (subst (λ g. IfOk c.crs_fact_by.result (λ fact. option_map crs_view fact ≡ crs_fact_of js (record { element = element_crs e js.element; geo = g; field = own }))) c.in_ok-said.ensures
-    (subst (λ x. IfOk c.crs_fact_by.result (λ fact. option_map crs_view fact ≡ crs_fact_of js (record { element = x; geo = option_map claim c.in_ok-said.said; field = own })))
-    c.element_crs-claimed.ensures c.crs_fact_by.ensures))
+    subst (λ g. IfOk c.crs_fact_said.result (λ fact. option_map crs_view fact ≡ crs_fact_of js (record { element = element_crs e js.element; geo = g; field = own_crs_in js.field })))
+    c.in_ok-said.ensures c.crs_fact_said.ensures

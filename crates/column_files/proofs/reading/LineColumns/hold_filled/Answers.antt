@@ -1,11 +1,10 @@
-use Rattle.std.proofs.Common.{◌≡◌, ◌+◌, ◌≤◌, Some, refl, sym, true, take, drop, [], rules, ap, ◌∙◌, subst}
+use Rattle.std.proofs.Common.{◌≡◌, ◌≤◌, Some, refl, sym, true, take, [], rules, ap, ◌∙◌, subst}
 use Rattle.std.proofs.lemmas.Result.{err_from_is_err_and}
 use Rattle.std.specs.Io.KnownBytes.{prepend_known}
 use Rattle.line_reader.specs.Lines.{max_count, held, HasLine}
 use Rattle.column_files.specs.Lines.{is_blank}
-use Rattle.column_files.specs.Reading.{ahead, passed, has_column, text_left}
+use Rattle.column_files.specs.Reading.{ahead, passed, has_item, text_left}
 use Rattle.column_files.proofs.Held.{passes_none, passes_kept, passes_line, text_kept, unfinished_next}
-use Rattle.column_files.proofs.Steps.{blank_line}
 use Rattle.column_files.proofs.reading.LineColumns.hold_filled.Goals as goal
 
 pub loop-init : goal.loop-init
@@ -16,7 +15,7 @@ loop-init g c =
 pub returns-in_err-len-clause-err : goal.returns-in_err-len-clause-err
 returns-in_err-len-clause-err g c =
     let p = err_from_is_err_and c.from_residual.result c.from_residual.ensures.1 in
-    rw (p.1, p.2) (unfinished_next _ (has_column c.args.self.now) (g.R.Read.remaining c.hold_line.new.source) (held c.hold_line.new.self) _ c.in_err-len.ensures.err)
+    rw (p.1, p.2) (unfinished_next _ (has_item c.args.self.now) (g.R.Read.remaining c.hold_line.new.source) (held c.hold_line.new.self) _ c.in_err-len.ensures.err)
 
 pub loop-preserved : goal.loop-preserved
 loop-preserved g c =
@@ -34,5 +33,5 @@ loop-preserved g c =
     let passes = passes_kept (passed c.args.self.now) (passed old) _ begun (text_left g.R.Read.remaining old) left [] c.loop.invariant.1
     c.hold_line.ensures.counted (text_kept before rest (ahead old) bytes c.hold_line.ensures.read) in (
       c.loop.invariant.0,
-      passes_line (passed c.args.self.now) _ _ begun rest now bytes len [] passes c.pass_line.ensures.counted line (blank_line (take len bytes) blank) (ap (λ l. prepend_known l rest) c.pass_line.ensures.held),
+      passes_line (passed c.args.self.now) _ _ begun rest now bytes len [] passes c.pass_line.ensures.counted line blank (ap (λ l. prepend_known l rest) c.pass_line.ensures.held),
     )

@@ -4,7 +4,7 @@ use Rattle.arrow_values.specs.Tree.{Text}
 use Rattle.geoparquet.specs.Findings.{finding}
 use Rattle.geoparquet.specs.Ordered.{members_entries, ordered_members}
 use Rattle.geoparquet.specs.RepeatedKeys.{own_findings, steps_on, told, values_at, values_in}
-use Rattle.geoparquet.proofs.repeated_keys.add_own.Given as goal
+use Rattle.geoparquet.proofs.repeated_keys.add_repeated.Given as goal
 
 -- what is found so far, and what will be of the keys that are left
 abbrev pub invariant-loop-key : goal.invariant-loop-key
