@@ -5,12 +5,12 @@
  * status; at GEOARROW_DONE, and at GEOARROW_REFUSED, `*len` is the length of what is written. Where `out` is too small nothing
  * is written to it, and `*len` is what is needed, so a call with `out_len` 0 asks for the length. The text has no NUL at its end.
  *
- * At GEOARROW_REFUSED what is written is one line, with a line feed behind it: a JSON object without blanks, whose keys are in
- * alphabetical order, and say why the bytes are refused. `error` is a code, which stands for one message alone, and `message`
- * says what is wrong; `place` says in words where, and so do the numbers `byte`, `column`, `element` and `line`; `found` says
- * what stands there, and `help` what to try; `file` is the name that was given. A key that does not apply is left out. As
- * `{"error":"EmptyFile","message":"is empty"}`, or
- * `{"byte":4,"error":"FooterNegative","file":"a.parquet","message":"a number is negative","place":"byte 4 of the footer"}`.
+ * At GEOARROW_REFUSED what is written is one line, with a line feed behind it, which says why the bytes are refused. It is the line of
+ * a finding: a JSON object without blanks, with these keys in this order, of which those that do not apply are left out. `kind` is
+ * `finding`, and `severity` is `error`; `code` says what is wrong; `file` is the name that was given; the place is `index`, that of a
+ * column, `in`, the part of the file, `message`, `footer` or `elements`, and the numbers `byte`, `line` and `element`; `found` says
+ * what stands there, `expected` what is expected, and `help` what to try. As
+ * `{"kind":"finding","severity":"error","code":"Encrypted","found":"PARE","expected":"PAR1","help":"A copy with a plain footer is needed"}`.
  * docs/FORMAT.md, 2.8, has all codes, and where lines, bytes, elements and columns are counted from.
  *
  * What a caller owes:
@@ -65,17 +65,20 @@ uint8_t geoarrow_run(uint8_t command, const uint8_t *input, size_t input_len, ui
 
 /* The report of a file, from its bytes: a line of JSON for each of its columns (docs/FORMAT.md, 2.5 to 2.7), and behind them one for
  * each finding beside the columns, in the footer of a Parquet file, in the schema that it stores and in GeoParquet metadata; each with
- * a line feed behind it. Where the file is refused, the line that says why (2.8).
+ * a line feed behind it. The first key of a line is its `kind`: `column` or `finding`. Where the file is refused, the line that says
+ * why (2.8).
  *
- * Of a file of lines, a line that is no column has a line with `error` behind the columns, as that of a refused file, and all other lines are
- * columns: the status is DONE. At most 100 of them are told; the last says at `more` how many more there are, if there are any.
+ * Of a file of lines, a line that is no column has the line of a finding behind the columns, as that of a refused file, and all other
+ * lines are columns: the status is DONE. It is told by its key `line`. At most 100 of them are told; the last says at `more` how many more
+ * there are, if there are any.
  *
- * A finding is an object, a line of its own, or of a column an item of the array `findings` of its line, those first that say why it is invalid. Its
- * keys, in this order, of which those that do not apply are left out (5.1): `severity`, that is `error`, `warning` or `note`, and
- * `code`; `file`; the place, that is `column`, `path`, an array of the names of child fields, `in`, the part of the file, `pointer`, a
- * JSON pointer into it, and `byte`, a number; `found`, what stands there, `expected` and `help`, in words; and `more`, how many more of
- * the code there are. Those of a column have neither `file` nor `column`, which its line has. As
- * `{"severity":"error","code":"GeoEpoch","column":"g","in":"geo","pointer":"/columns/g/epoch","found":"\"2020\"","expected":"a number"}`.
+ * A finding is an object, a line of its own, or of a column an item of the array `findings` of its line, those first that say why it is
+ * invalid. Its keys are, in this order, but for those of the place that 2.8 has beside these (5.1): `kind`; `severity`, that is
+ * `error`, `warning` or `note`, and `code`; `file`; the place, that is `column`, `path`, an array of the names of child fields, `in`, the
+ * part of the file, `pointer`, a JSON pointer into it, and `byte`, a number; `found`, what stands there, `expected` and `help`, in words;
+ * and `more`, how many more of the code there are. Those that do not apply are left out; those of a column have neither `kind` nor
+ * `file` nor `column`, which its line has. As
+ * `{"kind":"finding","severity":"error","code":"GeoEpoch","column":"g","in":"geo","pointer":"/columns/g/epoch","found":"\"2020\"","expected":"a number"}`.
  *
  * `options` is 0 to 3, a sum of GEOARROW_INFER_TYPES and GEOARROW_NOTES. `name` is the name of the file in UTF-8, which the lines
  * have at `file`; where `name_len` is 0 they have none. Of an Arrow or Parquet file its end may stand for the file; a byte of an

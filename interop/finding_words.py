@@ -1,16 +1,22 @@
 """What is said of a finding, by the tables of docs/FORMAT.md, 2.6, 4.5 and 5.1: a line of JSON, and words.
 
 A model of its own, which shares no code with the crates. `said` gives the parts of a finding by the
-tables of its code, `line` is a line of JSON of such parts, and `words` what a table says of them.
+tables of its code, `value` is the JSON of such parts, `line` their line, and `words` what a table says
+of them; `column_line` is the line of a column (2.5).
 """
 import json
 import pathlib
 import re
 
 FORMAT = pathlib.Path(__file__).resolve().parent.parent / "docs/FORMAT.md"
-# The keys of a line, in order (5.1).
+# The keys of a finding, in order (5.1), and those of a column (2.5); `kind` stands before those of a
+# finding where it is a line.
 KEYS = ("severity", "code", "file", "column", "path", "in", "pointer", "byte", "found", "expected",
         "help", "more")
+COLUMN_KEYS = (
+    "kind", "file", "index", "column", "state", "type", "type_from", "extension", "crs", "crs_type",
+    "crs_from", "edges", "edges_from", "epoch", "orientation", "geometry_types", "bbox", "verdicts",
+    "findings")
 SHOWN = 120
 
 
@@ -58,9 +64,21 @@ def there(parts):
             if parts.get(key) is not None and parts[key] not in ([], ()) and (key, parts[key]) != ("more", 0)}
 
 
-def line(parts):
-    """The line of JSON of a finding."""
+def value(parts):
+    """A finding as JSON, as it stands in the line of a column."""
     return json.dumps(there(parts), ensure_ascii=False, separators=(",", ":"))
+
+
+def line(parts):
+    """The line of JSON of a finding of a file."""
+    return f'{{"kind":"finding",{value(parts)[1:]}'
+
+
+def column_line(parts):
+    """The line of JSON of a column, of which each part is the JSON of its key."""
+    assert set(parts) < set(COLUMN_KEYS), parts
+    its = {"kind": '"column"', **parts}
+    return "{%s}" % ",".join(f'"{key}":{its[key]}' for key in COLUMN_KEYS if key in its)
 
 
 def words(parts):

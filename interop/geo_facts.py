@@ -49,7 +49,7 @@ def member_of(judged, version, name, value):
 
 def metadata_of(column, element):
     """The extension metadata of the element of a column, and those of its field."""
-    own = geo_findings.metadata_in(column.get("metadata", {}).get(geo_findings.METADATA))
+    own = geo_findings.own_metadata(column)
     if isinstance(element, Given):
         return own, None
     return geo_findings.metadata_in(element.metadata) if isinstance(element, Beside) else None, own
@@ -69,7 +69,7 @@ def against(fact, claims, counts):
 
 
 def crs_of(claims, it, metadata):
-    """The members of the CRS: its value, its source and its type; and the verdicts."""
+    """The members of the CRS: its value, its type and its source; and the verdicts."""
     counts = counting(claims, {source: claims[source] and claims[source].is_default for source in SOURCES})
     if counts is None:
         return {}, {}

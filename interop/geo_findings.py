@@ -27,10 +27,11 @@ Finding = collections.namedtuple("Finding", "code column pointer found wanted")
 # What a file has at `geo` where it has no value: nothing is missing, or it is a Parquet file.
 UNASKED, MISSING = (type(name, (), {})() for name in ("Unasked", "Missing"))
 # What the element of a column says beside it: nothing; all that the column has, where it may name a
-# CRS or not; or extension metadata, beside those of a column that has an extension name of its own.
+# CRS or not; or extension metadata, beside those of a column that has an extension name of its own;
+# and whether its edges are known, as those of each algorithm that Parquet has.
 SILENT = None
-Given = collections.namedtuple("Given", "names_crs")
-Beside = collections.namedtuple("Beside", "metadata")
+Given = collections.namedtuple("Given", "names_crs knows_edges", defaults=(True,))
+Beside = collections.namedtuple("Beside", "metadata knows_edges", defaults=(True,))
 # What a source says of a column: an encoding, a CRS, edges; each None where it says none.
 Claims = collections.namedtuple("Claims", "encoding crs edges")
 
@@ -76,7 +77,7 @@ VERSIONS = (
 BYTES = ("binary", "large_binary", "binary_view")
 LISTS = ("list", "large_list")
 # The bounds of a covering, and those of boxes of four, six and eight numbers.
-FLAT, HIGH = ("xmin", "ymin", "xmax", "ymax"), ("xmin", "ymin", "zmin", "xmax", "ymax", "zmax")
+FLAT, HIGH = ("xmin", "ymin", "xmax", "ymax"), ("xmin", "ymin", "xmax", "ymax", "zmin", "zmax")
 AXES = {4: "xy", 6: "xyz", 8: "xyzm"}
 LIMITS = {"x": 180, "y": 90}
 
@@ -489,10 +490,24 @@ def crs_in(metadata, default=None):
     return None if is_broken(value, crs_type) else geo_crs.Claim(value, crs_type == "srid")
 
 
+EDGES = ("planar", "andoyer", "karney", "spherical", "thomas", "vincenty")
+
+
 def edges_in(metadata):
-    """The edges that extension metadata say, planar without any; None where they are no text."""
+    """The edges that extension metadata say, planar without any; None where they are no edges of GeoArrow."""
     edges = metadata.get("edges") if metadata else None
-    return "planar" if edges in (ABSENT, None) else edges if isinstance(edges, str) else None
+    return "planar" if edges in (ABSENT, None) else edges if edges in EDGES else None
+
+
+def crs_of_element(metadata):
+    """The CRS that an element says by its metadata: the default where they name none, and nothing where null stands for a key without PROJJSON."""
+    is_missing = metadata is not None and metadata.get("crs") is None
+    return None if is_missing else crs_in(metadata, DEFAULT_CRS)
+
+
+def own_metadata(column):
+    """The extension metadata of a column under an extension name that says an encoding; others say nothing."""
+    return metadata_in(column.get("metadata", {}).get(METADATA)) if encoding_claim(column) else None
 
 
 DEFAULT_CRS = geo_crs.Claim("OGC:CRS84", False, True)
@@ -501,15 +516,16 @@ NOTHING = Claims(None, None, None)
 
 def claims_of(column, element):
     """What the element of a column says, and what its field says by itself."""
-    metadata = metadata_in(column.get("metadata", {}).get(METADATA))
+    metadata = own_metadata(column)
     edges = None if metadata is None else edges_in(metadata)
     field = Claims(encoding_claim(column), crs_in(metadata), edges)
     if element is SILENT:
         return NOTHING, field
     if isinstance(element, Given):
-        return Claims("WKB", crs_in(metadata, DEFAULT_CRS) if element.names_crs else DEFAULT_CRS, edges), NOTHING
+        crs = crs_of_element(metadata) if element.names_crs else DEFAULT_CRS
+        return Claims("WKB", crs, edges if element.knows_edges else None), NOTHING
     beside = metadata_in(element.metadata)
-    return Claims("WKB", crs_in(beside, DEFAULT_CRS), edges_in(beside)), field
+    return Claims("WKB", crs_of_element(beside), edges_in(beside) if element.knows_edges else None), field
 
 
 # The facts on which sources may not agree, in the order of the codes of each verdict.
@@ -616,17 +632,19 @@ def on_projected(it):
 
 def asked(command, text):
     """What a row asks: what there is at `geo`, the columns, and what their elements say, each behind
-    the line of its column: `element given`, `element given CRS`, or `element METADATA`."""
+    the line of its column: `element given`, `element given CRS`, or `element METADATA`, and behind it
+    `, edges not known` where they are not."""
     parts = text.split(" & ")
     geo = {"check_missing": MISSING, "check_unasked": UNASKED}.get(command) or parts.pop(0)
     geo = bytes.fromhex(geo) if command == "check_bytes" else geo
     columns, elements = [], []
     for part in filter(None, parts):
-        given = re.fullmatch("element given( CRS)?", part)
+        said, unknown, _ = part.partition(", edges not known")
+        given = re.fullmatch("element given( CRS)?", said)
         if given:
-            elements[-1] = Given(given[1] is not None)
+            elements[-1] = Given(given[1] is not None, not unknown)
         elif part.startswith("element "):
-            elements[-1] = Beside(part.partition(" ")[2])
+            elements[-1] = Beside(said.partition(" ")[2], not unknown)
         else:
             columns.append(json.loads(part))
             elements.append(SILENT)

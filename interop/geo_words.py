@@ -92,7 +92,7 @@ def parts(version, finding):
 
 
 def line(file, version, finding):
-    """The line of a finding (5.1)."""
+    """The line of a finding of a file (5.1)."""
     return finding_words.line({**parts(version, finding), "file": file})
 
 

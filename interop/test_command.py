@@ -88,7 +88,7 @@ class Check(InAFolder):
         status, text, told = self.ran("--check", "--json", "--program", CHECK, file)
         found = [json.loads(one) for one in text.splitlines()]
         self.assertEqual((status, told, [one["index"] for one in found]), (1, "", list(range(8))))
-        self.assertEqual(found[7], {"column": "seen", "index": 7, "state": "plain", "type": "timestamp[ms, tz=UTC]"})
+        self.assertEqual(found[7], {"kind": "column", "index": 7, "column": "seen", "state": "plain", "type": "timestamp[ms, tz=UTC]"})
 
 
 class Ask(InAFolder):

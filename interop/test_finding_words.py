@@ -89,16 +89,25 @@ class Lines(unittest.TestCase):
             "in": "geo", "pointer": "/p", "byte": 7, "expected": "e", "help": "H.", "file": "f"}
 
     def test_all_parts(self):
-        said = ('{"severity":"error","code":"C","file":"f","column":"g","path":["a","b"],"in":"geo",'
+        said = ('"severity":"error","code":"C","file":"f","column":"g","path":["a","b"],"in":"geo",'
                 '"pointer":"/p","byte":7,"found":"x","expected":"e","help":"H.","more":2}')
-        self.assertEqual(finding_words.line(self.MADE), said)
+        self.assertEqual(finding_words.line(self.MADE), '{"kind":"finding",' + said)
+        self.assertEqual(finding_words.value(self.MADE), "{" + said)
         said = "error[C] column g, at a.b, geo /p, byte 7, and 2 more: found x; expected e. H."
         self.assertEqual(finding_words.words(self.MADE), said)
 
     def test_no_parts(self):
         made = {"severity": "note", "code": "C", "path": [], "pointer": None, "expected": "e", "more": 0}
-        self.assertEqual(finding_words.line(made), '{"severity":"note","code":"C","expected":"e"}')
+        self.assertEqual(finding_words.line(made), '{"kind":"finding","severity":"note","code":"C","expected":"e"}')
         self.assertEqual(finding_words.words(made), "note[C]: expected e")
+
+    def test_columns(self):
+        said = ('{"kind":"column","file":1,"index":2,"column":3,"state":4,"type":5,"type_from":6,"extension":7,'
+                '"crs":8,"crs_type":9,"crs_from":10,"edges":11,"edges_from":12,"epoch":13,"orientation":14,'
+                '"geometry_types":15,"bbox":16,"verdicts":17,"findings":18}')
+        made = {key: str(at) for at, key in enumerate(finding_words.COLUMN_KEYS) if at}
+        self.assertEqual(finding_words.column_line(dict(sorted(made.items()))), said)
+        self.assertEqual(finding_words.column_line({"type": "1", "column": "2"}), '{"kind":"column","column":2,"type":1}')
 
     def test_what_is_no_text(self):
         self.assertEqual(finding_words.shown_bytes(b"a\xe7\x82\n"), "a\\xe7\\x82\n")

@@ -41,14 +41,84 @@ Several files, each under its name; a CRS by its code, its name or its text; an 
   two:
   column  holds              CRS  edges
   wkt     taken for wkt - -       planar
+  2 files: 7 columns, 5 of geometries; 2 errors and 2 warnings in 1 file
   [1]
 
-Nothing but the status
+Only errors, each in a line with the file's name
 
   $ geoarrow_check --quiet ../examples/schema.jsonl
+  ../examples/schema.jsonl: error[WrongStorage] column label, field: found utf8; expected binary, large_binary or binary_view. For WKT use geoarrow.wkt.
+  ../examples/schema.jsonl: error[EmptyUnion] column broken, field: found dense_union<>; expected union whose type ids are among 1 to 7, 11 to 17, 21 to 27 and 31 to 37. The union has no members.
   [1]
 
+  $ geoarrow_check -q ../crates/geoarrow_check/data/geo.parquet | cut -c1-110
+  ../crates/geoarrow_check/data/geo.parquet: error[GeoTypes] column geom, geo /columns/geom/geometry_types/1: fo
+  ../crates/geoarrow_check/data/geo.parquet: error[GeoBboxOrder] column geom, geo /columns/geom/bbox/1: found 3;
+
   $ geoarrow_check --quiet ../crates/geoarrow_check/data/file.arrow
+
+With them why files are refused, bad lines and what is not met; all on standard output
+
+  $ cd "$TMPDIR" && printf '{"name":"a","nullable":true,"type":"null"}\n[]\n' > lines && printf 'PAR1PAR1' > cut.parquet
+  > printf '{"metadata":{"ARROW:extension:name":"geoarrow.wkb"},"name":"a\\nb","nullable":true,"type":"utf8"}\n' > "$(printf 'i\033n')"
+  > for file in lines cut.parquet nowhere "$(printf 'i\033n')"
+  > do
+  >     geoarrow_check -q --expect b=point --require-geometry "$file" 2> said
+  >     echo $?
+  >     cat said
+  > done
+  lines: error[BadLine] line 2: found JSON that is no object; expected a JSON object
+  lines: error[Expect]: no column b
+  lines: error[NoGeometry]: no column of geometries
+  2
+  cut.parquet: error[FooterLength]: found a footer of no bytes, or of more than stand before its size; expected a footer before its size
+  2
+  nowhere: error[CannotRead]: found No such file or directory (os error 2); expected a file that can be read
+  2
+  i?n: error[WrongStorage] column a?b, field: found utf8; expected binary, large_binary or binary_view. For WKT use geoarrow.wkt.
+  i?n: error[Expect]: no column b
+  i?n: error[NoGeometry]: no column of geometries
+  1
+
+  $ geoarrow_check --quiet --format github ../examples/schema.jsonl
+  ::error file=../examples/schema.jsonl,title=WrongStorage::column label, field: found utf8; expected binary, large_binary or binary_view. For WKT use geoarrow.wkt.
+  ::error file=../examples/schema.jsonl,title=EmptyUnion::column broken, field: found dense_union<>; expected union whose type ids are among 1 to 7, 11 to 17, 21 to 27 and 31 to 37. The union has no members.
+  [1]
+
+Only columns and files of which something is found: of rows the invalid ones, and those with findings that are shown
+
+  $ geoarrow_check --problems ../examples/schema.jsonl
+  column   holds                         CRS        edges
+  outline  multipolygon interleaved XYZ  EPSG:4326  spherical
+      warning[NullableInner] at item, field: found nullable; expected not null
+  label    invalid geoarrow.wkb
+      error[WrongStorage] field: found utf8; expected binary, large_binary or binary_view. For WKT use geoarrow.wkt.
+  broken   invalid geoarrow.geometry
+      error[EmptyUnion] field: found dense_union<>; expected union whose type ids are among 1 to 7, 11 to 17, 21 to 27 and 31 to 37. The union has no members.
+  [1]
+
+  $ geoarrow_check --problems --allow warnings --allow WrongStorage --allow EmptyUnion ../examples/schema.jsonl
+  column  holds                      CRS  edges
+  label   invalid geoarrow.wkb
+  broken  invalid geoarrow.geometry
+  [1]
+
+  $ geoarrow_check --problems ../crates/geoarrow_check/data/stored.parquet
+  warning[NoGeoMetadata] geo: expected metadata of GeoParquet at the key geo
+
+  $ geoarrow_check --problems --allow warnings ../crates/geoarrow_check/data/stored.parquet
+
+  $ cd "$TMPDIR" && printf '{"name":"a","nullable":true,"type":"null"}\n[]\n' > lines && cp "$top/crates/geoarrow_check/data/stored.parquet" "$top/crates/geoarrow_check/data/file.arrow" .
+  > geoarrow_check --problems stored.parquet file.arrow lines nowhere
+  > printf '\357\273\277{"name":"a","nullable":true,"type":"null"}\n' > marked && geoarrow_check --problems --notes marked file.arrow
+  stored.parquet:
+  warning[NoGeoMetadata] geo: expected metadata of GeoParquet at the key geo
+  lines: error[BadLine] line 2: found JSON that is no object; expected a JSON object
+  nowhere: error[CannotRead]: found No such file or directory (os error 2); expected a file that can be read
+  4 files: 3 columns, 2 of geometries; 1 error and 1 warning in 2 files; 1 file not read
+  marked:
+  note[ByteOrderMark] file, byte 0: expected lines without one. It is passed over.
+  2 files: 2 columns, 1 of geometries; 1 note in 1 file
 
 The columns as lines, which the other program reads
 
@@ -68,7 +138,7 @@ The columns as an Arrow stream, which is read back
   $ geoarrow_check --ipc ../examples/schema.jsonl | geoarrow_check --lines - | cmp - ../examples/schema.jsonl
 
   $ geoarrow_check --ipc ../crates/geoarrow_check/data/other.arrows
-  ../crates/geoarrow_check/data/other.arrows: column 1: a type that no message can hold
+  ../crates/geoarrow_check/data/other.arrows: error[ColumnType] column 1: found a type that no message can hold; expected a type of Schema.fbs, nested at most 61 levels deep
   [2]
 
 Columns of Parquet files
@@ -79,7 +149,7 @@ Columns of Parquet files
   warning[NoGeoMetadata] geo: expected metadata of GeoParquet at the key geo
 
   $ geoarrow_check --json - < ../crates/geoarrow_check/data/plain.parquet
-  {"column":"g","index":0,"state":"plain","type":"binary"}
+  {"kind":"column","index":0,"column":"g","state":"plain","type":"binary"}
 
 Columns of other types as lines, which are read back
 
@@ -100,21 +170,53 @@ Columns of other types as lines, which are read back
       error[UnsupportedType] field: found map<e: null>; expected coordinates. No layout of GeoArrow has this type.
   [1]
 
+Behind two files and more: how many columns there are, what is found in how many files, and how many are not read
+
+  $ cd "$TMPDIR" && (yes '{"name":"b","nullable":true,"type":"null"}' | head -n 32; cat "$top/runs/point.jsonl" "$top/runs/point.jsonl") > more
+  > for word in --infer --quiet --problems
+  > do
+  >     geoarrow_check $word "$top/examples/schema.jsonl" more nowhere | tail -n 1
+  > done
+  3 files: 41 columns, 6 of geometries; 2 errors and 1 warning in 1 file; 1 file not read
+  3 files: 41 columns, 5 of geometries; 2 errors and 1 warning in 1 file; 1 file not read
+  3 files: 41 columns, 5 of geometries; 2 errors and 1 warning in 1 file; 1 file not read
+
+Errors are also bad lines, those that are not told one by one too, and what is not met; what is allowed is not counted
+
+  $ cd "$TMPDIR" && (cat "$top/runs/point.jsonl"; yes 1 | head -n 101) > bad
+  > geoarrow_check --quiet --require-geometry --expect a=XY bad "$top/crates/geoarrow_check/data/stream.arrows" | tail -n 1
+  > geoarrow_check --allow warnings --notes --deny NoGeoMetadata "$top/crates/geoarrow_check/data/stored.parquet" "$top/examples/schema.jsonl" | tail -n 1
+  > geoarrow_check --quiet "$top/runs/point.jsonl" "$top/runs/point.jsonl"
+  > for word in --json --lines --format=github --format=sarif
+  > do
+  >     geoarrow_check $word "$top/examples/schema.jsonl" "$top/examples/schema.jsonl" | grep -c ' files: '
+  > done
+  2 files: 2 columns, 1 of geometries; 104 errors in 2 files
+  2 files: 8 columns, 4 of geometries; 3 errors in 2 files
+  2 files: 2 columns, 2 of geometries; no findings
+  0
+  0
+  0
+  0
+  [1]
+
 What a column is expected to hold: parts in any order
 
   $ geoarrow_check --quiet --infer --expect outline=EPSG:4326,XYZ,native,interleaved,multipolygon --expect footprint=WKB,wkb --expect track=XYM ../examples/schema.jsonl
+  ../examples/schema.jsonl: error[WrongStorage] column label, field: found utf8; expected binary, large_binary or binary_view. For WKT use geoarrow.wkt.
+  ../examples/schema.jsonl: error[EmptyUnion] column broken, field: found dense_union<>; expected union whose type ids are among 1 to 7, 11 to 17, 21 to 27 and 31 to 37. The union has no members.
   [1]
 
   $ geoarrow_check --quiet --expect g=linestring,XYM ../crates/geoarrow_check/data/file.arrow
 
   $ geoarrow_check --quiet --expect g=XY,WKB --expect h=point --expect g=OGC:CRS84 ../crates/geoarrow_check/data/file.arrow
-  ../crates/geoarrow_check/data/file.arrow: column g is not XY: linestring interleaved XYM, no CRS, planar
-  ../crates/geoarrow_check/data/file.arrow: no column h
-  ../crates/geoarrow_check/data/file.arrow: column g is not OGC:CRS84: linestring interleaved XYM, no CRS, planar
+  ../crates/geoarrow_check/data/file.arrow: error[Expect]: column g is not XY: linestring interleaved XYM, no CRS, planar
+  ../crates/geoarrow_check/data/file.arrow: error[Expect]: no column h
+  ../crates/geoarrow_check/data/file.arrow: error[Expect]: column g is not OGC:CRS84: linestring interleaved XYM, no CRS, planar
   [1]
 
   $ geoarrow_check --json --expect id=point ../examples/schema.jsonl 2>&1 > /dev/null
-  ../examples/schema.jsonl: column id holds no geometries
+  ../examples/schema.jsonl: error[Expect]: column id holds no geometries
   [1]
 
 Only the end of an Arrow file is read, and only the first message of a stream
@@ -124,19 +226,20 @@ Only the end of an Arrow file is read, and only the first message of a stream
   $ truncate -s 8G "$TMPDIR/large" && printf 'ARROW1' | dd of="$TMPDIR/large" conv=notrunc status=none && cat ../crates/geoarrow_check/data/file.arrow >> "$TMPDIR/large" && geoarrow_check --quiet --expect g=linestring "$TMPDIR/large"
 
   $ (cat ../crates/geoarrow_check/data/stream.arrows; yes) | geoarrow_check --json -
-  {"column":"a","index":0,"state":"plain","type":"int64"}
+  {"kind":"column","index":0,"column":"a","state":"plain","type":"int64"}
 
 200,000 lines in memory that does not grow: 16 MB of addresses suffice, and the places of columns go on
 
-  $ for word in --quiet --lines --json
+  $ for word in --quiet --lines --json --format=github
   > do
   >     yes "$(cat point.jsonl)" | head -n 200000 | (ulimit -v 16000; geoarrow_check $word --expect geometry=point --expect b=XY -) | sed 's/"index":[0-9]*,//' | uniq -c | cut -c1-60
   > done
-  -: no column b
-  -: no column b
+        1 -: error[Expect]: no column b
+  -: error[Expect]: no column b
    200000 {"metadata":{"ARROW:extension:name":"geoarrow.point"
-  -: no column b
-   200000 {"column":"geometry","edges":"planar","extension":"g
+  -: error[Expect]: no column b
+   200000 {"kind":"column","column":"geometry","state":"geomet
+        1 ::error title=Expect::no column b
 
   $ yes "$(cat point.jsonl)" | head -n 200000 | (ulimit -v 16000; geoarrow_check --json -) | sed -n '1p;$p' | grep -o '"index":[0-9]*'
   "index":0
@@ -148,37 +251,37 @@ A line of 1,048,576 bytes, and one with a byte more
   > do
   >     (cat point.jsonl; printf '%*s\n' $bytes '{"name":"a","nullable":true,"type":"null"}') | geoarrow_check --json - 2>&1 | cut -c1-60
   > done
-  {"column":"geometry","edges":"planar","extension":"geoarrow.
-  {"column":"a","index":1,"state":"plain","type":"null"}
-  {"column":"geometry","edges":"planar","extension":"geoarrow.
-  {"error":"LineTooLong","line":2,"message":"has more than 104
-  -: line 2: has more than 1048576 bytes
+  {"kind":"column","index":0,"column":"geometry","state":"geom
+  {"kind":"column","index":1,"column":"a","state":"plain","typ
+  {"kind":"column","index":0,"column":"geometry","state":"geom
+  {"kind":"finding","severity":"error","code":"LongLine","line
+  -: error[LongLine] line 2: found more than 1048576 bytes; ex
 
 An input without a line feed, which does not end
 
   $ (printf '{'; yes | tr -d '\n') | (ulimit -v 16000; geoarrow_check --quiet -)
-  -: line 1: has more than 1048576 bytes
+  -: error[LongLine] line 1: found more than 1048576 bytes; expected at most 1048576 bytes
   [2]
 
 Lines of JSON
 
   $ geoarrow_check --json --infer ../examples/schema.jsonl
-  {"column":"id","file":"../examples/schema.jsonl","index":0,"state":"plain","type":"int64"}
-  {"column":"outline","crs":"EPSG:4326","crs_from":"field","crs_type":"authority_code","edges":"spherical","edges_from":"field","extension":"geoarrow.multipolygon","file":"../examples/schema.jsonl","findings":[{"severity":"warning","code":"NullableInner","path":["item"],"in":"field","found":"nullable","expected":"not null"}],"index":1,"state":"geometry","type":"multipolygon interleaved XYZ","type_from":"field"}
-  {"column":"any","edges":"planar","extension":"geoarrow.geometry","file":"../examples/schema.jsonl","index":2,"state":"geometry","type":"geometry separated -","type_from":"field"}
-  {"column":"footprint","edges":"planar","edges_from":"field","extension":"geoarrow.wkb","file":"../examples/schema.jsonl","index":3,"state":"geometry","type":"wkb - -","type_from":"field"}
-  {"column":"label","extension":"geoarrow.wkb","file":"../examples/schema.jsonl","findings":[{"severity":"error","code":"WrongStorage","in":"field","found":"utf8","expected":"binary, large_binary or binary_view","help":"For WKT use geoarrow.wkt."}],"index":4,"state":"invalid","type":"utf8"}
-  {"column":"track","edges":"planar","file":"../examples/schema.jsonl","index":5,"state":"inferred","type":"point separated XYM"}
-  {"column":"broken","extension":"geoarrow.geometry","file":"../examples/schema.jsonl","findings":[{"severity":"error","code":"EmptyUnion","in":"field","found":"dense_union<>","expected":"union whose type ids are among 1 to 7, 11 to 17, 21 to 27 and 31 to 37","help":"The union has no members."}],"index":6,"state":"invalid","type":"dense_union<>"}
+  {"kind":"column","file":"../examples/schema.jsonl","index":0,"column":"id","state":"plain","type":"int64"}
+  {"kind":"column","file":"../examples/schema.jsonl","index":1,"column":"outline","state":"geometry","type":"multipolygon interleaved XYZ","type_from":"field","extension":"geoarrow.multipolygon","crs":"EPSG:4326","crs_type":"authority_code","crs_from":"field","edges":"spherical","edges_from":"field","geometry_types":["MultiPolygon Z"],"findings":[{"severity":"warning","code":"NullableInner","path":["item"],"in":"field","found":"nullable","expected":"not null"}]}
+  {"kind":"column","file":"../examples/schema.jsonl","index":2,"column":"any","state":"geometry","type":"geometry separated -","type_from":"field","extension":"geoarrow.geometry","edges":"planar"}
+  {"kind":"column","file":"../examples/schema.jsonl","index":3,"column":"footprint","state":"geometry","type":"wkb - -","type_from":"field","extension":"geoarrow.wkb","edges":"planar","edges_from":"field"}
+  {"kind":"column","file":"../examples/schema.jsonl","index":4,"column":"label","state":"invalid","type":"utf8","extension":"geoarrow.wkb","findings":[{"severity":"error","code":"WrongStorage","in":"field","found":"utf8","expected":"binary, large_binary or binary_view","help":"For WKT use geoarrow.wkt."}]}
+  {"kind":"column","file":"../examples/schema.jsonl","index":5,"column":"track","state":"inferred","type":"point separated XYM","edges":"planar","geometry_types":["Point M"]}
+  {"kind":"column","file":"../examples/schema.jsonl","index":6,"column":"broken","state":"invalid","type":"dense_union<>","extension":"geoarrow.geometry","findings":[{"severity":"error","code":"EmptyUnion","in":"field","found":"dense_union<>","expected":"union whose type ids are among 1 to 7, 11 to 17, 21 to 27 and 31 to 37","help":"The union has no members."}]}
   [1]
 
 Standard input has no name; a stream is told from lines by its first bytes
 
   $ echo '{"name":"a","nullable":true,"type":"float64"}' | geoarrow_check --json -
-  {"column":"a","index":0,"state":"plain","type":"float64"}
+  {"kind":"column","index":0,"column":"a","state":"plain","type":"float64"}
 
   $ geoarrow_check --json - < ../crates/geoarrow_check/data/stream.arrows
-  {"column":"a","index":0,"state":"plain","type":"int64"}
+  {"kind":"column","index":0,"column":"a","state":"plain","type":"int64"}
 
 A file of no bytes, or of blank lines alone, is empty
 
@@ -189,33 +292,33 @@ A file of no bytes, or of blank lines alone, is empty
   >     geoarrow_check $words - < /dev/null 2>&1
   >     cat blank | geoarrow_check $words - 2>&1
   > done | LC_ALL=C sort | uniq -c
-       10 -: is empty
-        5 blank: is empty
-        5 none: is empty
-        1 {"error":"EmptyFile","file":"blank","message":"is empty"}
-        1 {"error":"EmptyFile","file":"none","message":"is empty"}
-        2 {"error":"EmptyFile","message":"is empty"}
+       10 -: error[EmptyFile]: found no bytes, or blanks alone; expected an Arrow file, an Arrow stream, a Parquet file or lines of fields. The writing or the copy broke off before its first byte
+        5 blank: error[EmptyFile]: found no bytes, or blanks alone; expected an Arrow file, an Arrow stream, a Parquet file or lines of fields. The writing or the copy broke off before its first byte
+        5 none: error[EmptyFile]: found no bytes, or blanks alone; expected an Arrow file, an Arrow stream, a Parquet file or lines of fields. The writing or the copy broke off before its first byte
+        1 {"kind":"finding","severity":"error","code":"EmptyFile","file":"blank","found":"no bytes, or blanks alone","expected":"an Arrow file, an Arrow stream, a Parquet file or lines of fields","help":"The writing or the copy broke off before its first byte"}
+        1 {"kind":"finding","severity":"error","code":"EmptyFile","file":"none","found":"no bytes, or blanks alone","expected":"an Arrow file, an Arrow stream, a Parquet file or lines of fields","help":"The writing or the copy broke off before its first byte"}
+        2 {"kind":"finding","severity":"error","code":"EmptyFile","found":"no bytes, or blanks alone","expected":"an Arrow file, an Arrow stream, a Parquet file or lines of fields","help":"The writing or the copy broke off before its first byte"}
 
   $ geoarrow_check /dev/null
-  /dev/null: is empty
+  /dev/null: error[EmptyFile]: found no bytes, or blanks alone; expected an Arrow file, an Arrow stream, a Parquet file or lines of fields. The writing or the copy broke off before its first byte
   [2]
 
   $ geoarrow_check --json - < /dev/null
-  {"error":"EmptyFile","message":"is empty"}
-  -: is empty
+  {"kind":"finding","severity":"error","code":"EmptyFile","found":"no bytes, or blanks alone","expected":"an Arrow file, an Arrow stream, a Parquet file or lines of fields","help":"The writing or the copy broke off before its first byte"}
+  -: error[EmptyFile]: found no bytes, or blanks alone; expected an Arrow file, an Arrow stream, a Parquet file or lines of fields. The writing or the copy broke off before its first byte
   [2]
 
 A blank line is passed over, wherever it stands, and counts as a line
 
   $ printf '\n{"name":"a","nullable":true,"type":"null"}\r\n \t\n{"name":"b","nullable":true,"type":"null"}\n\n' | geoarrow_check --json -
-  {"column":"a","index":0,"state":"plain","type":"null"}
-  {"column":"b","index":1,"state":"plain","type":"null"}
+  {"kind":"column","index":0,"column":"a","state":"plain","type":"null"}
+  {"kind":"column","index":1,"column":"b","state":"plain","type":"null"}
 
   $ printf '{"name":"a","nullable":true,"type":"null"}\n\n \r\n[]\n{"name":"b","nullable":true,"type":"null"}\n' | geoarrow_check --json -
-  {"column":"a","index":0,"state":"plain","type":"null"}
-  {"column":"b","index":1,"state":"plain","type":"null"}
-  {"error":"LineNotObject","line":4,"message":"is JSON, but no object","place":"line 4"}
-  -: line 4: is JSON, but no object
+  {"kind":"column","index":0,"column":"a","state":"plain","type":"null"}
+  {"kind":"column","index":1,"column":"b","state":"plain","type":"null"}
+  {"kind":"finding","severity":"error","code":"BadLine","line":4,"found":"JSON that is no object","expected":"a JSON object"}
+  -: error[BadLine] line 4: found JSON that is no object; expected a JSON object
   [2]
 
 What is said with notes alone: a number in a CRS that is not whole
@@ -234,10 +337,10 @@ What is said with notes alone: a number in a CRS that is not whole
       note[CrsNotWhole] extension metadata /crs/scale: found 0.5; expected whole numbers. For this alone read and canon of geoarrow_fields refuse the field; other readers do not.
   e       wkb - -             planar
       warning[MetadataEmpty] extension metadata: found ""; expected no metadata, or {}. It is read as no metadata.
-  {"column":"g","crs":{"type":"GeographicCRS","name":"WGS 84","id":{"authority":"EPSG","code":4326},"scale":0.5},"crs_from":"field","edges":"planar","edges_from":"field","extension":"geoarrow.wkb","index":0,"state":"geometry","type":"wkb - -","type_from":"field"}
-  {"column":"e","edges":"planar","extension":"geoarrow.wkb","findings":[{"severity":"warning","code":"MetadataEmpty","in":"extension metadata","pointer":"","found":"\"\"","expected":"no metadata, or {}","help":"It is read as no metadata."}],"index":1,"state":"geometry","type":"wkb - -","type_from":"field"}
-  {"column":"g","crs":{"type":"GeographicCRS","name":"WGS 84","id":{"authority":"EPSG","code":4326},"scale":0.5},"crs_from":"field","edges":"planar","edges_from":"field","extension":"geoarrow.wkb","findings":[{"severity":"note","code":"CrsNotWhole","in":"extension metadata","pointer":"/crs/scale","found":"0.5","expected":"whole numbers","help":"For this alone read and canon of geoarrow_fields refuse the field; other readers do not."}],"index":0,"state":"geometry","type":"wkb - -","type_from":"field"}
-  {"column":"e","edges":"planar","extension":"geoarrow.wkb","findings":[{"severity":"warning","code":"MetadataEmpty","in":"extension metadata","pointer":"","found":"\"\"","expected":"no metadata, or {}","help":"It is read as no metadata."}],"index":1,"state":"geometry","type":"wkb - -","type_from":"field"}
+  {"kind":"column","index":0,"column":"g","state":"geometry","type":"wkb - -","type_from":"field","extension":"geoarrow.wkb","crs":{"type":"GeographicCRS","name":"WGS 84","id":{"authority":"EPSG","code":4326},"scale":0.5},"crs_from":"field","edges":"planar","edges_from":"field"}
+  {"kind":"column","index":1,"column":"e","state":"geometry","type":"wkb - -","type_from":"field","extension":"geoarrow.wkb","edges":"planar","findings":[{"severity":"warning","code":"MetadataEmpty","in":"extension metadata","pointer":"","found":"\"\"","expected":"no metadata, or {}","help":"It is read as no metadata."}]}
+  {"kind":"column","index":0,"column":"g","state":"geometry","type":"wkb - -","type_from":"field","extension":"geoarrow.wkb","crs":{"type":"GeographicCRS","name":"WGS 84","id":{"authority":"EPSG","code":4326},"scale":0.5},"crs_from":"field","edges":"planar","edges_from":"field","findings":[{"severity":"note","code":"CrsNotWhole","in":"extension metadata","pointer":"/crs/scale","found":"0.5","expected":"whole numbers","help":"For this alone read and canon of geoarrow_fields refuse the field; other readers do not."}]}
+  {"kind":"column","index":1,"column":"e","state":"geometry","type":"wkb - -","type_from":"field","extension":"geoarrow.wkb","edges":"planar","findings":[{"severity":"warning","code":"MetadataEmpty","in":"extension metadata","pointer":"","found":"\"\"","expected":"no metadata, or {}","help":"It is read as no metadata."}]}
 
 Names of files that would control a terminal, or stand on two lines: above a table, and in all that is said
 
@@ -248,19 +351,20 @@ Names of files that would control a terminal, or stand on two lines: above a tab
   a?b?[1m:
   column  holds  CRS  edges
   a       null
+  2 files: 2 columns, 0 of geometries; no findings
 
   $ cd "$TMPDIR" && file=$(printf 'a\nb\033[1m') && echo '{"name":"a","nullable":true,"type":{"other":"timestamp[ms]"}}' > "$file" && geoarrow_check --quiet --require-geometry --expect b=XY --expect a=XY "$file"; geoarrow_check --ipc "$file"; echo '{}' > "$file"; geoarrow_check "$file"; geoarrow_check "$file.parquet"; geoarrow_check --expect "$file" x 2>&1 | head -n 1
-  a?b?[1m: no column b
-  a?b?[1m: column a holds no geometries
-  a?b?[1m: no column of geometries
-  a?b?[1m: column 0: a type that no message can hold
+  a?b?[1m: error[Expect]: no column b
+  a?b?[1m: error[Expect]: column a holds no geometries
+  a?b?[1m: error[NoGeometry]: no column of geometries
+  a?b?[1m: error[ColumnType] column 0: found a type that no message can hold; expected a type of Schema.fbs, nested at most 61 levels deep
   column  holds  CRS  edges
-  a?b?[1m: line 1: is JSON, but no field: "name" is no text
-  a?b?[1m.parquet: No such file or directory (os error 2)
+  a?b?[1m: error[BadLine] line 1: found no string at "name"; expected a string at "name"
+  a?b?[1m.parquet: error[CannotRead]: found No such file or directory (os error 2); expected a file that can be read
   error: 'a?b?[1m' is no COLUMN=WANT
 
   $ cd "$TMPDIR" && file=$(printf 'a\nb\033[1m') && echo '{"name":"a","nullable":true,"type":"null"}' > "$file" && geoarrow_check --json "$file"
-  {"column":"a","file":"a\nb\u001b[1m","index":0,"state":"plain","type":"null"}
+  {"kind":"column","file":"a\nb\u001b[1m","index":0,"column":"a","state":"plain","type":"null"}
 
 One long name, or one long type, does not widen the other rows
 
@@ -282,11 +386,11 @@ A PROJJSON of 60,009 bytes that 2,048 columns of a Parquet file name: refused, i
   > do
   >     (ulimit -v 64000; geoarrow_check $words bomb.parquet)
   > done
-  {"error":"ReportTooLarge","file":"bomb.parquet","message":"the report would have more than 1048576 bytes and 32 for each byte read"}
-  bomb.parquet: the report would have more than 1048576 bytes and 32 for each byte read
-  bomb.parquet: the report would have more than 1048576 bytes and 32 for each byte read
-  bomb.parquet: the report would have more than 1048576 bytes and 32 for each byte read
-  bomb.parquet: the report would have more than 1048576 bytes and 32 for each byte read
+  {"kind":"finding","severity":"error","code":"ReportTooLarge","file":"bomb.parquet","found":"a larger report","expected":"a report of at most 1048576 bytes and 32 for each byte read"}
+  bomb.parquet: error[ReportTooLarge]: found a larger report; expected a report of at most 1048576 bytes and 32 for each byte read
+  bomb.parquet: error[ReportTooLarge]: found a larger report; expected a report of at most 1048576 bytes and 32 for each byte read
+  bomb.parquet: error[ReportTooLarge]: found a larger report; expected a report of at most 1048576 bytes and 32 for each byte read
+  bomb.parquet: error[ReportTooLarge]: found a larger report; expected a report of at most 1048576 bytes and 32 for each byte read
   [2]
 
 A report that is too large: no column is printed, also of those before the one that makes it so
@@ -294,28 +398,52 @@ A report that is too large: no column is printed, also of those before the one t
   $ long=$(yes '\u0001' | head -n 30000 | tr -d '\n') && field='{"metadata":{"ARROW:extension:name":"geoarrow.wkb"},"name":"k","nullable":true,"type":"binary"}' && cd "$TMPDIR" && (echo "$field"; printf '{"name":"s","nullable":true,"type":{"struct":[{"name":"%s","nullable":true,"type":{"struct":[%s%s]}}]}}\n' "$long" "$(yes "$field," | head -n 15 | tr -d '\n')" "$field") > lines && geoarrow_check --ipc lines > stream
   > geoarrow_check --json stream
   > geoarrow_check --quiet --expect k=wkb stream && geoarrow_check --json lines | wc -l
-  {"error":"ReportTooLarge","file":"stream","message":"the report would have more than 1048576 bytes and 32 for each byte read"}
-  stream: the report would have more than 1048576 bytes and 32 for each byte read
+  {"kind":"finding","severity":"error","code":"ReportTooLarge","file":"stream","found":"a larger report","expected":"a report of at most 1048576 bytes and 32 for each byte read"}
+  stream: error[ReportTooLarge]: found a larger report; expected a report of at most 1048576 bytes and 32 for each byte read
   2
 
 A file without geometries where some are required
 
-  $ geoarrow_check --require-geometry ../crates/geoarrow_check/data/stream.arrows > /dev/null
-  ../crates/geoarrow_check/data/stream.arrows: no column of geometries
+  $ geoarrow_check --require-geometry ../crates/geoarrow_check/data/stream.arrows 2> /dev/null
+  column  holds  CRS  edges
+  a       int64
+  ../crates/geoarrow_check/data/stream.arrows: error[NoGeometry]: no column of geometries
   [1]
 
   $ geoarrow_check --json --require-geometry ../crates/geoarrow_check/data/stream.arrows
-  {"column":"a","file":"../crates/geoarrow_check/data/stream.arrows","index":0,"state":"plain","type":"int64"}
-  ../crates/geoarrow_check/data/stream.arrows: no column of geometries
+  {"kind":"column","file":"../crates/geoarrow_check/data/stream.arrows","index":0,"column":"a","state":"plain","type":"int64"}
+  ../crates/geoarrow_check/data/stream.arrows: error[NoGeometry]: no column of geometries
   [1]
 
   $ geoarrow_check --json --require-geometry ../crates/geoarrow_check/data/file.arrow > /dev/null
 
+What is said of files stands on standard output, but beside lines of JSON, lines of fields and a stream on standard error
+
+  $ cd "$TMPDIR" && printf '{"name":"a","nullable":true,"type":"null"}\n[]\n' > lines && printf 'PAR1PAR1' > cut.parquet
+  > for words in --infer --quiet --problems --format=github --json --lines
+  > do
+  >     geoarrow_check $words --expect b=point --require-geometry lines cut.parquet nowhere 2>&1 > /dev/null | wc -l
+  > done
+  > for file in lines cut.parquet nowhere
+  > do
+  >     geoarrow_check --ipc --expect b=point --require-geometry $file 2>&1 > /dev/null | wc -l
+  > done
+  0
+  0
+  0
+  0
+  5
+  5
+  3
+  1
+  1
+
 Files that cannot be read: the next one is read all the same
 
   $ geoarrow_check --json nowhere.jsonl ../crates/geoarrow_check/data/stream.arrows
-  nowhere.jsonl: No such file or directory (os error 2)
-  {"column":"a","file":"../crates/geoarrow_check/data/stream.arrows","index":0,"state":"plain","type":"int64"}
+  {"kind":"finding","severity":"error","code":"CannotRead","file":"nowhere.jsonl","found":"No such file or directory (os error 2)","expected":"a file that can be read"}
+  nowhere.jsonl: error[CannotRead]: found No such file or directory (os error 2); expected a file that can be read
+  {"kind":"column","file":"../crates/geoarrow_check/data/stream.arrows","index":0,"column":"a","state":"plain","type":"int64"}
   [2]
 
 Lines that are no columns are told behind those that are, and no stream is written; what is expected is asked of the columns
@@ -324,49 +452,49 @@ Lines that are no columns are told behind those that are, and no stream is writt
   > do
   >     printf '{"name":"a","nullable":true,"type":"null"}\n[]\n' | geoarrow_check $words --expect b=point --require-geometry -
   > done
-  {"column":"a","index":0,"state":"plain","type":"null"}
-  {"error":"LineNotObject","line":2,"message":"is JSON, but no object","place":"line 2"}
-  -: line 2: is JSON, but no object
-  -: no column b
-  -: no column of geometries
+  {"kind":"column","index":0,"column":"a","state":"plain","type":"null"}
+  {"kind":"finding","severity":"error","code":"BadLine","line":2,"found":"JSON that is no object","expected":"a JSON object"}
+  -: error[BadLine] line 2: found JSON that is no object; expected a JSON object
+  -: error[Expect]: no column b
+  -: error[NoGeometry]: no column of geometries
   {"name":"a","nullable":true,"type":"null"}
-  -: line 2: is JSON, but no object
-  -: no column b
-  -: no column of geometries
-  -: line 2: is JSON, but no object
-  -: no column b
-  -: no column of geometries
+  -: error[BadLine] line 2: found JSON that is no object; expected a JSON object
+  -: error[Expect]: no column b
+  -: error[NoGeometry]: no column of geometries
+  -: error[BadLine] line 2: found JSON that is no object; expected a JSON object
+  -: error[Expect]: no column b
+  -: error[NoGeometry]: no column of geometries
   column  holds  CRS  edges
   a       null
-  -: line 2: is JSON, but no object
-  -: no column b
-  -: no column of geometries
-  -: line 2: is JSON, but no object
-  -: no column b
-  -: no column of geometries
+  -: error[BadLine] line 2: found JSON that is no object; expected a JSON object
+  -: error[Expect]: no column b
+  -: error[NoGeometry]: no column of geometries
+  -: error[BadLine] line 2: found JSON that is no object; expected a JSON object
+  -: error[Expect]: no column b
+  -: error[NoGeometry]: no column of geometries
   [2]
 
 At most a hundred are told, with how many more there are; a line that is too long ends the reading
 
   $ (cat point.jsonl; yes 1 | head -n 101) | geoarrow_check --json - 2>&1 | sed -n '2p;101,102p;201,$p'
-  {"error":"LineNotObject","line":2,"message":"is JSON, but no object","place":"line 2"}
-  {"error":"LineNotObject","line":101,"message":"is JSON, but no object","more":1,"place":"line 101"}
-  -: line 2: is JSON, but no object
-  -: line 101: is JSON, but no object
-  -: 1 more line is no column
+  {"kind":"finding","severity":"error","code":"BadLine","line":2,"found":"JSON that is no object","expected":"a JSON object"}
+  {"kind":"finding","severity":"error","code":"BadLine","line":101,"found":"JSON that is no object","expected":"a JSON object","more":1}
+  -: error[BadLine] line 2: found JSON that is no object; expected a JSON object
+  -: error[BadLine] line 101: found JSON that is no object; expected a JSON object
+  -: error[BadLine]: 1 more line is no column
 
   $ (cat point.jsonl; printf '{}\n%*s\n{}\n' 1048577 '') | geoarrow_check --quiet -
-  -: line 2: is JSON, but no field: "name" is no text
-  -: line 3: has more than 1048576 bytes
+  -: error[BadLine] line 2: found no string at "name"; expected a string at "name"
+  -: error[LongLine] line 3: found more than 1048576 bytes; expected at most 1048576 bytes
   [2]
 
 Lines none of which is a column; and GeoJSON, or `{` alone, which refuse the file on the first line that is not blank alone
 
   $ printf '{}\n\n1\n' | geoarrow_check --json -
-  {"error":"LineName","line":1,"message":"is JSON, but no field: \"name\" is no text","place":"line 1"}
-  {"error":"LineNotObject","line":3,"message":"is JSON, but no object","place":"line 3"}
-  -: line 1: is JSON, but no field: "name" is no text
-  -: line 3: is JSON, but no object
+  {"kind":"finding","severity":"error","code":"BadLine","line":1,"found":"no string at \"name\"","expected":"a string at \"name\""}
+  {"kind":"finding","severity":"error","code":"BadLine","line":3,"found":"JSON that is no object","expected":"a JSON object"}
+  -: error[BadLine] line 1: found no string at "name"; expected a string at "name"
+  -: error[BadLine] line 3: found JSON that is no object; expected a JSON object
   [2]
 
   $ for first in '{"type":"Feature"}' '{'
@@ -374,16 +502,16 @@ Lines none of which is a column; and GeoJSON, or `{` alone, which refuse the fil
   >     (printf '\n%s\n' "$first"; cat point.jsonl) | geoarrow_check --quiet -
   >     (cat point.jsonl; printf '\n%s\n' "$first"; cat point.jsonl) | geoarrow_check -
   > done
-  -: line 2: is of a format that is not read: GeoJSON. Try ogr2ogr out.parquet FILE
+  -: error[ForeignFormat] line 2: found GeoJSON; expected an Arrow file, an Arrow stream, a Parquet file or lines of fields. Try ogr2ogr out.parquet FILE
   column    holds               CRS  edges
   geometry  point separated XY       planar
   geometry  point separated XY       planar
-  -: line 3: is of a format that is not read: GeoJSON. Try ogr2ogr out.parquet FILE
-  -: line 2, byte 1: is no JSON, or nests more than 127 levels. One object on each line: try jq -c . FILE
+  -: error[ForeignFormat] line 3: found GeoJSON; expected an Arrow file, an Arrow stream, a Parquet file or lines of fields. Try ogr2ogr out.parquet FILE
+  -: error[BadLine] byte 1, line 2: found no JSON, or more than 127 levels of it; expected a JSON object. One object on each line: try jq -c . FILE
   column    holds               CRS  edges
   geometry  point separated XY       planar
   geometry  point separated XY       planar
-  -: line 3, byte 1: is no JSON, or nests more than 127 levels. One object on each line: try jq -c . FILE
+  -: error[BadLine] byte 1, line 3: found no JSON, or more than 127 levels of it; expected a JSON object. One object on each line: try jq -c . FILE
   [2]
 
 Why a line is no column
@@ -392,33 +520,58 @@ Why a line is no column
   > do
   >     printf '{"name":"a","nullable":true,"type":"null"}\n%s\n' "$line" | geoarrow_check --quiet -
   > done
-  -: line 2, byte 13: is no JSON, or nests more than 127 levels
-  -: line 2, byte 1: is no JSON, or nests more than 127 levels. One object on each line: try jq -c . FILE
-  -: line 2: is JSON, but no field: "name" is no text
-  -: line 2: is JSON, but no field: "nullable" is neither true nor false
-  -: line 2: is JSON, but no field: "metadata" is no object of texts
-  -: line 2: is JSON, but no field: "type" is unknown
-  -: line 2: is JSON, but no field: "type" is unknown
+  -: error[BadLine] byte 13, line 2: found no JSON, or more than 127 levels of it; expected a JSON object
+  -: error[BadLine] byte 1, line 2: found no JSON, or more than 127 levels of it; expected a JSON object. One object on each line: try jq -c . FILE
+  -: error[BadLine] line 2: found no string at "name"; expected a string at "name"
+  -: error[BadLine] line 2: found neither true nor false at "nullable"; expected true or false at "nullable"
+  -: error[BadLine] line 2: found no object of strings at "metadata"; expected an object of strings at "metadata"
+  -: error[BadLine] line 2: found an unknown type at "type"; expected a data type, or {"other":"timestamp[ms]"}
+  -: error[BadLine] line 2: found an unknown type at "type"; expected a data type, or {"other":"timestamp[ms]"}
   [2]
 
   $ printf '{"\377\n' | geoarrow_check --quiet -
-  -: line 1, byte 3: is no UTF-8
+  -: error[BadLine] byte 3, line 1: found bytes that are not UTF-8; expected UTF-8
   [2]
 
 JSON that is pretty-printed, or an array; and lines behind a byte order mark, which is passed over
 
   $ printf '{\n  "name": "a"\n}\n' | geoarrow_check --json -
-  {"byte":1,"error":"LineNotJson","help":"One object on each line: try jq -c . FILE","line":1,"message":"is no JSON, or nests more than 127 levels","place":"line 1, byte 1"}
-  -: line 1, byte 1: is no JSON, or nests more than 127 levels. One object on each line: try jq -c . FILE
+  {"kind":"finding","severity":"error","code":"BadLine","byte":1,"line":1,"found":"no JSON, or more than 127 levels of it","expected":"a JSON object","help":"One object on each line: try jq -c . FILE"}
+  -: error[BadLine] byte 1, line 1: found no JSON, or more than 127 levels of it; expected a JSON object. One object on each line: try jq -c . FILE
   [2]
 
   $ printf '[\n  {"name": "a"}\n]\n' | geoarrow_check --json -
-  {"error":"ForeignFormat","found":"a JSON array","help":"Try jq -c '.[]' FILE | geoarrow_check -","message":"is of a format that is not read"}
-  -: is of a format that is not read: a JSON array. Try jq -c '.[]' FILE | geoarrow_check -
+  {"kind":"finding","severity":"error","code":"ForeignFormat","found":"a JSON array","expected":"an Arrow file, an Arrow stream, a Parquet file or lines of fields","help":"Try jq -c '.[]' FILE | geoarrow_check -"}
+  -: error[ForeignFormat]: found a JSON array; expected an Arrow file, an Arrow stream, a Parquet file or lines of fields. Try jq -c '.[]' FILE | geoarrow_check -
   [2]
 
   $ printf '\357\273\277{"name":"a","nullable":true,"type":"null"}\n' | geoarrow_check --json -
-  {"column":"a","index":0,"state":"plain","type":"null"}
+  {"kind":"column","index":0,"column":"a","state":"plain","type":"null"}
+
+The mark is a note, behind the columns and the bad lines, and counts where it is denied
+
+  $ printf '\357\273\277{"name":"a","nullable":true,"type":"null"}\n' > "$TMPDIR/marked" && cd "$TMPDIR" && for words in --json --lines --quiet '--quiet --deny ByteOrderMark'
+  > do
+  >     geoarrow_check --notes $words marked
+  >     echo $?
+  > done
+  {"kind":"column","file":"marked","index":0,"column":"a","state":"plain","type":"null"}
+  {"kind":"finding","severity":"note","code":"ByteOrderMark","file":"marked","in":"file","byte":0,"expected":"lines without one","help":"It is passed over."}
+  0
+  {"name":"a","nullable":true,"type":"null"}
+  0
+  0
+  marked: error[ByteOrderMark] file, byte 0: expected lines without one. It is passed over.
+  1
+
+  $ printf '\357\273\277{"name":"a","nullable":true,"type":"null"}\n{}' | geoarrow_check --json --notes - 2> "$TMPDIR/said"
+  {"kind":"column","index":0,"column":"a","state":"plain","type":"null"}
+  {"kind":"finding","severity":"error","code":"BadLine","line":2,"found":"no string at \"name\"","expected":"a string at \"name\""}
+  {"kind":"finding","severity":"note","code":"ByteOrderMark","in":"file","byte":0,"expected":"lines without one","help":"It is passed over."}
+  [2]
+
+  $ printf '\357\273\277{"name":"a","nullable":true,"type":"null"}\n' | geoarrow_check --notes - | tail -1
+  note[ByteOrderMark] file, byte 0: expected lines without one. It is passed over.
 
 A file of a format that is not read is named, with what to try, whatever is printed; its first bytes alone are read
 
@@ -427,53 +580,54 @@ A file of a format that is not read is named, with what to try, whatever is prin
   > do
   >     geoarrow_check $words a.gpkg
   > done
-  {"error":"ForeignFormat","file":"a.gpkg","found":"a GeoPackage or SQLite database","help":"Try ogr2ogr out.parquet FILE","message":"is of a format that is not read"}
-  a.gpkg: is of a format that is not read: a GeoPackage or SQLite database. Try ogr2ogr out.parquet FILE
-  a.gpkg: is of a format that is not read: a GeoPackage or SQLite database. Try ogr2ogr out.parquet FILE
-  a.gpkg: is of a format that is not read: a GeoPackage or SQLite database. Try ogr2ogr out.parquet FILE
-  a.gpkg: is of a format that is not read: a GeoPackage or SQLite database. Try ogr2ogr out.parquet FILE
-  a.gpkg: is of a format that is not read: a GeoPackage or SQLite database. Try ogr2ogr out.parquet FILE
+  {"kind":"finding","severity":"error","code":"ForeignFormat","file":"a.gpkg","found":"a GeoPackage or SQLite database","expected":"an Arrow file, an Arrow stream, a Parquet file or lines of fields","help":"Try ogr2ogr out.parquet FILE"}
+  a.gpkg: error[ForeignFormat]: found a GeoPackage or SQLite database; expected an Arrow file, an Arrow stream, a Parquet file or lines of fields. Try ogr2ogr out.parquet FILE
+  a.gpkg: error[ForeignFormat]: found a GeoPackage or SQLite database; expected an Arrow file, an Arrow stream, a Parquet file or lines of fields. Try ogr2ogr out.parquet FILE
+  a.gpkg: error[ForeignFormat]: found a GeoPackage or SQLite database; expected an Arrow file, an Arrow stream, a Parquet file or lines of fields. Try ogr2ogr out.parquet FILE
+  a.gpkg: error[ForeignFormat]: found a GeoPackage or SQLite database; expected an Arrow file, an Arrow stream, a Parquet file or lines of fields. Try ogr2ogr out.parquet FILE
+  a.gpkg: error[ForeignFormat]: found a GeoPackage or SQLite database; expected an Arrow file, an Arrow stream, a Parquet file or lines of fields. Try ogr2ogr out.parquet FILE
   [2]
 
   $ cd "$TMPDIR" && printf 'SQLite format 3\000' > a.gpkg && (printf 'PK\003\004'; yes) | geoarrow_check a.gpkg -
-  a.gpkg: is of a format that is not read: a GeoPackage or SQLite database. Try ogr2ogr out.parquet FILE
-  -: is of a format that is not read: a zip archive. Unzip it, and check what is in it
+  a.gpkg: error[ForeignFormat]: found a GeoPackage or SQLite database; expected an Arrow file, an Arrow stream, a Parquet file or lines of fields. Try ogr2ogr out.parquet FILE
+  -: error[ForeignFormat]: found a zip archive; expected an Arrow file, an Arrow stream, a Parquet file or lines of fields. Unzip it, and check what is in it
+  2 files: 0 columns, 0 of geometries; no findings; 2 files not read
   [2]
 
   $ printf 'PAR1PAR1' | geoarrow_check --json -
-  {"error":"FooterCut","message":"the footer is larger than the file"}
-  -: the footer is larger than the file
+  {"kind":"finding","severity":"error","code":"FooterLength","found":"a footer of no bytes, or of more than stand before its size","expected":"a footer before its size"}
+  -: error[FooterLength]: found a footer of no bytes, or of more than stand before its size; expected a footer before its size
   [2]
 
   $ printf 'PAR1\000\000\000\000PAR1' | geoarrow_check --json -
-  {"byte":0,"error":"FooterEnd","message":"a value ends past the footer","place":"byte 0 of the footer"}
-  -: byte 0 of the footer: a value ends past the footer
+  {"kind":"finding","severity":"error","code":"FooterLength","found":"a footer of no bytes, or of more than stand before its size","expected":"a footer before its size"}
+  -: error[FooterLength]: found a footer of no bytes, or of more than stand before its size; expected a footer before its size
   [2]
 
   $ printf 'PAR1    PARE' | geoarrow_check --json -
-  {"error":"FooterEncrypted","message":"the footer is encrypted"}
-  -: the footer is encrypted
+  {"kind":"finding","severity":"error","code":"Encrypted","found":"PARE","expected":"PAR1","help":"A copy with a plain footer is needed"}
+  -: error[Encrypted]: found PARE; expected PAR1. A copy with a plain footer is needed
   [2]
 
   $ printf 'PARE    \004\000\000\000PARE' > "$TMPDIR/encrypted.parquet" && cd "$TMPDIR" && geoarrow_check --json encrypted.parquet; geoarrow_check - < encrypted.parquet
-  {"error":"FooterEncrypted","file":"encrypted.parquet","message":"the footer is encrypted"}
-  encrypted.parquet: the footer is encrypted
-  -: the footer is encrypted
+  {"kind":"finding","severity":"error","code":"Encrypted","file":"encrypted.parquet","found":"PARE","expected":"PAR1","help":"A copy with a plain footer is needed"}
+  encrypted.parquet: error[Encrypted]: found PARE; expected PAR1. A copy with a plain footer is needed
+  -: error[Encrypted]: found PARE; expected PAR1. A copy with a plain footer is needed
   [2]
 
   $ printf 'PAR1    ' | geoarrow_check --json -
-  {"error":"FooterMagic","message":"does not end as a Parquet file does"}
-  -: does not end as a Parquet file does
+  {"kind":"finding","severity":"error","code":"Truncated","found":"another end","expected":"PAR1 at the end","help":"The file is cut off, or still being written"}
+  -: error[Truncated]: found another end; expected PAR1 at the end. The file is cut off, or still being written
   [2]
 
   $ printf '\377\377\377\377\010\000\000\000\004\000\000\000' | geoarrow_check --json -
-  {"byte":8,"error":"IpcEnvelope","message":"no whole message","place":"byte 8 of the message"}
-  -: byte 8 of the message: no whole message
+  {"kind":"finding","severity":"error","code":"Truncated","in":"message","byte":8,"found":"a message that is cut off","expected":"as many bytes as its size says","help":"The file is cut off, or still being written"}
+  -: error[Truncated] message, byte 8: found a message that is cut off; expected as many bytes as its size says. The file is cut off, or still being written
   [2]
 
   $ head -c 100 ../crates/geoarrow_check/data/stream.arrows | geoarrow_check --json - 2>&1
-  {"byte":8,"error":"IpcEnvelope","message":"no whole message","place":"byte 8 of the message"}
-  -: byte 8 of the message: no whole message
+  {"kind":"finding","severity":"error","code":"Truncated","in":"message","byte":8,"found":"a message that is cut off","expected":"as many bytes as its size says","help":"The file is cut off, or still being written"}
+  -: error[Truncated] message, byte 8: found a message that is cut off; expected as many bytes as its size says. The file is cut off, or still being written
   [2]
 
 The byte of an Arrow file's fault is that of the file, by its path and by standard input: its end is cut off, or the type of a field, whose table begins at 518, is none; also behind 4096 bytes
@@ -486,17 +640,19 @@ The byte of an Arrow file's fault is that of the file, by its path and by standa
   >     geoarrow_check - < $file.arrow
   >     cat behind.arrow | geoarrow_check -
   > done
-  cut.arrow: byte 690: no whole message
-  behind.arrow: byte 4786: no whole message
-  -: byte 690: no whole message
-  -: byte 4786: no whole message
-  tag.arrow: byte 518: an unknown type
-  behind.arrow: byte 4614: an unknown type
-  -: byte 518: an unknown type
-  -: byte 4614: an unknown type
+  cut.arrow: error[Truncated] byte 690: found another end; expected ARROW1 at the end. The file is cut off, or still being written
+  behind.arrow: error[Truncated] byte 4786: found another end; expected ARROW1 at the end. The file is cut off, or still being written
+  2 files: 0 columns, 0 of geometries; no findings; 2 files not read
+  -: error[Truncated] byte 690: found another end; expected ARROW1 at the end. The file is cut off, or still being written
+  -: error[Truncated] byte 4786: found another end; expected ARROW1 at the end. The file is cut off, or still being written
+  tag.arrow: error[BadMessage] byte 518: found an unknown type; expected a type of Schema.fbs, 1 to 26
+  behind.arrow: error[BadMessage] byte 4614: found an unknown type; expected a type of Schema.fbs, 1 to 26
+  2 files: 0 columns, 0 of geometries; no findings; 2 files not read
+  -: error[BadMessage] byte 518: found an unknown type; expected a type of Schema.fbs, 1 to 26
+  -: error[BadMessage] byte 4614: found an unknown type; expected a type of Schema.fbs, 1 to 26
   [2]
 
-With --json the fault is a line of JSON too, alone, or behind the lines of columns; of a file that the system does not read there is none
+With --json the fault is a line of JSON too, alone, or behind the lines of columns; also of a file that the system does not give
 
   $ cd "$TMPDIR" && head -c 700 "$top/crates/geoarrow_check/data/file.arrow" > cut.arrow && printf '{"\377\n' > bytes && printf 'PAR1\005\000\000\000PAR1' > cut.parquet && printf '\n{"name":"a","nullable":true,"type":"null"}\n{"name":"b" "nullable":true}\n' > lines
   > for file in cut.arrow bytes cut.parquet lines nowhere
@@ -505,20 +661,21 @@ With --json the fault is a line of JSON too, alone, or behind the lines of colum
   >     echo $? >> said
   >     cat said
   > done
-  {"byte":690,"error":"IpcEnvelope","file":"cut.arrow","message":"no whole message","place":"byte 690"}
-  cut.arrow: byte 690: no whole message
+  {"kind":"finding","severity":"error","code":"Truncated","file":"cut.arrow","byte":690,"found":"another end","expected":"ARROW1 at the end","help":"The file is cut off, or still being written"}
+  cut.arrow: error[Truncated] byte 690: found another end; expected ARROW1 at the end. The file is cut off, or still being written
   2
-  {"byte":3,"error":"LineNotUtf8","file":"bytes","line":1,"message":"is no UTF-8","place":"line 1, byte 3"}
-  bytes: line 1, byte 3: is no UTF-8
+  {"kind":"finding","severity":"error","code":"BadLine","file":"bytes","byte":3,"line":1,"found":"bytes that are not UTF-8","expected":"UTF-8"}
+  bytes: error[BadLine] byte 3, line 1: found bytes that are not UTF-8; expected UTF-8
   2
-  {"error":"FooterCut","file":"cut.parquet","message":"the footer is larger than the file"}
-  cut.parquet: the footer is larger than the file
+  {"kind":"finding","severity":"error","code":"FooterLength","file":"cut.parquet","found":"a footer of no bytes, or of more than stand before its size","expected":"a footer before its size"}
+  cut.parquet: error[FooterLength]: found a footer of no bytes, or of more than stand before its size; expected a footer before its size
   2
-  {"column":"a","file":"lines","index":0,"state":"plain","type":"null"}
-  {"byte":13,"error":"LineNotJson","file":"lines","line":3,"message":"is no JSON, or nests more than 127 levels","place":"line 3, byte 13"}
-  lines: line 3, byte 13: is no JSON, or nests more than 127 levels
+  {"kind":"column","file":"lines","index":0,"column":"a","state":"plain","type":"null"}
+  {"kind":"finding","severity":"error","code":"BadLine","file":"lines","byte":13,"line":3,"found":"no JSON, or more than 127 levels of it","expected":"a JSON object"}
+  lines: error[BadLine] byte 13, line 3: found no JSON, or more than 127 levels of it; expected a JSON object
   2
-  nowhere: No such file or directory (os error 2)
+  {"kind":"finding","severity":"error","code":"CannotRead","file":"nowhere","found":"No such file or directory (os error 2)","expected":"a file that can be read"}
+  nowhere: error[CannotRead]: found No such file or directory (os error 2); expected a file that can be read
   2
 
 What is found in GeoParquet metadata, behind the columns
@@ -545,42 +702,47 @@ The status by what is found, notes too, of the files of a row each: how many, th
   $ cd "$TMPDIR" && sed -n 's/^report_file //p' "$top/crates/file_rows/data/reports/geo_files.rows" | while read -r digits
   > do
   >     python3 -c 'import sys; sys.stdout.buffer.write(bytes.fromhex(sys.argv[1]))' "$digits" > file
-  >     geoarrow_check --json --notes file | sed -n 's/^{"severity":"[a-z]*","code":"\([A-Za-z]*\)".*/\1/p' | LC_ALL=C sort -u | tr '\n' ' '
-  >     geoarrow_check --quiet file
+  >     geoarrow_check --json --notes file | sed -n 's/^{"kind":"finding","severity":"[a-z]*","code":"\([A-Za-z]*\)".*/\1/p' | LC_ALL=C sort -u | tr '\n' ' '
+  >     geoarrow_check --quiet file > /dev/null
   >     echo $?
   > done | LC_ALL=C sort | uniq -c
-       55 0
-        2 1
-        4 ArrowSchemaContradicts 1
+       91 0
+       25 1
+        5 ArrowSchemaContradicts 1
         1 ArrowSchemaContradicts CrsContradicts 1
-        2 ArrowSchemaContradicts GeoLayout 1
+        6 ArrowSchemaContradicts GeoCovering 1
+        3 ArrowSchemaContradicts GeoLayout 1
        18 ArrowSchemaContradicts NoGeoMetadata 1
         1 ArrowSchemaNames 0
         1 ArrowSchemaNames GeoEncoding 1
         1 ArrowSchemaNames GeoNotInFooter 0
         1 ArrowSchemaNames NameNotText 1
         2 ArrowSchemaUnreadable 1
-       13 CrsContradicts 1
+       14 CrsContradicts 1
+        2 CrsContradicts EdgesContradict 1
         1 CrsContradicts GeoCrs 1
         1 CrsContradicts GeoOldVersion 1
-        4 CrsKeyMissing 1
+        9 CrsKeyMissing 1
         3 CrsMalformed 1
         2 CrsNotCompared 0
-       11 EdgesContradict 1
+       12 EdgesContradict 1
         1 EdgesContradict EdgesOnProjected GeoColumnRepeated 1
         3 ElementInvalid 1
         1 ElementInvalid EmptyGroup 1
         1 ElementInvalid NestedGeometry 1
-        1 EmptyGroup 0
+        4 EmptyGroup 0
         1 EmptyGroup NestedGeometry 0
         2 EncodingContradicts 1
         1 EncodingContradicts GeoLayout 1
-        1 GeoColumnMissing 1
-        1 GeoColumnMissing GeoColumnUndeclared 1
+        2 GeoColumnMissing 1
+        2 GeoColumnMissing GeoColumnUndeclared 1
         1 GeoColumnMissing GeoMember 1
         1 GeoColumnMissing NameNotText 1
         1 GeoColumnRepeated 1
         1 GeoColumnUndeclared RepeatedKey 0
+        1 GeoColumns GeoPrimaryColumn GeoVersion 1
+        1 GeoCovering 1
+        1 GeoCoveringAbsent 0
         1 GeoCoveringColumn 1
         3 GeoCoveringName 1
         2 GeoCoveringShape 0
@@ -589,25 +751,25 @@ The status by what is found, notes too, of the files of a row each: how many, th
         2 GeoEdges 1
         5 GeoEncoding 1
         1 GeoEncoding GeoVersion RepeatedKey 1
-        6 GeoLayout 1
+        7 GeoLayout 1
         1 GeoLayout LogicalTypeInvalid 1
         1 GeoNewVersion 0
         1 GeoNotInFooter 0
         1 GeoNotInFooter NoGeoMetadata 0
-        9 GeoNotJson 1
+       10 GeoNotJson 1
         1 GeoNotObject 1
         5 GeoOldVersion 0
         1 GeoOldVersion 1
-        1 GeoTypes 1
+        2 GeoTypes 1
         1 GeoTypesVersion 1
         1 GeoVersion 1
         1 KeyNotText 0
         3 LogicalTypeInvalid 1
         1 NestedGeometry 0
-        5 NoGeoMetadata 0
+        6 NoGeoMetadata 0
        21 RepeatedKey 0
-        1 TypesContradict 1
-        1 UnknownAlgorithm 0
+        2 TypesContradict 1
+        6 UnknownAlgorithm 0
 
 What is denied counts and is printed as an error; what is allowed is not printed and does not count: codes, and all warnings
 
@@ -619,21 +781,24 @@ What is denied counts and is printed as an error; what is allowed is not printed
   warning[GeoColumnUndeclared] column place, geo /columns: found "place"; expected a member for the column. Readers of GeoParquet do not see the column.
   warning[GeoColumnUndeclared] column region, geo /columns: found "region"; expected a member for the column. Readers of GeoParquet do not see the column.
 
-  $ geoarrow_check --json --deny GeoColumnUndeclared --allow GeoTypes --allow GeoBboxOrder ../crates/geoarrow_check/data/geo.parquet | sed -n 's/^{\("severity":"[a-z]*","code":"[A-Za-z]*"\).*/\1/p'
+  $ geoarrow_check --json --deny GeoColumnUndeclared --allow GeoTypes --allow GeoBboxOrder ../crates/geoarrow_check/data/geo.parquet | sed -n 's/^{"kind":"finding",\("severity":"[a-z]*","code":"[A-Za-z]*"\).*/\1/p'
   "severity":"error","code":"GeoColumnUndeclared"
   "severity":"error","code":"GeoColumnUndeclared"
 
   $ for words in '' '--deny warnings' '--deny NoGeoMetadata' '--allow warnings' '--allow NoGeoMetadata'
   > do
   >     geoarrow_check $words ../crates/geoarrow_check/data/stored.parquet | tail -n +3
-  >     geoarrow_check --quiet $words ../crates/geoarrow_check/data/stored.parquet
+  >     geoarrow_check --quiet $words ../crates/geoarrow_check/data/stored.parquet | cut -d : -f 2
+  >     geoarrow_check --quiet $words ../crates/geoarrow_check/data/stored.parquet > /dev/null
   >     echo $?
   > done
   warning[NoGeoMetadata] geo: expected metadata of GeoParquet at the key geo
   0
   error[NoGeoMetadata] geo: expected metadata of GeoParquet at the key geo
+   error[NoGeoMetadata] geo
   1
   error[NoGeoMetadata] geo: expected metadata of GeoParquet at the key geo
+   error[NoGeoMetadata] geo
   1
   0
   0
@@ -644,7 +809,7 @@ A code counts before all warnings, in any order of the words; of the same twice 
   >     '--deny NoGeoMetadata --allow NoGeoMetadata' '--allow NoGeoMetadata --deny NoGeoMetadata' '--deny warnings --allow warnings' '--allow warnings --deny warnings' \
   >     '--deny NoGeoMetadata --allow NoGeoMetadata --deny NoGeoMetadata' '--deny GeoTypes --allow GeoTypes'
   > do
-  >     geoarrow_check --quiet $words ../crates/geoarrow_check/data/stored.parquet
+  >     geoarrow_check --quiet $words ../crates/geoarrow_check/data/stored.parquet > /dev/null
   >     echo $?
   > done | tr '\n' ' '
   > echo
@@ -659,7 +824,7 @@ A note that is denied is shown, whether notes are or not; all warnings are no no
   > cd "$TMPDIR" && for words in '--deny CrsNotWhole' '--deny warnings' '--notes --deny warnings' '--notes --allow CrsNotWhole' '--allow warnings' '--allow warnings --allow CrsNotWhole --notes'
   > do
   >     geoarrow_check $words notes | sed -n 's/^    \([a-z]*\[[A-Za-z]*\]\).*/\1/p' | tr '\n' ' '
-  >     geoarrow_check --quiet $words notes
+  >     geoarrow_check --quiet $words notes > /dev/null
   >     echo $?
   > done
   error[CrsNotWhole] warning[MetadataEmpty] 1
@@ -670,7 +835,7 @@ A note that is denied is shown, whether notes are or not; all warnings are no no
   0
 
   $ cd "$TMPDIR" && echo '{"metadata":{"ARROW:extension:metadata":"","ARROW:extension:name":"geoarrow.wkb"},"name":"e","nullable":true,"type":"binary"}' | geoarrow_check --json --deny MetadataEmpty -
-  {"column":"e","edges":"planar","extension":"geoarrow.wkb","findings":[{"severity":"error","code":"MetadataEmpty","in":"extension metadata","pointer":"","found":"\"\"","expected":"no metadata, or {}","help":"It is read as no metadata."}],"index":0,"state":"geometry","type":"wkb - -","type_from":"field"}
+  {"kind":"column","index":0,"column":"e","state":"geometry","type":"wkb - -","type_from":"field","extension":"geoarrow.wkb","edges":"planar","findings":[{"severity":"error","code":"MetadataEmpty","in":"extension metadata","pointer":"","found":"\"\"","expected":"no metadata, or {}","help":"It is read as no metadata."}]}
   [1]
 
 Why a column is invalid is a finding too: it is allowed or denied as others are, and the column counts as before
@@ -681,16 +846,16 @@ Why a column is invalid is a finding too: it is allowed or denied as others are,
   >     geoarrow_check --json $words invalid
   >     echo $?
   > done
-  {"column":"label","extension":"geoarrow.wkb","file":"invalid","findings":[{"severity":"error","code":"WrongStorage","in":"field","found":"utf8","expected":"binary, large_binary or binary_view","help":"For WKT use geoarrow.wkt."}],"index":0,"state":"invalid","type":"utf8"}
+  {"kind":"column","file":"invalid","index":0,"column":"label","state":"invalid","type":"utf8","extension":"geoarrow.wkb","findings":[{"severity":"error","code":"WrongStorage","in":"field","found":"utf8","expected":"binary, large_binary or binary_view","help":"For WKT use geoarrow.wkt."}]}
   1
-  {"column":"label","extension":"geoarrow.wkb","file":"invalid","findings":[{"severity":"error","code":"WrongStorage","in":"field","found":"utf8","expected":"binary, large_binary or binary_view","help":"For WKT use geoarrow.wkt."}],"index":0,"state":"invalid","type":"utf8"}
+  {"kind":"column","file":"invalid","index":0,"column":"label","state":"invalid","type":"utf8","extension":"geoarrow.wkb","findings":[{"severity":"error","code":"WrongStorage","in":"field","found":"utf8","expected":"binary, large_binary or binary_view","help":"For WKT use geoarrow.wkt."}]}
   1
-  {"column":"label","extension":"geoarrow.wkb","file":"invalid","index":0,"state":"invalid","type":"utf8"}
+  {"kind":"column","file":"invalid","index":0,"column":"label","state":"invalid","type":"utf8","extension":"geoarrow.wkb"}
   1
-  {"column":"label","extension":"geoarrow.wkb","file":"invalid","findings":[{"severity":"error","code":"WrongStorage","in":"field","found":"utf8","expected":"binary, large_binary or binary_view","help":"For WKT use geoarrow.wkt."}],"index":0,"state":"invalid","type":"utf8"}
+  {"kind":"column","file":"invalid","index":0,"column":"label","state":"invalid","type":"utf8","extension":"geoarrow.wkb","findings":[{"severity":"error","code":"WrongStorage","in":"field","found":"utf8","expected":"binary, large_binary or binary_view","help":"For WKT use geoarrow.wkt."}]}
   1
 
-Why a file is refused has no code of findings; nothing is read
+Words that are no code; a code with which files are refused counts in any case, and cannot be allowed
 
   $ for word in GeoTyps EmptyFile Warnings all ''
   > do
@@ -704,8 +869,8 @@ Why a file is refused has no code of findings; nothing is read
     tip: a similar code exists: 'GeoTypes'
   error: 'GeoTyps' is no code
     tip: a similar code exists: 'GeoTypes'
-  error: 'EmptyFile' is no code
-  error: 'EmptyFile' is no code
+  nowhere: error[CannotRead]: found No such file or directory (os error 2); expected a file that can be read
+  error: 'EmptyFile' cannot be allowed: no report is made of such a file
   error: 'Warnings' is no code
   error: 'Warnings' is no code
   error: 'all' is no code
@@ -780,6 +945,124 @@ A word that is no code: the code that it is most like, if at most three edits le
     tip: a similar code exists: 'GeoEpoch'
   error: 'Nothing' is no code
 
+Formats: a table, lines of JSON, and findings alone as commands of a workflow; of two the later counts
+
+  $ for words in '--format text' '--json --format=text' '--format github --format text'
+  > do
+  >     geoarrow_check $words ../crates/geoarrow_check/data/stream.arrows
+  > done
+  column  holds  CRS  edges
+  a       int64
+  column  holds  CRS  edges
+  a       int64
+  column  holds  CRS  edges
+  a       int64
+
+  $ for words in '--format json' '--format=text --json' '--json --json' '--format github --format json'
+  > do
+  >     geoarrow_check $words - < ../crates/geoarrow_check/data/stream.arrows
+  > done
+  {"kind":"column","index":0,"column":"a","state":"plain","type":"int64"}
+  {"kind":"column","index":0,"column":"a","state":"plain","type":"int64"}
+  {"kind":"column","index":0,"column":"a","state":"plain","type":"int64"}
+  {"kind":"column","index":0,"column":"a","state":"plain","type":"int64"}
+
+  $ geoarrow_check --format github ../crates/geoarrow_check/data/stream.arrows ../examples/schema.jsonl ../crates/geoarrow_check/data/geo.parquet
+  ::warning file=../examples/schema.jsonl,title=NullableInner::column outline, at item, field: found nullable; expected not null
+  ::error file=../examples/schema.jsonl,title=WrongStorage::column label, field: found utf8; expected binary, large_binary or binary_view. For WKT use geoarrow.wkt.
+  ::error file=../examples/schema.jsonl,title=EmptyUnion::column broken, field: found dense_union<>; expected union whose type ids are among 1 to 7, 11 to 17, 21 to 27 and 31 to 37. The union has no members.
+  ::error file=../crates/geoarrow_check/data/geo.parquet,title=GeoTypes::column geom, geo /columns/geom/geometry_types/1: found "Dot"; expected Point, LineString, Polygon, MultiPoint, MultiLineString, MultiPolygon or GeometryCollection, alone or with " Z", each at most once
+  ::error file=../crates/geoarrow_check/data/geo.parquet,title=GeoBboxOrder::column geom, geo /columns/geom/bbox/1: found 3; expected at most the greatest bound (2). Only a box of a geographic CRS has an xmin above its xmax, where it crosses the antimeridian.
+  ::warning file=../crates/geoarrow_check/data/geo.parquet,title=GeoColumnUndeclared::column place, geo /columns: found "place"; expected a member for the column. Readers of GeoParquet do not see the column.
+  ::warning file=../crates/geoarrow_check/data/geo.parquet,title=GeoColumnUndeclared::column region, geo /columns: found "region"; expected a member for the column. Readers of GeoParquet do not see the column.
+  [1]
+
+Findings as they count: a warning that is denied, one that is allowed, and a note; of standard input no file is named
+
+  $ for words in '' '--deny warnings' '--allow NoGeoMetadata'
+  > do
+  >     geoarrow_check --format github $words - < ../crates/geoarrow_check/data/stored.parquet
+  > done
+  > printf '\357\273\277{"name":"a","nullable":true,"type":"null"}\n' | geoarrow_check --format github --notes -
+  ::warning title=NoGeoMetadata::geo: expected metadata of GeoParquet at the key geo
+  ::error title=NoGeoMetadata::geo: expected metadata of GeoParquet at the key geo
+  ::notice title=ByteOrderMark::file, byte 0: expected lines without one. It is passed over.
+
+What a workflow would read as its own: in the name of a file, and in a message
+
+  $ cd "$TMPDIR" && file=$(printf 'a%%:,\nb\033c') && printf '{"metadata":{"ARROW:extension:name":"geoarrow.wkb"},"name":"50%%\\r\\n:,\\u001b","nullable":true,"type":"utf8"}\n' > "$file" && geoarrow_check --format=github "$file"
+  ::error file=a%25%3A%2C%0Ab?c,title=WrongStorage::column 50%25%0D%0A:,?, field: found utf8; expected binary, large_binary or binary_view. For WKT use geoarrow.wkt.
+  [1]
+
+Files that are refused, bad lines, and what is not met stand there too; nothing stands on standard error
+
+  $ cd "$TMPDIR" && printf '{"name":"a","nullable":true,"type":"null"}\n[]\n' > lines && printf 'PAR1PAR1' > cut.parquet
+  > geoarrow_check --format github --expect b=point --require-geometry lines cut.parquet nowhere - < /dev/null 2> said
+  > echo $?
+  > cat said
+  ::error file=lines,title=BadLine::line 2: found JSON that is no object; expected a JSON object
+  ::error file=lines,title=Expect::no column b
+  ::error file=lines,title=NoGeometry::no column of geometries
+  ::error file=cut.parquet,title=FooterLength::found a footer of no bytes, or of more than stand before its size; expected a footer before its size
+  ::error file=nowhere,title=CannotRead::found No such file or directory (os error 2); expected a file that can be read
+  ::error title=EmptyFile::found no bytes, or blanks alone; expected an Arrow file, an Arrow stream, a Parquet file or lines of fields. The writing or the copy broke off before its first byte
+  2
+
+  $ (cat point.jsonl; yes 1 | head -n 101) | geoarrow_check --format github - | tail -n 2
+  ::error title=BadLine::line 101: found JSON that is no object; expected a JSON object
+  ::error title=BadLine::1 more line is no column
+
+A log of SARIF: a result for each line of github, with its level, its file as a URI, and where it is in the file, if a line or a byte of it tells; each rule once, in the words of --codes
+
+  $ geoarrow_check --format sarif ../crates/geoarrow_check/data/stream.arrows
+  {"$schema":"https://json.schemastore.org/sarif-2.1.0.json","version":"2.1.0","runs":[{"results":[
+  ],"tool":{"driver":{"name":"geoarrow_check","rules":[
+  ]}}}]}
+
+  $ cd "$TMPDIR" && printf '\357\273\277{"name":"a","nullable":true,"type":"null"}\n[]\n' > 'a b%c:é#?' && head -c 700 "$top/crates/geoarrow_check/data/file.arrow" > cut.arrow && printf 'PAR1PAR1' > cut.parquet
+  > geoarrow_check --format sarif --notes --require-geometry 'a b%c:é#?' cut.arrow cut.parquet cut.arrow nowhere - < /dev/null
+  {"$schema":"https://json.schemastore.org/sarif-2.1.0.json","version":"2.1.0","runs":[{"results":[
+  {"ruleId":"BadLine","level":"error","message":{"text":"line 2: found JSON that is no object; expected a JSON object"},"locations":[{"physicalLocation":{"artifactLocation":{"uri":"a%20b%25c%3A%C3%A9%23%3F"},"region":{"startLine":2}}}]},
+  {"ruleId":"ByteOrderMark","level":"note","message":{"text":"file, byte 0: expected lines without one. It is passed over."},"locations":[{"physicalLocation":{"artifactLocation":{"uri":"a%20b%25c%3A%C3%A9%23%3F"},"region":{"byteOffset":0}}}]},
+  {"ruleId":"NoGeometry","level":"error","message":{"text":"no column of geometries"},"locations":[{"physicalLocation":{"artifactLocation":{"uri":"a%20b%25c%3A%C3%A9%23%3F"}}}]},
+  {"ruleId":"Truncated","level":"error","message":{"text":"byte 690: found another end; expected ARROW1 at the end. The file is cut off, or still being written"},"locations":[{"physicalLocation":{"artifactLocation":{"uri":"cut.arrow"},"region":{"byteOffset":690}}}]},
+  {"ruleId":"FooterLength","level":"error","message":{"text":"found a footer of no bytes, or of more than stand before its size; expected a footer before its size"},"locations":[{"physicalLocation":{"artifactLocation":{"uri":"cut.parquet"}}}]},
+  {"ruleId":"Truncated","level":"error","message":{"text":"byte 690: found another end; expected ARROW1 at the end. The file is cut off, or still being written"},"locations":[{"physicalLocation":{"artifactLocation":{"uri":"cut.arrow"},"region":{"byteOffset":690}}}]},
+  {"ruleId":"CannotRead","level":"error","message":{"text":"found No such file or directory (os error 2); expected a file that can be read"},"locations":[{"physicalLocation":{"artifactLocation":{"uri":"nowhere"}}}]},
+  {"ruleId":"EmptyFile","level":"error","message":{"text":"found no bytes, or blanks alone; expected an Arrow file, an Arrow stream, a Parquet file or lines of fields. The writing or the copy broke off before its first byte"}}
+  ],"tool":{"driver":{"name":"geoarrow_check","rules":[
+  {"id":"ByteOrderMark","shortDescription":{"text":"lines begin with a byte order mark"}},
+  {"id":"BadLine","shortDescription":{"text":"a line is no column"}},
+  {"id":"NoGeometry","shortDescription":{"text":"a file has no column of geometries"}},
+  {"id":"Truncated","shortDescription":{"text":"a file, or the message of a stream, is cut off"}},
+  {"id":"FooterLength","shortDescription":{"text":"a footer has no bytes, or more than stand before its size"}},
+  {"id":"CannotRead","shortDescription":{"text":"the system does not give the file"}},
+  {"id":"EmptyFile","shortDescription":{"text":"a file has no bytes, or blanks alone"}}
+  ]}}}]}
+  [2]
+
+  $ cd "$TMPDIR" && data=$top/crates/geoarrow_check/data && cp "$data/columns.jsonl" "$data/reasons.jsonl" "$data/geo.parquet" "$data/stored.parquet" "$data/stream.arrows" "$top/examples/schema.jsonl" . && (cat "$top/runs/point.jsonl"; yes 1 | head -n 101) > bad
+  > cat > compare.py << 'END'
+  > import json, subprocess, sys
+  > from urllib.parse import unquote
+  > words, columns = {"error": "error", "warning": "warning", "note": "notice"}, "--expect a=point columns.jsonl reasons.jsonl geo.parquet stored.parquet stream.arrows schema.jsonl bad nowhere".split()
+  > def line(result):
+  >     file = "".join("file=" + unquote(one["physicalLocation"]["artifactLocation"]["uri"]) + "," for one in result["locations"])
+  >     return f"::{words[result['level']]} {file}title={result['ruleId']}::{result['message']['text']}"
+  > for options in ([], ["--notes"], ["--quiet"], ["--problems"], ["--deny", "warnings", "--infer"]):
+  >     printed = [subprocess.run(["geoarrow_check", "--format", one, *options, *columns], stdout=subprocess.PIPE).stdout.decode() for one in ("github", "sarif")]
+  >     run, = json.loads(printed[1])["runs"]
+  >     rules = [one["id"] for one in run["tool"]["driver"]["rules"]]
+  >     lines = [one.replace("%25", "%") for one in printed[0].splitlines()]
+  >     print(lines == [line(one) for one in run["results"]], len(lines) > 100, len(set(rules)) == len(rules), set(rules) == {one["ruleId"] for one in run["results"]})
+  > END
+  > python3 compare.py
+  True True True True
+  True True True True
+  True True True True
+  True True True True
+  True True True True
+
 Words that are answered at once
 
   $ geoarrow_check --version
@@ -791,6 +1074,11 @@ Words that are answered at once
   geoarrow_check 2.0.0 (rattle-kit-13f)
 
   $ geoarrow_check --json --lines -h --jsno | cmp - ../docs/check_help.txt
+
+  $ geoarrow_check -qh --jsno | cmp - ../docs/check_help.txt
+
+  $ geoarrow_check -qV x
+  geoarrow_check 2.0.0 (rattle-kit-13f)
 
 Files whose names begin with a hyphen
 
@@ -807,13 +1095,13 @@ Options behind files, options that stand twice, and what is expected behind `=`,
   {"metadata":{"ARROW:extension:name":"geoarrow.linestring"},"name":"g","nullable":true,"type":{"list":{"name":"vertices","nullable":false,"type":{"fixed_size_list":{"name":"xym","nullable":false,"type":"float64"},"size":3}}}}
 
   $ geoarrow_check --quiet --expect=g=XY --expect --json=point --expect g=XYM ../crates/geoarrow_check/data/file.arrow
-  ../crates/geoarrow_check/data/file.arrow: column g is not XY: linestring interleaved XYM, no CRS, planar
-  ../crates/geoarrow_check/data/file.arrow: no column --json
+  ../crates/geoarrow_check/data/file.arrow: error[Expect]: column g is not XY: linestring interleaved XYM, no CRS, planar
+  ../crates/geoarrow_check/data/file.arrow: error[Expect]: no column --json
   [1]
 
 Words that are refused
 
-  $ for word in --jsno --line --ip --infre --note --code --explian --quite --require-geometri --expct --hlep --versoin
+  $ for word in --jsno --line --ip --infre --note --code --explian --quite --problem --require-geometri --expct --hlep --versoin
   > do
   >     geoarrow_check $word x 2>&1 | sed '/Usage/,$d' | grep .
   > done
@@ -833,6 +1121,8 @@ Words that are refused
     tip: a similar argument exists: '--explain'
   error: unexpected argument '--quite' found
     tip: a similar argument exists: '--quiet'
+  error: unexpected argument '--problem' found
+    tip: a similar argument exists: '--problems'
   error: unexpected argument '--require-geometri' found
     tip: a similar argument exists: '--require-geometry'
   error: unexpected argument '--expct' found
@@ -842,12 +1132,12 @@ Words that are refused
   error: unexpected argument '--versoin' found
     tip: a similar argument exists: '--version'
 
-  $ for word in -q -json --xyzzy "$(printf -- '--a\nb\033[1m')" --json=a
+  $ for word in -x -json --xyzzy "$(printf -- '--a\nb\033[1m')" --json=a
   > do
   >     geoarrow_check "$word" x 2>&1 | grep .
   > done
-  error: unexpected argument '-q' found
-    tip: to pass '-q' as a value, use '-- -q'
+  error: unexpected argument '-x' found
+    tip: to pass '-x' as a value, use '-- -x'
   Usage: geoarrow_check [OPTIONS] [FILE]...
   For more information, try '--help'.
   error: unexpected argument '-j' found
@@ -879,6 +1169,46 @@ Words that are refused
   error: the argument '--ipc' cannot be used with:
     --lines
     --json
+
+  $ for words in '--format text --lines' '--lines --format json' '--format github --ipc' '--ipc --format=json' '--ipc --lines --format json'
+  > do
+  >     geoarrow_check $words x 2>&1 | sed '/^$/,$d'
+  > done
+  error: the argument '--format <FORMAT>' cannot be used with '--lines'
+  error: the argument '--lines' cannot be used with '--format <FORMAT>'
+  error: the argument '--format <FORMAT>' cannot be used with '--ipc'
+  error: the argument '--ipc' cannot be used with '--format <FORMAT>'
+  error: the argument '--ipc' cannot be used with:
+    --lines
+    --format <FORMAT>
+
+  $ for words in '--json --quiet' '--lines -q' '--problems --ipc' '--json --problems' '-q --format json' '--format=json --problems'
+  > do
+  >     geoarrow_check $words x 2>&1 | sed '/^$/,$d'
+  > done
+  error: the argument '--json' cannot be used with '--quiet'
+  error: the argument '--lines' cannot be used with '--quiet'
+  error: the argument '--problems' cannot be used with '--ipc'
+  error: the argument '--json' cannot be used with '--problems'
+  error: the argument '--format json' cannot be used with '--quiet'
+  error: the argument '--format json' cannot be used with '--problems'
+
+  $ for word in --format=jsn '--format xml' '--format=' '--fromat x'
+  > do
+  >     geoarrow_check $word 2>&1 | sed '/Usage/,$d' | grep .
+  > done
+  error: invalid value 'jsn' for '--format <FORMAT>'
+    [possible values: text, json, github, sarif]
+    tip: a similar value exists: 'json'
+  For more information, try '--help'.
+  error: invalid value 'xml' for '--format <FORMAT>'
+    [possible values: text, json, github, sarif]
+  For more information, try '--help'.
+  error: a value is required for '--format <FORMAT>' but none was supplied
+    [possible values: text, json, github, sarif]
+  For more information, try '--help'.
+  error: unexpected argument '--fromat' found
+    tip: a similar argument exists: '--format'
 
   $ geoarrow_check --line x 2> /dev/null
   [2]
@@ -922,10 +1252,11 @@ Words that are refused
 
 Output that fails
 
-  $ for words in --json --lines --ipc --infer --help
+  $ for words in --json --lines --ipc --infer --help --format=sarif
   > do
   >     geoarrow_check $words ../crates/geoarrow_check/data/stream.arrows > /dev/full
   > done
+  geoarrow_check: No space left on device (os error 28)
   geoarrow_check: No space left on device (os error 28)
   geoarrow_check: No space left on device (os error 28)
   geoarrow_check: No space left on device (os error 28)

@@ -21,7 +21,7 @@ Lines beyond a million are answered: as lines of JSON, and as lines of fields
   $ yes '{"name":"a","nullable":true,"type":"int8"}' | head -n 1000005 > "$TMPDIR/lines"
   > geoarrow_check --json "$TMPDIR/lines" | tail -n 1 | sed 's/"file":"[^"]*",//'
   > geoarrow_check --lines - < "$TMPDIR/lines" | cmp - "$TMPDIR/lines"
-  {"column":"a","index":1000004,"state":"plain","type":"int8"}
+  {"kind":"column","index":1000004,"column":"a","state":"plain","type":"int8"}
 
 Each of 5,000 files is reported
 
@@ -29,4 +29,4 @@ Each of 5,000 files is reported
   > echo '{"name":"a","nullable":true,"type":"int8"}' > 1
   > for number in $(seq 2 5000); do ln 1 "$number"; done
   > seq 5000 > wanted
-  > seq 5000 | xargs -n 5000 geoarrow_check --json | sed 's/^{"column":"a","file":"\([0-9]*\)","index":0,.*/\1/' | cmp - wanted
+  > seq 5000 | xargs -n 5000 geoarrow_check --json | sed 's/^{"kind":"column","file":"\([0-9]*\)","index":0,.*/\1/' | cmp - wanted

@@ -45,9 +45,11 @@ The other program, over files of one name, and names with an equals sign, a blan
 The status of the other program, and what it says
 
   $ "$top/bin/try" check --infer --quiet --expect outline=XY ../examples/schema.jsonl 2>&1 | grep -v ' compiling '
-  > "$top/bin/try" check --quiet --expect outline=XY ../examples/schema.jsonl 2> /dev/null
+  > "$top/bin/try" check --quiet --expect outline=XY ../examples/schema.jsonl > /dev/null 2>&1
   geoarrow_check: this build is not proved, only checked while it runs; bin/geoarrow_check proves and builds the program
-  ../examples/schema.jsonl: column outline is not XY: multipolygon interleaved XYZ, EPSG:4326, spherical
+  ../examples/schema.jsonl: error[WrongStorage] column label, field: found utf8; expected binary, large_binary or binary_view. For WKT use geoarrow.wkt.
+  ../examples/schema.jsonl: error[EmptyUnion] column broken, field: found dense_union<>; expected union whose type ids are among 1 to 7, 11 to 17, 21 to 27 and 31 to 37. The union has no members.
+  ../examples/schema.jsonl: error[Expect]: column outline is not XY: multipolygon interleaved XYZ, EPSG:4326, spherical
   [1]
 
 Words of the four commands for which nothing is built, without `rt`
@@ -103,7 +105,7 @@ Words of the other program for which nothing is built, without `rt`: the first l
   > touch 'a b'
   > for script in bin/geoarrow_check 'bin/try check'
   > do
-  >     for words in --help '--infer a -hq' -V 'a --version --jsno' '' --quiet '--jsno a' '-q a' '--expect --jsno --jsno=b a' 'nowhere a' '--expect=a=b nowhere a/b crates -' '-- --jsno'
+  >     for words in --help '--infer a -hq' -V 'a --version --jsno' '' --quiet '--jsno a' '-x a' '--expect --jsno --jsno=b a' 'nowhere a' '--expect=a=b nowhere a/b crates -' '-- --jsno'
   >     do
   >         $script $words 2>&1 | head -n 3 | grep . || :
   >         $script $words > /dev/null 2>&1
@@ -130,7 +132,7 @@ Words of the other program for which nothing is built, without `rt`: the first l
   error: unexpected argument '--jsno' found
   Usage: geoarrow_check [OPTIONS] [FILE]...
   status 2
-  error: unexpected argument '-q' found
+  error: unexpected argument '-x' found
   Usage: geoarrow_check [OPTIONS] [FILE]...
   status 2
   error: unexpected argument '--jsno=b' found
@@ -168,7 +170,7 @@ Words of the other program for which nothing is built, without `rt`: the first l
   error: unexpected argument '--jsno' found
   Usage: geoarrow_check [OPTIONS] [FILE]...
   status 2
-  error: unexpected argument '-q' found
+  error: unexpected argument '-x' found
   Usage: geoarrow_check [OPTIONS] [FILE]...
   status 2
   error: unexpected argument '--jsno=b' found

@@ -13,13 +13,13 @@ from typing import Any, Iterable, Union
 
 from . import library, sources
 from .c_schema import SchemaError
-from .columns import BadLine, Column, Columns, Finding, columns_of
+from .columns import Column, Columns, Finding, columns_of
 from .library import Command
 from .refusals import InvalidColumns, RefusedSource, moved
 from .schema_lines import Schema, lines
 
 __all__ = [
-    "BadLine", "Column", "Columns", "Finding", "InvalidColumns", "RefusedSource", "Schema", "SchemaError", "canon", "check", "lines", "read", "write_schema"]
+    "Column", "Columns", "Finding", "InvalidColumns", "RefusedSource", "Schema", "SchemaError", "canon", "check", "lines", "read", "write_schema"]
 
 __version__ = "2.0.0"
 
@@ -39,12 +39,12 @@ def check(source: Any, infer: bool = False, strict: bool = False, notes: bool = 
     extension name is taken for what is inferred from its data type. With `strict`, `InvalidColumns` is raised where one is invalid, and `RefusedSource` where a line is bad. With `notes`, what is only
     worth to know is among the findings.
 
-    Of lines, those that are not blank and denote no column are the `bad_lines` of what is answered, and the others are columns. `RefusedSource` is raised only where
+    Of lines, those that are not blank and denote no column are the `bad_lines` of what is answered, each a `Finding`, and the others are columns. `RefusedSource` is raised only where
     the first line that is not blank is `{` or `[` alone, or GeoJSON, and where there is neither a column nor a bad line.
 
     A list without lines and a schema without columns have no columns; a file or bytes that are empty, or blank lines alone, are refused.
 
-    Raises `TypeError` where the source is none of these; `RefusedSource`, a `ValueError` with a code, a message and a place, where the bytes are not read;
+    Raises `TypeError` where the source is none of these; `RefusedSource`, a `ValueError` with the `Finding` that says why, where the bytes are not read;
     `SchemaError`, which is one too, where the schema of the object is wrong; `OSError` for the file; and `MemoryError`.
     """
     given = sources.given_of(source)

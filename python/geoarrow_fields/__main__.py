@@ -1,23 +1,27 @@
 """The command: python -m geoarrow_fields check [--infer] [--notes] [--json] FILE..
 
-Prints what each column of each file holds, as `geoarrow_check` does with these options; the others are that program's alone. Why a file cannot be read is
-said on standard error; with --json the line of one that is refused stands on standard output too. The status is 1 where a column is invalid or a finding,
-of a column or of a file, is an error, and 2 where a file is refused, a line is no column, a file or the words cannot be read, or the output fails. Where nobody reads the output
-any more, the command ends without a word, with the status 141.
+Prints what each column of each file holds, as `geoarrow_check` does with these options; the others
+are that program's alone. Why a file cannot be read, and which of its lines are no columns, is said on
+standard output; with --json it stands there as lines of JSON, and is said on standard error. Behind
+two files and more a line says how many columns and findings there are, but with --json. The status is
+1 where a column is invalid or a finding, of a column or of a file, is an error, and 2 where a file is
+refused, a line is no column, a file or the words cannot be read, or the output fails. Where nobody
+reads the output any more, the command ends without a word, with the status 141.
 """
 import argparse
 import io
+import json
 import os
 import sys
-from typing import Any, List, NoReturn, Optional
+from typing import Any, List, NoReturn, Optional, Union
 
-from . import RefusedSource, check
+from . import Columns, RefusedSource, check
 from .sources import file_name
 from .tables import shown
 
 INVALID, FAILED = 1, 2
 NO_READER = 128 + 13  # what a shell says of a command that the signal SIGPIPE ends
-OF_THE_PROGRAM = ("--allow", "--codes", "--deny", "--expect", "--explain", "--ipc", "--lines", "--quiet", "--require-geometry")
+OF_THE_PROGRAM = ("--allow", "--codes", "--deny", "--expect", "--explain", "--format", "--ipc", "--lines", "--problems", "--quiet", "--require-geometry", "-q")
 
 
 class _OfTheProgram(argparse.Action):
@@ -45,7 +49,10 @@ def main(words: Optional[List[str]] = None) -> int:
         _say("standard output: it is closed")
         return FAILED
     try:
-        status = max(_checked(file, asked) for file in asked.files)
+        tally = Tally()
+        status = max(_checked(file, asked, tally) for file in asked.files)
+        if len(asked.files) > 1 and not asked.json:
+            print(tally)
         sys.stdout.flush()
     except OSError as error:  # of the output: that of a file is said, and the next one is checked
         os.dup2(os.open(os.devnull, os.O_WRONLY), sys.stdout.fileno())  # where Python writes once more, at its end
@@ -62,27 +69,85 @@ def _say(text: str) -> None:
         print(text, file=sys.stderr)
 
 
-def _checked(file: str, asked: argparse.Namespace) -> int:
-    """Prints what the columns of a file hold, or why it cannot be read. The status."""
+class Tally:
+    """How many columns and findings there are in all files, as the line behind the last says it (docs/FORMAT.md, 2.7)."""
+
+    def __init__(self) -> None:
+        self.files = self.unread = self.columns = self.geometries = self.found_in = 0
+        self.severities = {"error": 0, "warning": 0, "note": 0}
+
+    def add(self, columns: Columns) -> None:
+        """Adds a file that is read."""
+        self.files, self.columns = self.files + 1, self.columns + len(columns)
+        self.geometries += sum(one.state in ("geometry", "inferred") for one in columns)
+        found = [*columns.findings, *(each for one in columns for each in one.findings)]
+        bad = sum(1 + one.more for one in columns.bad_lines)
+        self.severities["error"] += bad
+        for one in found:
+            self.severities[one.severity] += 1
+        self.found_in += bool(found or bad)
+
+    def add_unread(self) -> None:
+        """Adds a file that is not read."""
+        self.files, self.unread = self.files + 1, self.unread + 1
+
+    def __str__(self) -> str:
+        unread = f"; {_counted(self.unread, 'file')} not read" if self.unread else ""
+        columns = f"{_counted(self.columns, 'column')}, {self.geometries} of geometries"
+        return f"{_counted(self.files, 'file')}: {columns}; {self._found()}{unread}"
+
+    def _found(self) -> str:
+        """What is found in how many files."""
+        parts = [_counted(count, severity) for severity, count in self.severities.items() if count]
+        if not parts:
+            return "no findings"
+        before = f"{', '.join(parts[:-1])} and " if parts[1:] else ""
+        return f"{before}{parts[-1]} in {_counted(self.found_in, 'file')}"
+
+
+def _counted(count: int, word: str) -> str:
+    """A number of things."""
+    return f"{count} {word}" if count == 1 else f"{count} {word}s"
+
+
+def _checked(file: str, asked: argparse.Namespace, tally: Tally) -> int:
+    """Prints what the columns of a file hold, or why it cannot be read, and counts it. The status."""
     name = shown(file_name(file))
     try:
         columns = check(_input() if file == "-" else file, infer=asked.infer, notes=asked.notes)
     except (OSError, RefusedSource, MemoryError) as error:
-        if asked.json and isinstance(error, RefusedSource):
-            print(error.json)
-        said = "out of memory" if isinstance(error, MemoryError) else getattr(error, "strerror", None) or error
-        _say(f"{name}: {said}")
+        tally.add_unread()
+        refused = error if isinstance(error, RefusedSource) else _refused(file, error)
+        words = f"{name}: {shown(str(refused))}"
+        if asked.json:
+            print(refused.json)
+            _say(words)
+        else:
+            print(words)
         return FAILED
+    tally.add(columns)
+    bad = [f"{name}: {words}" for words in columns.bad_words()]
     if asked.json:
         for one in (*columns, *columns.bad_lines, *columns.findings):
             print(one.json)
+        for words in bad:
+            _say(words)
     else:
-        print(*([f"{name}:"] if len(asked.files) > 1 else []), columns.table(), sep="\n")
-    for words in columns.bad_words():
-        _say(f"{name}: {words}")
+        print(*([f"{name}:"] if len(asked.files) > 1 else []), columns.table(bad), sep="\n")
     if columns.bad_lines:
         return FAILED
     return INVALID if any(one.is_error for one in (*columns, *columns.findings)) else 0
+
+
+def _refused(file: str, error: Union[OSError, MemoryError]) -> RefusedSource:
+    """Why a file is not read that the system does not give, in its words, or for which memory does not suffice (docs/FORMAT.md, 2.8)."""
+    code, found, expected = "OutOfMemory", "out of memory", "more memory"
+    if isinstance(error, OSError):
+        found = f"{error.strerror} (os error {error.errno})" if error.strerror else str(error)
+        code, expected = "CannotRead", "a file that can be read"
+    named = {} if file == "-" else {"file": file_name(file)}
+    said = {"kind": "finding", "severity": "error", "code": code, **named, "found": found, "expected": expected}
+    return RefusedSource(json.dumps(said, ensure_ascii=False, separators=(",", ":")))
 
 
 def _input() -> bytes:

@@ -3,7 +3,7 @@ import collections
 import dataclasses
 import itertools
 import json
-from typing import Any, Dict, Iterator, List, Optional, Tuple
+from typing import Any, Dict, Iterable, Iterator, List, Optional, Tuple
 
 from . import tables
 
@@ -11,9 +11,10 @@ from . import tables
 @dataclasses.dataclass(frozen=True)
 class Finding:
     """What is found in a file or in one of its columns: its severity, `error`, `warning` or `note`, and its code; the place, that is the name of the
-    column, the names of the child fields down from it, the source, as `geo` or `footer`, the JSON pointer into it, and the byte; what stands there, what is
-    expected, and what helps; and how many more there are of its code that are not told one by one. What does not apply is None, or empty, or 0. The
-    `findings` of a column do not name it. `json` is the object of the report (docs/FORMAT.md, 5.1)."""
+    column, or its index where it is not written, the names of the child fields down from it, the source, as `geo` or `footer`, the JSON pointer into it, the byte,
+    the line and the element; what stands there, what is expected, and what helps; and how many more there are of its code that are not told one by one, or of a
+    line that is no column how many more lines are none. What does not apply is None, or empty, or 0. The `findings` of a column do not name it. `json` is the
+    object of the report (docs/FORMAT.md, 5.1)."""
 
     severity: str
     code: str
@@ -26,6 +27,9 @@ class Finding:
     expected: Optional[str] = None
     help: Optional[str] = None
     more: int = 0
+    index: Optional[int] = None
+    line: Optional[int] = None
+    element: Optional[int] = None
     json: str = dataclasses.field(default="", repr=False, compare=False)
 
     @property
@@ -40,38 +44,20 @@ class Finding:
         return f"{self.severity}[{self.code}]{' ' if place else ''}{place}: {found}expected {self.expected}{help}"
 
     def _places(self) -> Iterator[str]:
-        """The parts of the place, in words, and how many more there are."""
+        """The parts of the place, in words, and how many more there are; of a line that is no column they are said behind all of these."""
         if self.column is not None:
             yield f"column {self.column}"
+        elif self.index is not None:
+            yield f"column {self.index}"
         if self.path:
             yield f"at {'.'.join(self.path)}"
         if self.source is not None:
             yield f"{self.source} {self.pointer}" if self.pointer else self.source
-        if self.byte is not None:
-            yield f"byte {self.byte}"
-        if self.more:
+        for word, number in (("byte", self.byte), ("line", self.line), ("element", self.element)):
+            if number is not None:
+                yield f"{word} {number}"
+        if self.more and self.line is None:
             yield f"and {self.more} more"
-
-
-@dataclasses.dataclass(frozen=True)
-class BadLine:
-    """A line that is not blank and denotes no column, in a file of lines that is read (docs/FORMAT.md, 2.7): the `code` says why, and `message` what is
-    wrong; `place` says where, in words, as `line 4, byte 7`, with the numbers `line` and `byte`, both from 1; `found` says what stands there, and `help` what
-    to try. What does not apply is None. The last of those that are told says how many `more` there are. `json` is the line of the library (2.8)."""
-
-    code: str
-    message: str
-    place: str
-    line: int
-    byte: Optional[int] = None
-    found: Optional[str] = None
-    help: Optional[str] = None
-    more: int = 0
-    json: str = dataclasses.field(default="", repr=False, compare=False)
-
-    def __str__(self) -> str:
-        said = ": ".join(part for part in (self.place, self.message, self.found) if part is not None)
-        return said if self.help is None else f"{said}. {self.help}"
 
 
 def _none() -> None:
@@ -92,8 +78,8 @@ class Column(_OfALine):
     """What is said of a column (docs/FORMAT.md, 2.5 and 2.6). `json` is the line of the report, which has the CRS as it is written, without
     blanks; `crs` is that as Python's json reads it. It is None too where the CRS is not known, which `crs_from` tells: the source of the CRS that counts,
     `element`, `geo` or `field`; so do `edges_from` and `type_from` of the edges and of the encoding. `verdicts` has for each of `crs`, `edges` and `encoding` what
-    the other sources say against it: `agree`, `contradict` or `not compared` (docs/FORMAT.md, 5.7). `bbox`, `epoch`, `geometry_types` and `orientation` are what
-    the GeoParquet metadata alone say of it. The line of a column that `check` gives is read when an attribute is first asked for."""
+    the other sources say against it: `agree`, `contradict` or `not compared` (docs/FORMAT.md, 5.7). `bbox`, `epoch` and `orientation` are what
+    the GeoParquet metadata alone say of it, and `geometry_types` those that they say, or else the one that its field says by its kind. The line of a column that `check` gives is read when an attribute is first asked for."""
 
     name: str
     index: int
@@ -148,45 +134,47 @@ _ATTRIBUTES = frozenset(field.name for field in dataclasses.fields(Column) if fi
 
 class Columns(List[Column]):
     """Columns, which are shown as a table: of text, and in a notebook of HTML. `findings` are what is found in the file beside its columns, as in the footer
-    and in the GeoParquet metadata of a Parquet file; they stand behind the table. `bad_lines` are the lines of a file of lines that are no columns, at most a
-    hundred, of which the last says how many more there are; they stand there too."""
+    and in the GeoParquet metadata of a Parquet file; they stand behind the table. `bad_lines` are what is found of the lines of a file of lines that are no
+    columns, at most a hundred, of which the last says how many more there are; they stand there too."""
 
     findings: Tuple[Finding, ...] = ()
-    bad_lines: Tuple[BadLine, ...] = ()
+    bad_lines: Tuple[Finding, ...] = ()
 
-    def table(self) -> str:
-        """The table of text as `geoarrow_check` prints it: without the bad lines, which that program says on standard error."""
-        return tables.text(map(_row, self), map(str, self.findings))
+    def table(self, said: Iterable[str] = ()) -> str:
+        """The table of text as `geoarrow_check` prints it, and behind it lines of what else is said, as of bad lines, before the findings of the file."""
+        return tables.text(map(_row, self), [*said, *map(str, self.findings)])
 
     def bad_words(self) -> Iterator[str]:
         """Why lines are bad, in words, and behind these how many more there are."""
         for one in self.bad_lines:
             yield str(one)
             if one.more:
-                yield "1 more line is no column" if one.more == 1 else f"{one.more} more lines are no columns"
+                words = "1 more line is no column" if one.more == 1 else f"{one.more} more lines are no columns"
+                yield f"{one.severity}[{one.code}]: {words}"
 
     def __repr__(self) -> str:
-        return tables.text(map(_row, self), [*self.bad_words(), *map(str, self.findings)])
+        return self.table(self.bad_words())
 
     def _repr_html_(self) -> str:
         return tables.html(map(_row, self), [*self.bad_words(), *map(str, self.findings)])
 
 
 _json = json.JSONDecoder().raw_decode
+_COLUMN = '{"kind":"column",'
 
 
 def columns_of(report: str) -> Columns:
-    """The columns of a report, of which each line is one, and is not read yet; behind them stand the bad lines and the findings."""
+    """The columns of a report, of which each line is one, and is not read yet; behind them stand the findings, first those of bad lines."""
     lines = report.split("\n")
     lines.pop()  # behind the last line feed
     behind: List[str] = []
-    while lines and not lines[-1].startswith('{"column":'):
+    while lines and not lines[-1].startswith(_COLUMN):
         behind.append(lines.pop())
-    behind.reverse()
     columns = Columns(map(object.__new__, itertools.repeat(Column, len(lines))))
     collections.deque(map(_put_line, columns, lines), maxlen=0)  # (a loop, without a step of Python for each)
-    columns.bad_lines = tuple(_bad_line(line) for line in behind if not line.startswith(_FINDING))
-    columns.findings = tuple(_finding(line) for line in behind if line.startswith(_FINDING))
+    found = [finding_of(line) for line in reversed(behind)]
+    columns.bad_lines = tuple(one for one in found if one.line is not None)
+    columns.findings = tuple(one for one in found if one.line is None)
     return columns
 
 
@@ -201,17 +189,7 @@ def _attributes(line: str) -> Dict[str, Any]:
         "geometry_types": tuple(known("geometry_types", ())), "orientation": known("orientation"), "findings": tuple(_findings(line)) if "findings" in said else ()}
 
 
-_FINDING = '{"severity":'
-
-
-def _bad_line(line: str) -> BadLine:
-    """The bad line of a line."""
-    said = _json(line)[0]
-    known = said.get
-    return BadLine(said["error"], said["message"], said["place"], said["line"], known("byte"), known("found"), known("help"), known("more", 0), line)
-
-
-def _finding(line: str) -> Finding:
+def finding_of(line: str) -> Finding:
     """The finding of a line."""
     return _finding_of(_json(line)[0], line)
 
@@ -233,7 +211,7 @@ def _finding_of(said: Dict[str, Any], text: str) -> Finding:
     known = said.get
     return Finding(
         said["severity"], said["code"], known("column"), tuple(known("path", ())), known("in"), known("pointer"), known("byte"), known("found"),
-        known("expected"), known("help"), known("more", 0), text)
+        known("expected"), known("help"), known("more", 0), known("index"), known("line"), known("element"), text)
 
 
 def _row(column: Column) -> tables.Row:

@@ -2,45 +2,42 @@
 import json
 from typing import Any, List, Optional, Tuple
 
-from .columns import Column
+from .columns import Column, finding_of
 
 
 class RefusedSource(ValueError):
-    """A source that is not read, or a schema that is not written, as the line of the library says it (docs/FORMAT.md, 2.8): `json`.
+    """A source that is not read, or a schema that is not written: a `finding`, as the line of the library says it (docs/FORMAT.md, 2.8), which is `json`.
 
-    `code` says why, and `message` what is wrong. `place` says where, in words, as `byte 4 of the footer`; it is None where the source is at fault as a
-    whole. Of its numbers, `line`, `byte`, `element` and `column`, those that it does not have are None. `found` says what stands there, as
-    `a zip archive`, and `help` what to try; each is None where nothing is said. `file` is the name of the file, where the source is a path.
+    `code` says why, as `Truncated`; `found` says what stands there, `expected` what is expected, and `help` what to try, or is None. `source` is the part of the
+    file, as `footer`, and its numbers are `byte`, `line`, `element` and `index`, that of a column; those that the place does not have are None, all of them where
+    the source is at fault as a whole. `file` is the name of the file, where the source is a path.
     """
 
     def __init__(self, line: str) -> None:
         super().__init__(line)
-        said = json.loads(line)
         self.json = line
-        self.code: str = said["error"]
-        self.message: str = said["message"]
-        self.place: Optional[str] = said.get("place")
-        self.line: Optional[int] = said.get("line")
-        self.byte: Optional[int] = said.get("byte")
-        self.element: Optional[int] = said.get("element")
-        self.column: Optional[int] = said.get("column")
-        self.found: Optional[str] = said.get("found")
-        self.help: Optional[str] = said.get("help")
-        self.file: Optional[str] = said.get("file")
+        self.file: Optional[str] = json.loads(line).get("file")
+        self.finding = finding_of(line)
+        self.code = self.finding.code
+        self.index = self.finding.index
+        self.source = self.finding.source
+        self.byte = self.finding.byte
+        self.line = self.finding.line
+        self.element = self.finding.element
+        self.found = self.finding.found
+        self.expected = self.finding.expected
+        self.help = self.finding.help
 
     def __str__(self) -> str:
-        said = ": ".join(part for part in (self.place, self.message, self.found) if part is not None)
-        return said if self.help is None else f"{said}. {self.help}"
+        return str(self.finding)
 
 
 def moved(line: str, bytes_before: int) -> str:
-    """The line of a refused source, of which so many bytes were left out before those that the library was told of: its byte, the number and the one in
-    the words of its place, is counted with these."""
+    """The line of a refused source, of which so many bytes were left out before those that the library was told of: its byte is counted with these."""
     said = json.loads(line)
     if not bytes_before or "byte" not in said:
         return line
-    counted = said["byte"] + bytes_before
-    said.update(byte=counted, place=said["place"].replace(str(said["byte"]), str(counted)))
+    said["byte"] += bytes_before
     return json.dumps(said, ensure_ascii=False, separators=(",", ":"))
 
 

@@ -12,7 +12,7 @@ import geoarrow_fields
 from geoarrow_fields import RefusedSource, check, library, read, write_schema
 
 SIZES = (0, 1, 4095, 4096, 4097, 65535, 65536, 65537, (1 << 20) - 1, 1 << 20, (1 << 20) + 1, 5_000_000)
-KEYS = ("code", "file", "message", "place", "line", "byte", "element", "column")
+KEYS = ("code", "file", "index", "source", "byte", "line", "element", "found", "expected", "help")
 
 
 def said_of(error):
@@ -116,15 +116,16 @@ class Cases(unittest.TestCase):
         self.assertEqual(self.refused(check, os.fsdecode(path)).file, f"{self.path}\ufffd\ufffd")
 
     def test_what_is_refused(self):
-        x = {"code": "Code", "message": "x"}
-        for words, wanted in (
-                ("r1", x), ("r1l7", {**x, "line": 7}), ("r1l7b30", {**x, "line": 7, "byte": 30, "place": "byte 30"}), ("r1e0", {**x, "element": 0}),
-                ("r1c2", {**x, "column": 2}), ("r1b0", {**x, "byte": 0, "place": "byte 0"}), ("r3", {**x, "message": "xxx"}),
-                ("r200000", {**x, "message": "x" * 200_000}), ("r3000000b4", {**x, "message": "x" * 3_000_000, "byte": 4, "place": "byte 4"})):
+        x = {"code": "Code", "found": "x", "expected": "y"}
+        for words, wanted, place in (
+                ("r1", x, ""), ("r1l7", {**x, "line": 7}, " line 7"), ("r1l7b30", {**x, "line": 7, "byte": 30}, " byte 30, line 7"),
+                ("r1e0", {**x, "element": 0}, " element 0"), ("r1i2", {**x, "index": 2}, " column 2"), ("r1b0", {**x, "byte": 0}, " byte 0"),
+                ("r3", {**x, "found": "xxx"}, ""), ("r200000", {**x, "found": "x" * 200_000}, ""),
+                ("r3000000b4", {**x, "found": "x" * 3_000_000, "byte": 4}, " byte 4")):
             for call, given in ((check, words.encode()), (check, [words]), (check, io.BytesIO(words.encode())), (write_schema, [words])):
                 error = self.refused(call, given)
                 self.assertEqual(said_of(error), wanted)
-                self.assertEqual(str(error), f"byte {wanted['byte']}: {wanted['message']}" if "byte" in wanted else wanted["message"])
+                self.assertEqual(str(error), f"error[Code]{place}: found {wanted['found']}; expected y")
                 self.assertEqual((error.json[:1], error.json[-1:]), ("{", "}"))  # (without a line feed)
             self.assertEqual(said_of(self.refused(check, self.file(words.encode()))), {**wanted, "file": str(self.path)})
 
@@ -145,11 +146,12 @@ class Cases(unittest.TestCase):
                 first = int(words.partition(b"b")[2])
                 for source, byte in ((self.file(whole), first + left_out), (io.BytesIO(whole), first + left_out), (whole, first)):
                     error = self.refused(check, source)
-                    self.assertEqual((error.byte, error.place, str(error)), (byte, f"byte {byte}", f"byte {byte}: {error.message}"))
+                    self.assertEqual((error.byte, str(error)), (byte, f"error[Code] byte {byte}: found {error.found}; expected y"))
                     named = f'"file":"{self.path}",' if source is self.path else ""
-                    self.assertEqual(error.json, f'{{"byte":{byte},"error":"Code",{named}"message":"{error.message}","place":"byte {byte}"}}')
+                    wanted = f'{{"kind":"finding","severity":"error","code":"Code",{named}"byte":{byte},"found":"{error.found}","expected":"y"}}'
+                    self.assertEqual(error.json, wanted)
         error = self.refused(check, self.file(arrow_file(b"r1l3", 1000)))  # of which no byte is named
-        self.assertEqual(said_of(error), {"code": "Code", "message": "x", "line": 3, "file": str(self.path)})
+        self.assertEqual(said_of(error), {"code": "Code", "found": "x", "expected": "y", "line": 3, "file": str(self.path)})
 
     def test_the_byte_of_another_file(self):
         """Of a Parquet file the end is given too, but its bytes are counted in the footer; a stream's in its first message, which is given as a whole."""
@@ -158,4 +160,4 @@ class Cases(unittest.TestCase):
                 b"\xff\xff\xff\xff" + (8).to_bytes(4, "little") + b"r1b12   " + bytes(1000), b"r1b12" + bytes(1000)):
             for source in (whole, self.file(whole), io.BytesIO(whole)):
                 error = self.refused(check, source)
-                self.assertEqual((error.byte, error.place), (12, "byte 12"))
+                self.assertEqual(error.byte, 12)

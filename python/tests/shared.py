@@ -23,6 +23,11 @@ BROKEN_FOUND = (
     "error[UnknownEdges] extension metadata /edges: found 1; expected andoyer, karney, spherical, thomas or vincenty. Leave it out where edges are planar.")
 # What is noted of CRS, in words (docs/FORMAT.md, 2.6).
 NOT_WHOLE = "note[CrsNotWhole] extension metadata /crs/scope: found 1.50; expected whole numbers. For this alone read and canon of geoarrow_fields refuse the field; other readers do not."
+# Why sources are refused, and a line is none, in words (docs/FORMAT.md, 2.8).
+READ = "an Arrow file, an Arrow stream, a Parquet file or lines of fields"
+IS_EMPTY = f"error[EmptyFile]: found no bytes, or blanks alone; expected {READ}. The writing or the copy broke off before its first byte"
+IS_TEXT = f"error[ForeignFormat]: found text; expected {READ}. Lines have one JSON object each"
+NO_NAME = 'error[BadLine] line 1: found no string at "name"; expected a string at "name"'
 NO_GEO_METADATA = Finding("warning", "NoGeoMetadata", source="geo", pointer="", expected="metadata of GeoParquet at the key geo")
 # What is found in geo.parquet, in words (docs/FORMAT.md, 5.1).
 TYPES = "Point, LineString, Polygon, MultiPoint, MultiLineString, MultiPolygon or GeometryCollection"
@@ -36,12 +41,13 @@ FOUND = [
     "Readers of GeoParquet do not see the column."]
 
 
-def said_of(finding):
-    """The object of a finding, made of what it says: its keys in their order, those that are absent left out (docs/FORMAT.md, 5.1)."""
+def said_of(finding, is_line=False):
+    """The object of a finding, made of what it says: its keys in their order, those that are absent left out (docs/FORMAT.md, 5.1). One that is a line has its
+    kind."""
     members = {
-        "severity": finding.severity, "code": finding.code, "column": finding.column, "path": list(finding.path) or None, "in": finding.source,
-        "pointer": finding.pointer, "byte": finding.byte, "found": finding.found, "expected": finding.expected, "help": finding.help,
-        "more": finding.more or None}
+        "kind": "finding" if is_line else None, "severity": finding.severity, "code": finding.code, "index": finding.index, "column": finding.column,
+        "path": list(finding.path) or None, "in": finding.source, "pointer": finding.pointer, "byte": finding.byte, "line": finding.line,
+        "element": finding.element, "found": finding.found, "expected": finding.expected, "help": finding.help, "more": finding.more or None}
     return json.dumps({key: value for key, value in members.items() if value is not None}, ensure_ascii=False, separators=(",", ":"))
 
 

@@ -1,8 +1,8 @@
 /* A stand-in for the library of C: what its calls answer is said by their bytes. Each word of them is a letter and a number:
  *   n   so many bytes are written, if there is room; otherwise SHORT
  *   s   this status is answered, and nothing is written
- *   r   the bytes are refused: the line that says why, whose message has so many bytes, is written, if there is room; otherwise SHORT
- *   b, c, e, l   the byte, the column, the element or the line that stands there; with a byte the place that is it
+ *   r   the bytes are refused: the line that says why, in which so many bytes are found, is written, if there is room; otherwise SHORT
+ *   i, b, l, e   the index of the column, the byte, the line or the element that stands there
  *   o   the options (or the command) are written, as one digit
  *   f   the name of the file is written
  * The line says the file too, where the call gives a name. All the room that a call is told of is written to, as a call may. */
@@ -53,21 +53,20 @@ static char *number(char *at, const words *said, char word, const char *key) {
 
 /* The line that says why the bytes are refused, with its line feed: its keys stand in order. */
 static uint8_t refused(const words *said, const uint8_t *name, size_t name_len, uint8_t *out, size_t out_len, size_t *len) {
-    size_t message_len = said->number['r'];
-    char *line = malloc(message_len + name_len + 400), *at = line;
+    size_t found_len = said->number['r'];
+    char *line = malloc(found_len + name_len + 400), *at = line;
     uint8_t status;
     if (!line) return GEOARROW_MEMORY;
-    *at++ = '{';
-    at = number(at, said, 'b', "byte");
-    at = number(at, said, 'c', "column");
-    at = number(at, said, 'e', "element");
-    at += sprintf(at, "\"error\":\"Code\",");
+    at += sprintf(at, "{\"kind\":\"finding\",\"severity\":\"error\",\"code\":\"Code\",");
     if (name_len) at += sprintf(at, "\"file\":\"%.*s\",", (int)name_len, (const char *)name);
+    at = number(at, said, 'i', "index");
+    at = number(at, said, 'b', "byte");
     at = number(at, said, 'l', "line");
-    at += sprintf(at, "\"message\":\"");
-    memset(at, 'x', message_len);
-    at += message_len;
-    at += said->is_there['b'] ? sprintf(at, "\",\"place\":\"byte %zu\"}\n", said->number['b']) : sprintf(at, "\"}\n");
+    at = number(at, said, 'e', "element");
+    at += sprintf(at, "\"found\":\"");
+    memset(at, 'x', found_len);
+    at += found_len;
+    at += sprintf(at, "\",\"expected\":\"y\"}\n");
     status = filled(line, (size_t)(at - line), GEOARROW_REFUSED, out, out_len, len);
     free(line);
     return status;

@@ -46,7 +46,8 @@ class Checks(unittest.TestCase):
     def test_sources(self):
         nullable = Finding("warning", "NullableInner", path=("xy",), source="field", found="nullable", expected="not null")
         wanted = [
-            Column("t", 0, "plain", "utf8"), Column("p", 1, "geometry", "point interleaved XY", "geoarrow.point", "planar", findings=(nullable,), type_from="field")]
+            Column("t", 0, "plain", "utf8"), Column("p", 1, "geometry", "point interleaved XY", "geoarrow.point", "planar", findings=(nullable,), type_from="field",
+            geometry_types=("Point",))]
         text = f"{TEXT}\n{POINT}\n"
         stream = write_schema([TEXT, POINT])
         given = text.encode()
@@ -112,8 +113,8 @@ class Checks(unittest.TestCase):
         self.assertEqual((column.crs_type, column.edges), ("projjson", "spherical"))
         self.assertEqual((column.crs_from, column.edges_from, column.type_from, column.verdicts), ("field", "field", "field", {}))
         line = (  # (with a value of its own at each key)
-            '{"column":"a","bbox":[1,2.5],"crs":"b","crs_from":"element","crs_type":"c","edges":"d","edges_from":"geo","epoch":3.5,"extension":"e","geometry_types":["g","h"],"index":1,'
-            '"orientation":"i","state":"geometry","type":"f","type_from":"field","verdicts":{"crs":{"geo":"agree"}}}\n')
+            '{"kind":"column","index":1,"column":"a","state":"geometry","type":"f","type_from":"field","extension":"e","crs":"b","crs_type":"c","crs_from":"element",'
+            '"edges":"d","edges_from":"geo","epoch":3.5,"orientation":"i","geometry_types":["g","h"],"bbox":[1,2.5],"verdicts":{"crs":{"geo":"agree"}}}\n')
         self.assertEqual(list(columns_of(line)), [Column(
             name="a", index=1, state="geometry", type="f", extension="e", edges="d", crs_type="c", crs="b", crs_from="element", edges_from="geo",
             type_from="field", verdicts={"crs": {"geo": "agree"}}, bbox=(1, 2.5), epoch=3.5, geometry_types=("g", "h"), orientation="i")])
@@ -143,7 +144,7 @@ class Checks(unittest.TestCase):
             help="GeoParquet takes columns at the root alone.")
         self.assertEqual(column.findings, (nested,) * 15 + (dataclasses.replace(nested, more=4),))
         self.assertEqual((column.is_invalid, column.is_error), (False, False))
-        self.assertIn(',"more":4}],"index":', column.json)
+        self.assertTrue(column.json.endswith(',"more":4}]}'))
 
     def test_a_column_with_an_error(self):
         given = [CANON.replace('"type":"float64"', '"type":"int64"')]
@@ -194,8 +195,8 @@ class Checks(unittest.TestCase):
                 self.assertEqual(" & ".join(one.json for one in (*columns, *columns.findings)), wanted)
                 noted |= {one.code for one in columns.findings if one.severity == "note"}
                 self.assertFalse([one for one in check(file).findings if one.severity == "note"])
-                for one in (*columns.findings, *(found for column in columns for found in column.findings)):
-                    self.assertEqual(said_of(one), one.json)
+                for is_line, found in ((True, columns.findings), (False, [one for column in columns for one in column.findings])):
+                    self.assertEqual([said_of(one, is_line) for one in found], [one.json for one in found])
         self.assertIn("CrsNotCompared", noted)
 
     def test_a_file_of_parquet_without_metadata_of_geoparquet(self):

@@ -14,10 +14,15 @@ from geoarrow_fields import check
 from geoarrow_fields.__main__ import OF_THE_PROGRAM, main
 from geoarrow_fields.columns import columns_of
 
-from .shared import BROKEN, CRS, DATA, NOT_WHOLE, TEXT, TOP, printed
+from .shared import BROKEN, CANON, CRS, DATA, IS_EMPTY, NO_NAME, NOT_WHOLE, READ, TEXT, TOP, printed
 
 PROGRAM = TOP / "crates/geoarrow_check/out/geoarrow_check"
-NO_NAME = 'line 1: is JSON, but no field: "name" is no text'  # of a line `{}`
+NO_FILE = "No such file or directory (os error 2)"
+
+
+def unread(words):
+    """What is said of a file that the system does not give (docs/FORMAT.md, 2.8)."""
+    return f"error[CannotRead]: found {words}; expected a file that can be read"
 
 
 class Command(unittest.TestCase):
@@ -28,10 +33,14 @@ class Command(unittest.TestCase):
             pathlib.Path(bad).write_text(f"{BROKEN}\n")
             pathlib.Path(none).write_text("{}\n")
             self.assertEqual(printed(["check", good]), ("column  holds  CRS  edges\nt       utf8\n", "", 0))
-            self.assertEqual(printed(["check", good, bad])[2], 1)
-            self.assertEqual(printed(["check", none, bad])[1:], (f"{none}: {NO_NAME}\n", 2))
-            for options in ([], ["--json"]):
-                self.assertEqual(printed(["check", *options, folder + "/no"]), ("", f"{folder}/no: No such file or directory\n", 2))
+            self.assertEqual(printed(["check", good, bad])[1:], ("", 1))
+            out, err, status = printed(["check", none, bad])
+            self.assertEqual((out.split(f"{bad}:\n")[0], err, status), (f"{none}:\ncolumn  holds  CRS  edges\n{none}: {NO_NAME}\n", "", 2))
+            self.assertEqual(printed(["check", "--json", none])[1:], (f"{none}: {NO_NAME}\n", 2))
+            line = '{"kind":"finding","severity":"error","code":"CannotRead","file":"%s/no","found":"%s","expected":"a file that can be read"}\n' % (folder, NO_FILE)
+            words = f"{folder}/no: {unread(NO_FILE)}\n"
+            self.assertEqual(printed(["check", folder + "/no"]), (words, "", 2))
+            self.assertEqual(printed(["check", "--json", folder + "/no"]), (line, words, 2))
 
     def test_the_lines_that_the_program_is_to_print(self):
         words = (DATA.parent / "args").read_text().split()
@@ -44,16 +53,46 @@ class Command(unittest.TestCase):
             empty, blank, good = (str(pathlib.Path(folder, name)) for name in ("empty", "blank", "good"))
             for path, text in ((empty, ""), (blank, "\n \t\r\n"), (good, f"{TEXT}\n\n")):
                 pathlib.Path(path).write_bytes(text.encode())
-            line = '{"error":"EmptyFile"%s,"message":"is empty"}\n'
+            line = (
+                '{"kind":"finding","severity":"error","code":"EmptyFile"%s,"found":"no bytes, or blanks alone","expected":"' + READ
+                + '","help":"The writing or the copy broke off before its first byte"}\n')
             refused = "".join(line % f',"file":"{path}"' for path in (empty, blank))
-            for options, before in (([], ""), (["--json"], refused), (["--infer", "--notes"], "")):
-                out, err, status = printed(["check", *options, empty, blank, good])
-                self.assertEqual((err, status), (f"{empty}: is empty\n{blank}: is empty\n", 2))
-                self.assertEqual((out[:len(before)], out[len(before):].count("\n")), (before, 1 if before else 3))
-        for options, out in (([], ""), (["--json"], line % "")):
+            words = f"{empty}: {IS_EMPTY}\n{blank}: {IS_EMPTY}\n"
+            plain, inferred = "column  holds  CRS  edges\nt       utf8\n", "column  holds              CRS  edges\nt       taken for wkt - -       planar\n"
+            for options, table, geometries in (([], plain, 0), (["--infer", "--notes"], inferred, 1)):
+                behind = f"3 files: 1 column, {geometries} of geometries; no findings; 2 files not read\n"
+                self.assertEqual(printed(["check", *options, empty, blank, good]), (f"{words}{good}:\n{table}{behind}", "", 2))
+            out, err, status = printed(["check", "--json", empty, blank, good])
+            self.assertEqual((out[:len(refused)], out[len(refused):].count("\n"), err, status), (refused, 1, words, 2))
+        words = f"-: {IS_EMPTY}\n"
+        for options, out, err in (([], words, ""), (["--json"], line % "", words)):
             for text in (b"", b"\n"):
                 found = self.run_in_data(sys.executable, "-m", "geoarrow_fields", "check", *options, "-", given=text)
-                self.assertEqual((found.stdout.decode(), found.stderr, found.returncode), (out, b"-: is empty\n", 2))
+                self.assertEqual((found.stdout.decode(), found.stderr.decode(), found.returncode), (out, err, 2))
+
+    def test_the_line_behind_several_files(self):
+        with tempfile.TemporaryDirectory() as folder:
+            more, bad, schema = str(pathlib.Path(folder, "more")), str(pathlib.Path(folder, "bad")), str(TOP / "examples/schema.jsonl")
+            pathlib.Path(more).write_text(f"{TEXT}\n".replace("utf8", "null") * 32 + f"{CANON}\n" * 2)
+            pathlib.Path(bad).write_text(f"{CANON}\n" + "1\n" * 103)
+            noted, stored = str(pathlib.Path(folder, "noted")), str(DATA / "stored.parquet")
+            pathlib.Path(noted).write_text(f"{CRS}\n")
+            nowhere = f"{folder}/nowhere"
+            for words, line in (  # (the first is that of docs/FORMAT.md, 2.7)
+                    ([schema, more, nowhere], "3 files: 41 columns, 5 of geometries; 2 errors and 1 warning in 1 file; 1 file not read"),
+                    (["--infer", schema, more, nowhere, nowhere], "4 files: 41 columns, 6 of geometries; 2 errors and 1 warning in 1 file; 2 files not read"),
+                    ([more, more], "2 files: 68 columns, 4 of geometries; no findings"),
+                    ([bad, more], "2 files: 35 columns, 3 of geometries; 103 errors in 1 file"),
+                    ([noted, stored], "2 files: 2 columns, 2 of geometries; 1 warning in 1 file"),
+                    (["--notes", noted, stored], "2 files: 2 columns, 2 of geometries; 1 warning and 1 note in 2 files"),
+                    (["--notes", noted, stored, schema], "3 files: 9 columns, 5 of geometries; 2 errors, 2 warnings and 1 note in 3 files"),
+                    ([nowhere, nowhere], "2 files: 0 columns, 0 of geometries; no findings; 2 files not read")):
+                with self.subTest(words=words):
+                    self.assertEqual(printed(["check", *words])[0].split("\n")[-2:], [line, ""])
+                    self.assertNotIn(" files: ", printed(["check", "--json", *words])[0])
+            out = printed(["check", bad])[0]
+            self.assertEqual(out.split("\n")[-2:], [f"{bad}: error[BadLine]: 3 more lines are no columns", ""])
+            self.assertNotIn(" file", out)
 
     def test_notes(self):
         with tempfile.TemporaryDirectory() as folder:
@@ -69,12 +108,14 @@ class Command(unittest.TestCase):
                 pathlib.Path(name).write_text(f"{TEXT}\n")
             shown = [f"{folder}/a?[2J?b", f"{folder}/c??d"]
             table = "column  holds  CRS  edges\nt       utf8\n"
-            self.assertEqual(printed(["check", *names]), ("".join(f"{name}:\n{table}" for name in shown), "", 0))
+            behind = "2 files: 2 columns, 0 of geometries; no findings\n"
+            self.assertEqual(printed(["check", *names]), ("".join(f"{name}:\n{table}" for name in shown) + behind, "", 0))
             for name in names:
                 pathlib.Path(name).write_text("{}\n")
             head = "column  holds  CRS  edges\n"
-            self.assertEqual(printed(["check", *names]), ("".join(f"{name}:\n{head}" for name in shown), "".join(f"{name}: {NO_NAME}\n" for name in shown), 2))
-            self.assertEqual(printed(["check", names[0] + "\t"]), ("", f"{shown[0]}?: No such file or directory\n", 2))
+            behind = "2 files: 0 columns, 0 of geometries; 2 errors in 2 files\n"
+            self.assertEqual(printed(["check", *names]), ("".join(f"{name}:\n{head}{name}: {NO_NAME}\n" for name in shown) + behind, "", 2))
+            self.assertEqual(printed(["check", names[0] + "\t"]), (f"{shown[0]}?: {unread(NO_FILE)}\n", "", 2))
 
     def test_an_output_that_nobody_reads(self):
         with tempfile.TemporaryDirectory() as folder:
@@ -89,10 +130,10 @@ class Command(unittest.TestCase):
         command = f'"{sys.executable}" -m geoarrow_fields check "{TOP}/examples/schema.jsonl"'
         found = self.run_in_data("sh", "-c", command + " >&-")
         self.assertEqual((found.stderr, found.returncode), (b"standard output: it is closed\n", 2))
-        found = self.run_in_data("sh", "-c", command + ' nowhere 2>&-')
-        self.assertEqual((b"nowhere" in found.stdout, found.returncode), (False, 2))
+        found = self.run_in_data("sh", "-c", command + ' --json nowhere 2>&-')
+        self.assertEqual((b"nowhere: " in found.stdout, found.returncode), (False, 2))
         found = self.run_in_data("sh", "-c", f'"{sys.executable}" -m geoarrow_fields check - <&-')
-        self.assertEqual((found.stderr, found.returncode), (b"-: it is closed\n", 2))
+        self.assertEqual((found.stdout.decode(), found.stderr, found.returncode), (f"-: {unread('it is closed')}\n", b"", 2))
 
     def test_an_output_in_another_encoding(self):
         with tempfile.TemporaryDirectory() as folder:
@@ -109,7 +150,10 @@ class Command(unittest.TestCase):
 
     def test_out_of_memory(self):
         with mock.patch("geoarrow_fields.__main__.check", side_effect=MemoryError):
-            self.assertEqual(printed(["check", "a"]), ("", "a: out of memory\n", 2))
+            words = "a: error[OutOfMemory]: found out of memory; expected more memory\n"
+            line = '{"kind":"finding","severity":"error","code":"OutOfMemory","file":"a","found":"out of memory","expected":"more memory"}\n'
+            self.assertEqual(printed(["check", "a"]), (words, "", 2))
+            self.assertEqual(printed(["check", "--json", "a"]), (line, words, 2))
 
     def test_options_of_the_program_alone(self):
         for word in OF_THE_PROGRAM:
@@ -127,7 +171,7 @@ class Command(unittest.TestCase):
                 with self.subTest(words=words, options=options):
                     ours = self.run_in_data(sys.executable, "-m", "geoarrow_fields", "check", *options, *words)
                     wanted = self.run_in_data(str(PROGRAM), *options, *words)
-                    self.assertEqual((ours.stdout.decode(), ours.returncode), (wanted.stdout.decode(), wanted.returncode))
+                    self.assertEqual((ours.stdout.decode(), ours.stderr, ours.returncode), (wanted.stdout.decode(), wanted.stderr, wanted.returncode))
 
     @unittest.skipUnless(PROGRAM.is_file(), "the program is not built")
     def test_standard_input_and_files_that_are_cut(self):
@@ -159,17 +203,20 @@ class Command(unittest.TestCase):
 
 class Printed(unittest.TestCase):
     def test_lines_of_json_are_those_of_the_report(self):
-        column = '{"column":"g","index":0,"state":"plain","type":"binary"}'
-        error = '{"severity":"error","code":"GeoBbox","column":"g","in":"geo","pointer":"/columns/g/bbox","expected":"m"}'
-        warning = '{"severity":"warning","code":"NoGeoMetadata","expected":"w"}'
-        doubtful, wrong = (column.replace("}", ',"findings":[%s]}' % one) for one in (warning, error))
-        for report, status in (
-                (f"{column}\n{column}\n{warning}\n", 0), (f"{column}\n{error}\n{error}\n{warning}\n", 1), (f"{doubtful}\n{warning}\n", 0),
-                (f"{doubtful}\n{wrong}\n{column}\n{warning}\n", 1)):
+        column = '{"kind":"column","index":0,"column":"g","state":"plain","type":"binary"}'
+        error = '{"kind":"finding","severity":"error","code":"GeoBbox","column":"g","in":"geo","pointer":"/columns/g/bbox","expected":"m"}'
+        warning = '{"kind":"finding","severity":"warning","code":"NoGeoMetadata","expected":"w"}'
+        doubtful, wrong = (column.replace("}", ',"findings":[%s]}' % one.replace('"kind":"finding",', "")) for one in (warning, error))
+        for report, status, counted in (
+                (f"{column}\n{column}\n{warning}\n", 0, "4 columns, 0 of geometries; 2 warnings"),
+                (f"{column}\n{error}\n{error}\n{warning}\n", 1, "2 columns, 0 of geometries; 4 errors and 2 warnings"),
+                (f"{doubtful}\n{warning}\n", 0, "2 columns, 0 of geometries; 4 warnings"),
+                (f"{doubtful}\n{wrong}\n{column}\n{warning}\n", 1, "6 columns, 0 of geometries; 2 errors and 4 warnings")):
             with mock.patch("geoarrow_fields.__main__.check", lambda *given, **more: columns_of(report)):
                 self.assertEqual(printed(["check", "--json", "a"]), (report, "", status))
                 self.assertEqual(printed(["check", "--json", "a", "b"]), (report * 2, "", status))
-                self.assertEqual(printed(["check", "a", "b"])[0].split("\n")[-2], "warning[NoGeoMetadata]: expected w")
+                behind = ["warning[NoGeoMetadata]: expected w", f"2 files: {counted} in 2 files", ""]
+                self.assertEqual(printed(["check", "a", "b"])[0].split("\n")[-3:], behind)
 
     def test_lines_of_json_name_the_file(self):
         for name in ("stream.arrows", "geo.parquet", "columns.jsonl"):

@@ -16,12 +16,19 @@ WHOLE = (
     '"help":"ten.","more":11}')
 SAID = Finding("warning", "One", "two", ("three", "fo.ur"), "five", "/six", 7, "eight", "nine", "ten.", 11)
 LEAST = '{"severity":"note","code":"One","expected":"two"}'
-COLUMN = '{"column":"t","index":0,"state":"plain","type":"utf8"%s}'
+COLUMN = '{"kind":"column","index":0,"column":"t","state":"plain","type":"utf8"%s}'
+# What no finding of `WHOLE` has: a column by its index, a line and an element.
+REFUSED = '{"kind":"finding","severity":"error","code":"One","index":2,"in":"three","byte":4,"line":5,"element":6,"found":"seven","expected":"eight"}'
+
+
+def line_of(said):
+    """The line of a finding of a file, whose object this is: it begins with its kind."""
+    return said.replace("{", '{"kind":"finding",', 1)
 
 
 def of_file(*objects):
-    """The findings of a report of these lines."""
-    return columns_of("".join(f"{one}\n" for one in objects)).findings
+    """The findings of a report of the lines of these objects."""
+    return columns_of("".join(f"{line_of(one)}\n" for one in objects)).findings
 
 
 def of_column(*objects, **more):
@@ -48,17 +55,37 @@ def cases():
 
 class Findings(unittest.TestCase):
     def test_each_key_is_what_it_says(self):
-        for (one,) in (of_file(WHOLE), of_column(WHOLE).findings):
-            self.assertEqual((one, one.json), (SAID, WHOLE))
-            self.assertEqual(said_of(one), WHOLE)
+        for (one,), line in ((of_file(WHOLE), line_of(WHOLE)), (of_column(WHOLE).findings, WHOLE)):
+            self.assertEqual((one, one.json), (SAID, line))
+            self.assertEqual(said_of(one, line != WHOLE), line)
         self.assertEqual([field.name for field in dataclasses.fields(Finding)], [
-            "severity", "code", "column", "path", "source", "pointer", "byte", "found", "expected", "help", "more", "json"])
+            "severity", "code", "column", "path", "source", "pointer", "byte", "found", "expected", "help", "more", "index", "line", "element", "json"])
+
+    def test_the_keys_of_what_is_refused(self):
+        columns = columns_of(f"{COLUMN % ''}\n{REFUSED}\n{line_of(LEAST)}\n")
+        (one,) = columns.bad_lines
+        self.assertEqual(one, Finding("error", "One", source="three", byte=4, found="seven", expected="eight", index=2, line=5, element=6))
+        self.assertEqual((said_of(one, True), one.json), (REFUSED, REFUSED))
+        self.assertEqual(str(one), "error[One] column 2, three, byte 4, line 5, element 6: found seven; expected eight")
+        self.assertEqual([str(other) for other in columns.findings], ["note[One]: expected two"])
+        self.assertEqual([other.name for other in columns], ["t"])
+
+    def test_a_bad_line_says_apart_how_many_more_there_are(self):
+        (one,) = columns_of(REFUSED.replace("}", ',"more":9}') + "\n").bad_lines
+        self.assertEqual((one.more, str(one)), (9, "error[One] column 2, three, byte 4, line 5, element 6: found seven; expected eight"))
+
+    def test_unknown_keys_are_passed_over(self):
+        more = LEAST.replace('"expected"', '"bytes":7,"lines":[{"line":1}],"expected"')
+        self.assertEqual(of_file(more), of_file(LEAST))
+        column, other = of_column(LEAST, row={"findings": []}), of_column(LEAST)
+        self.assertEqual(column, other)
 
     def test_what_is_absent(self):
         (one,) = of_file(LEAST)
         self.assertEqual(one, Finding("note", "One", expected="two"))
         self.assertEqual((one.column, one.path, one.source, one.pointer, one.byte, one.found, one.help, one.more), (None, (), None, None, None, None, None, 0))
-        self.assertEqual((said_of(one), str(one)), (LEAST, "note[One]: expected two"))
+        self.assertEqual((one.index, one.line, one.element), (None, None, None))
+        self.assertEqual((said_of(one, True), str(one)), (line_of(LEAST), "note[One]: expected two"))
 
     def test_words(self):
         whole = "warning[One] column two, at three.fo.ur, five /six, byte 7, and 11 more: found eight; expected nine. ten."
@@ -123,7 +150,7 @@ class OfColumns(unittest.TestCase):
 class OfManyFiles(unittest.TestCase):
     def test_what_is_found_in_a_column_names_it(self):
         error, warning = LEAST.replace("note", "error"), LEAST.replace("note", "warning")
-        lines = [one.json for one in (of_column(warning, error), of_column(warning))] + [error.replace("One", "Two"), WHOLE]
+        lines = [one.json for one in (of_column(warning, error), of_column(warning))] + [line_of(error.replace("One", "Two")), line_of(WHOLE)]
         with mock.patch("geoarrow_fields.check", lambda path, infer: columns_of("".join(f"{line}\n" for line in lines))):
             found = files.report("a")
         self.assertEqual(found["errors"], ["error[One] column t: expected two", "error[Two]: expected two"])
@@ -138,15 +165,15 @@ class Shared(unittest.TestCase):
             columns = check(content, notes=True)
             found = [(True, one) for column in columns for one in column.findings] + [(False, one) for one in columns.findings]
             self.assertEqual([(of, one.json, str(one)) for of, one in found], wanted)
-            self.assertEqual([said_of(one) for _, one in found], [said for _, said, _ in wanted])
-            self.assertEqual([one.is_error for _, one in found], [said.startswith('{"severity":"error"') for _, said, _ in wanted])
+            self.assertEqual([said_of(one, not of) for of, one in found], [said for _, said, _ in wanted])
+            self.assertEqual([one.is_error for _, one in found], [json.loads(said)["severity"] == "error" for _, said, _ in wanted])
 
     def test_the_cases_are_many(self):
         findings = [one for _, wanted in cases() for one in wanted]
         self.assertGreater(len(findings), 20)
         self.assertEqual({of for of, _, _ in findings}, {True, False})
         keys = {key for _, said, _ in findings for key in json.loads(said)}
-        self.assertEqual(keys, set(json.loads(WHOLE)))
+        self.assertEqual(keys, set(json.loads(line_of(WHOLE))))
 
 
 if __name__ == "__main__":

@@ -16,10 +16,9 @@ from unittest import mock
 
 from geoarrow_fields import files
 
-from .shared import BROKEN, BROKEN_FOUND, CRS, DATA, FOUND, TEXT, TOP
+from .shared import BROKEN, BROKEN_FOUND, CRS, DATA, FOUND, IS_EMPTY, IS_TEXT, TEXT, TOP
 
 SCRIPT = TOP / "examples/many_files.py"
-NO_JSON = "line 1, byte 1: is no JSON, or nests more than 127 levels"
 HAS_DASK = all(importlib.util.find_spec(name) for name in ("dask", "distributed"))
 
 
@@ -45,8 +44,10 @@ class ManyFiles(unittest.TestCase):
         shutil.copy(DATA / "geo.parquet", self.folder / "h")
         self.wanted = [
             self.report("a", 2, ["g: wkb - -"]), self.report("b", 1, errors=[one.replace("] ", "] column b, ", 1) for one in BROKEN_FOUND], invalid=["b"]),
-            self.report("below/c", error="is empty"), self.report("d\n", 1), self.report("e", 1, ["g: linestring interleaved XYM"]),
-            self.report("f", error=f"byte {(DATA / 'file.arrow').stat().st_size - 11}: no whole message"),
+            self.report("below/c", error=IS_EMPTY), self.report("d\n", 1), self.report("e", 1, ["g: linestring interleaved XYM"]),
+            self.report("f", error=(
+                f"error[Truncated] byte {(DATA / 'file.arrow').stat().st_size - 11}: found another end; expected ARROW1 at the end. "
+                "The file is cut off, or still being written")),
             self.report("g", error="No such file or directory"),
             self.report("h", 3, ["geom: wkb - -", "place: wkb - -", "region: wkb - -"], FOUND[:2], FOUND[2:])]
 
@@ -96,7 +97,7 @@ class ManyFiles(unittest.TestCase):
     def test_a_file_of_no_bytes_is_an_error_by_name(self):
         (self.folder / "none.parquet").touch()
         found, last, status = self.ran("--with", "loop", self.folder / "a", self.folder / "none.parquet")
-        self.assertEqual([one["error"] for one in found], [None, "is empty"])
+        self.assertEqual([one["error"] for one in found], [None, IS_EMPTY])
         self.assertIn(" 1 not read; ", last)
         self.assertEqual(status, 2)
 
@@ -237,7 +238,7 @@ class Cluster(unittest.TestCase):
     def test_the_reports_are_those_of_a_loop(self):
         found = sorted(self.reports(self.has_package()), key=lambda one: one["file"])
         self.assertEqual(found, files.reports(self.paths))
-        self.assertEqual({one["error"] for one in found}, {None, NO_JSON})
+        self.assertEqual({one["error"] for one in found}, {None, IS_TEXT})
 
     def test_the_command_with_a_scheduler(self):
         client = self.has_package()
@@ -270,7 +271,7 @@ class Cluster(unittest.TestCase):
         threading.Thread(target=lambda: pathlib.Path(path).write_text(f"{TEXT}\n"), daemon=True).start()
         found += reports
         self.assertEqual(sorted(one["file"] for one in found), sorted([*self.paths, path]))
-        self.assertEqual({one["error"] for one in found}, {None, NO_JSON})
+        self.assertEqual({one["error"] for one in found}, {None, IS_TEXT})
 
     def test_where_all_workers_are_killed_the_run_ends(self):
         path, found, reports, processes = self.begun()

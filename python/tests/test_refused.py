@@ -9,12 +9,20 @@ import tempfile
 import traceback
 import unittest
 
-from geoarrow_fields import BadLine, InvalidColumns, RefusedSource, check, files, write_schema
+from geoarrow_fields import Finding, InvalidColumns, RefusedSource, check, files, write_schema
 
-from .shared import BROKEN, DATA, OTHER, POINT, TEXT, TOP, printed
+from .shared import BROKEN, DATA, NO_NAME, OTHER, POINT, READ, TEXT, TOP, printed
 
-NUMBERS = ("line", "byte", "element", "column")
-KEYS = {"code": "error", **{name: name for name in ("message", "place", "found", "help", "file", *NUMBERS)}}
+# The keys of a line in their order (docs/FORMAT.md, 2.8), and the attributes by their keys.
+ORDER = ("kind", "severity", "code", "file", "index", "in", "byte", "line", "element", "found", "expected", "help", "more")
+KEYS = {"source": "in", **{key: key for key in ORDER if key not in ("kind", "severity", "in", "more")}}
+# What is said by the tables of docs/FORMAT.md, 2.8.
+CUT = {"help": "The file is cut off, or still being written"}
+NO_JSON = "no JSON, or more than 127 levels of it", "a JSON object"
+NO_OBJECT = "JSON that is no object", "a JSON object"
+EMPTY = {
+    "kind": "finding", "severity": "error", "code": "EmptyFile", "found": "no bytes, or blanks alone", "expected": READ,
+    "help": "The writing or the copy broke off before its first byte"}
 MAGICS = (b"ARROW1", b"\xff\xff\xff\xff", b"PAR1", b"PARE")
 
 
@@ -36,13 +44,16 @@ def lines_of(content):
 
 def words_of(said):
     """What the program prints behind the name of a file."""
-    words = ": ".join(said[key] for key in ("place", "message", "found") if key in said)
-    return f"{words}. {said['help']}" if "help" in said else words
+    words = {"index": "column ", "in": "", "byte": "byte ", "line": "line ", "element": "element "}
+    place = ", ".join(f"{word}{said[key]}" for key, word in words.items() if key in said)
+    help = f". {said['help']}" if "help" in said else ""
+    return f"error[{said['code']}]{place and ' ' + place}: found {said['found']}; expected {said['expected']}{help}"
 
 
 def line_of(said):
     """The line of the library, without its line feed."""
-    return json.dumps(said, ensure_ascii=False, sort_keys=True, separators=(",", ":"))
+    assert set(said) <= set(ORDER), said
+    return json.dumps({key: said[key] for key in ORDER if key in said}, ensure_ascii=False, separators=(",", ":"))
 
 
 class InAFolder(unittest.TestCase):
@@ -68,6 +79,7 @@ class InAFolder(unittest.TestCase):
             self.assertEqual({name: getattr(one, name) for name in KEYS}, {name: said.get(key) for name, key in KEYS.items()})
             self.assertEqual(str(one), words_of(said))
             self.assertEqual(one.json, line_of(said))
+            self.assertEqual((one.finding.severity, one.finding.json, one.finding.more), ("error", one.json, said.get("more", 0)))
             self.assertEqual(vars(one), vars(error))
             self.assertEqual(vars(RefusedSource(*one.args)), vars(one))
 
@@ -81,7 +93,10 @@ class InAFolder(unittest.TestCase):
         with open(path, "rb") as file:
             self.judge(self.refused(check, file), said)
         if not content.startswith(MAGICS):
-            self.judge(self.refused(check, lines_of(content)), said)
+            shown = said["found"]
+            # (a line feed stands behind each line, and is among the first 16 bytes of less)
+            is_more = shown.startswith("bytes of no known format") and len(content) < 16 and not content.endswith(b"\n")
+            self.judge(self.refused(check, lines_of(content)), {**said, "found": f"{shown}0a"} if is_more else said)
 
 
 class Shared(InAFolder):
@@ -93,14 +108,14 @@ class Shared(InAFolder):
             with self.subTest(content[:80], said=said):
                 self.judge_each(content, said)
             keys |= said.keys()
-        self.assertTrue({"error", "message", "place", "found", "help", "line", "byte", "element"} <= keys, keys)
+        self.assertEqual(keys, set(ORDER) - {"file", "index", "more"})
 
     def test_the_words_of_the_command_and_of_many_files(self):
         for content, said in cases():
             with self.subTest(content[:80], said=said):
                 path, words = str(self.file(content)), words_of(said)
-                for options, out in ([], ""), (["--json"], f"{line_of({**said, 'file': path})}\n"):
-                    self.assertEqual(printed(["check", *options, path]), (out, f"{path}: {words}\n", 2))
+                self.assertEqual(printed(["check", path]), (f"{path}: {words}\n", "", 2))
+                self.assertEqual(printed(["check", "--json", path]), (f"{line_of({**said, 'file': path})}\n", f"{path}: {words}\n", 2))
                 self.assertEqual(files.report(path)["error"], words)
 
     def test_large_arrow_files(self):
@@ -113,7 +128,7 @@ class Shared(InAFolder):
                 whole = content[:8] + bytes(more) + content[8:]
                 wanted = json.loads(self.refused(check, whole).json)
                 self.judge_each(whole, wanted)
-                moved += {**wanted, "byte": 0, "place": ""} == {**said, "byte": 0, "place": ""} and wanted["byte"] == said["byte"] + more
+                moved += {**wanted, "byte": 0} == {**said, "byte": 0} and wanted["byte"] == said["byte"] + more
         self.assertGreater(moved, 2)
 
 
@@ -123,7 +138,7 @@ class BadLines(InAFolder):
     def judge_bad(self, columns, said):
         """Of columns one line is bad, and this is said of it, here and in another process."""
         (bad,) = columns.bad_lines
-        keys = {name: key for name, key in KEYS.items() if name not in ("file", "element", "column")}
+        keys = {name: key for name, key in KEYS.items() if name != "file"}
         self.assertEqual({name: getattr(bad, name) for name in keys}, {name: said.get(key) for name, key in keys.items()})
         self.assertEqual((str(bad), bad.json, bad.more), (words_of(said), line_of(said), 0))
         self.assertEqual(pickle.loads(pickle.dumps(bad)), bad)
@@ -146,7 +161,7 @@ class BadLines(InAFolder):
                 out, err, status = printed(["check", "--json", path])
                 self.assertEqual((out.splitlines()[-1], err, status), (line_of({**said, "file": path}), f"{path}: {words}\n", 2))
                 out, err, status = printed(["check", path])
-                self.assertEqual((out, err, status), (check(path).table() + "\n", f"{path}: {words}\n", 2))
+                self.assertEqual((out, err, status), (f"{check(path).table()}\n{path}: {words}\n", "", 2))
                 report = files.report(path)
                 self.assertEqual((report["errors"], report["error"], report["columns"]), ([words], None, len(check(path))))
 
@@ -154,61 +169,68 @@ class BadLines(InAFolder):
         for source in (f"{{}}\n{TEXT}\n\n[\n{POINT}\n".encode(), ["{}", TEXT, "", "[", POINT]):
             found = check(source)
             self.assertEqual([one.index for one in found], [0, 1])
-            self.assertEqual([(one.code, one.line, one.byte) for one in found.bad_lines], [("LineName", 1, None), ("LineNotJson", 4, 1)])
+            self.assertEqual([(one.code, one.line, one.byte) for one in found.bad_lines], [("BadLine", 1, None), ("BadLine", 4, 1)])
             self.assertEqual(found.bad_lines[1].help, "One object on each line: try jq -c '.[]' FILE")
-            said = ['line 1: is JSON, but no field: "name" is no text', f"line 4, byte 1: {found.bad_lines[1].message}. {found.bad_lines[1].help}"]
+            said = [
+                NO_NAME,
+                "error[BadLine] byte 1, line 4: found no JSON, or more than 127 levels of it; expected a JSON object. "
+                "One object on each line: try jq -c '.[]' FILE"]
             self.assertEqual((repr(found).split("\n")[-2:], list(found.bad_words())), (said, said))
             self.assertNotIn(said[0], found.table())
             error = self.refused(check, source, False, True)
-            self.assertEqual((error.code, error.line, error.json), ("LineName", 1, found.bad_lines[0].json))
+            self.assertEqual((error.code, error.line, error.json), ("BadLine", 1, found.bad_lines[0].json))
+            self.assertEqual(error.finding, found.bad_lines[0])
 
     def test_a_hundred_are_told(self):
         for count, more in ((99, 0), (100, 0), (101, 1), (250, 150)):
             found = check(f"{TEXT}\n".encode() + b"1\n" * count)
             self.assertEqual((len(found), len(found.bad_lines)), (1, min(count, 100)))
             self.assertEqual([one.more for one in found.bad_lines], [0] * (min(count, 100) - 1) + [more])
-            last = {0: "line 100: is JSON, but no object", 1: "1 more line is no column", 150: "150 more lines are no columns"}
-            if count > 99:
-                self.assertEqual(list(found.bad_words())[-1], last[more].replace("100", "101"))
+            last = [f"error[BadLine] line {min(count, 100) + 1}: found JSON that is no object; expected a JSON object"]
+            behind = {0: [], 1: ["error[BadLine]: 1 more line is no column"], 150: ["error[BadLine]: 150 more lines are no columns"]}[more]
+            self.assertEqual(list(found.bad_words())[min(count, 100) - 1:], last + behind)
 
     def test_lines_none_of_which_is_a_column(self):
         found = check(b"{}\n\n1")
         self.assertEqual((found, [one.line for one in found.bad_lines]), ([], [1, 3]))
-        self.assertIsInstance(found.bad_lines[0], BadLine)
+        self.assertIsInstance(found.bad_lines[0], Finding)
+        self.assertIs(found.bad_lines[0].is_error, True)
 
 
 class Refused(InAFolder):
-    def said(self, error, message, place=None, **numbers):
-        return {"error": error, "message": message, **({} if place is None else {"place": place}), **numbers}
+    def said(self, code, found, expected, **more):
+        return {"kind": "finding", "severity": "error", "code": code, "found": found, "expected": expected, **more}
 
     def test_lines(self):
         help = "One object on each line: try jq -c . FILE"
         for content, place in ((f"{{\n{TEXT}\n", {"line": 1, "byte": 1}), (f"\n \n  {{\n{TEXT}", {"line": 3, "byte": 3})):
-            where = f"line {place['line']}, byte {place['byte']}"
-            self.judge_each(content.encode(), self.said("LineNotJson", "is no JSON, or nests more than 127 levels", where, help=help, **place))
-        self.assertEqual([(one.code, one.line, one.byte) for one in check([TEXT, "\ud800"]).bad_lines], [("LineNotUtf8", 2, 1)])
+            self.judge_each(content.encode(), self.said("BadLine", *NO_JSON, help=help, **place))
+        (bad,) = check([TEXT, "\ud800"]).bad_lines
+        self.assertEqual((bad.code, bad.found, bad.line, bad.byte), ("BadLine", "bytes that are not UTF-8", 2, 1))
 
     def test_files(self):
         for content, said in (
-                (b"PAR1", self.said("FooterMagic", "does not end as a Parquet file does")),
-                (b"ARROW1", self.said("IpcEnvelope", "no whole message", "byte 0", byte=0)),
-                (b"\xff\xff\xff\xff", self.said("IpcNumber", "no aligned number before the end", "byte 4 of the message", byte=4))):
+                (b"PAR1", self.said("Truncated", "another end", "PAR1 at the end", **CUT)),
+                (b"ARROW1", self.said("Truncated", "another end", "ARROW1 at the end", byte=0, **CUT)),
+                (b"\xff\xff\xff\xff", self.said(
+                    "Truncated", "a message that is cut off", "as many bytes as its size says", **{"in": "message"}, byte=4, **CUT)),
+                (b"\xff\xff\xff\xff" + bytes(4), self.said("NoSchema", "the end of the stream", "a schema", **{"in": "message"}, byte=8))):
             self.judge_each(content, said)
         stream = bytearray(write_schema([TEXT]))
         stream[8:12] = (2**31).to_bytes(4, "little")  # the root offset, which is the first of the message
-        self.judge_each(bytes(stream), self.said("IpcOffset", "an offset that leads nowhere", "byte 0 of the message", byte=0))
+        wanted = "an offset that leads nowhere", "an offset that is not 0 and leads no further than the end"
+        self.judge_each(bytes(stream), self.said("BadMessage", *wanted, **{"in": "message"}, byte=0))
 
     def test_a_large_encrypted_file(self):
         footer = bytes(20)
         found = b"PARE" + bytes(100) + footer + len(footer).to_bytes(4, "little") + b"PARE"
-        self.judge_each(found, self.said("FooterEncrypted", "the footer is encrypted"))
+        self.judge_each(found, self.said("Encrypted", "PARE", "PAR1", help="A copy with a plain footer is needed"))
 
     def test_empty_sources(self):
-        said = self.said("EmptyFile", "is empty")
         for content in (b"", b"\n", b" \t\r\n\n  "):
-            self.judge_each(content, said)
+            self.judge_each(content, EMPTY)
         for source in ([""], ["", " "]):
-            self.judge(self.refused(check, source), said)
+            self.judge(self.refused(check, source), EMPTY)
         self.assertEqual(write_schema([]), write_schema([""]))
 
     def test_a_report_that_is_too_large(self):
@@ -216,7 +238,7 @@ class Refused(InAFolder):
         inside = ",".join(['{"metadata":{"ARROW:extension:name":"geoarrow.wkb"},"name":"k","nullable":true,"type":"binary"}'] * 16)
         struct = '{"struct":[{"name":"%s","nullable":true,"type":{"struct":[%s]}}]}' % (long, inside)
         stream = write_schema([TEXT.replace('"utf8"', struct)])  # each of its sixteen findings has the long name in its path
-        self.judge_each(stream, self.said("ReportTooLarge", "the report would have more than 1048576 bytes and 32 for each byte read"))
+        self.judge_each(stream, self.said("ReportTooLarge", "a larger report", "a report of at most 1048576 bytes and 32 for each byte read"))
 
     def test_the_byte_of_an_arrow_file_is_that_of_the_file(self):
         """With each of its last bytes turned, however it is opened: the same place, which is that where all of the file is given to the library."""
@@ -229,8 +251,8 @@ class Refused(InAFolder):
                 try:
                     said.append(check(source))
                 except RefusedSource as error:
-                    self.assertEqual((error.place, str(error)), (f"byte {error.byte}", f"byte {error.byte}: {error.message}"))
-                    said.append((error.code, error.byte))
+                    self.assertTrue(str(error).startswith(f"error[{error.code}] byte {error.byte}: found {error.found}; expected {error.expected}"))
+                    said.append((error.code, error.found, error.byte))
                     refused += 1
             self.assertEqual(said[1:], said[:1] * 2, at)
             whole[at] ^= 0x81
@@ -241,13 +263,13 @@ class Refused(InAFolder):
         for length in range(6, len(whole)):
             for source in (whole[:length], self.file(whole[:length])):
                 error = self.refused(check, source)
-                self.assertEqual((error.code, error.byte), ("IpcEnvelope", max(length - 10, 0)))
+                self.assertEqual((error.code, error.found, error.byte), ("Truncated", "another end", max(length - 10, 0)))
 
     def test_schemas_that_are_not_written(self):
         for given, said in (
-                ([TEXT, "{}"], self.said("LineName", 'is JSON, but no field: "name" is no text', "line 2", line=2)),
-                (["1"], self.said("LineNotObject", "is JSON, but no object", "line 1", line=1)),
-                ([TEXT, POINT, OTHER], self.said("ColumnType", "a type that no message can hold", "column 2", column=2))):
+                ([TEXT, "{}"], self.said("BadLine", 'no string at "name"', 'a string at "name"', line=2)), (["1"], self.said("BadLine", *NO_OBJECT, line=1)),
+                ([TEXT, POINT, OTHER], self.said(
+                    "ColumnType", "a type that no message can hold", "a type of Schema.fbs, nested at most 61 levels deep", index=2))):
             self.judge(self.refused(write_schema, given), said)
 
     def test_what_is_no_source(self):
@@ -263,15 +285,22 @@ class Errors(InAFolder):
     """What is raised."""
 
     def test_each_key(self):
-        self.judge(RefusedSource('{"error":"E","message":"m"}'), {"error": "E", "message": "m"})
-        said = {"byte": 1, "column": 2, "element": 3, "error": "E", "file": "f\u00e9", "found": "a", "help": "H", "line": 4, "message": "m", "place": "p 9"}
+        least = {"kind": "finding", "severity": "error", "code": "E", "found": "a", "expected": "b"}
+        self.judge(RefusedSource(line_of(least)), least)
+        said = {**least, "file": "f\u00e9", "index": 2, "in": "p", "byte": 1, "line": 4, "element": 3, "help": "H"}
         self.judge(RefusedSource(line_of(said)), said)
-        for key in ("byte", "column", "element", "line"):
-            some = {"error": "E", key: 0, "message": "m"}
+        self.assertEqual(str(RefusedSource(line_of(said))), "error[E] column 2, p, byte 1, line 4, element 3: found a; expected b. H")
+        for key in ("byte", "index", "element", "line"):
+            some = {**least, key: 0}
             self.judge(RefusedSource(line_of(some)), some)
-        for some in ({"found": "a"}, {"help": "H"}, {"found": "a", "help": "H"}):
-            said = {"error": "E", "message": "m", **some}
+        for some in ({"in": "p"}, {"help": "H"}, {"in": "p", "help": "H"}, {"line": 7, "more": 5}):
+            said = {**least, **some}
             self.judge(RefusedSource(line_of(said)), said)
+
+    def test_unknown_keys_are_passed_over(self):
+        line = line_of(EMPTY)
+        error = RefusedSource(line[:-1] + ',"row":{"code":"no"}}')
+        self.assertEqual((error.finding, str(error)), (RefusedSource(line).finding, str(RefusedSource(line))))
 
     def test_the_example_of_the_readme(self):
         (call, wanted), = re.findall(r"(?m)^    >>> (check\(b.*\))\n    Traceback .*\n    \.\.\.\n    (.*)$", (TOP / "python/README.md").read_text())
@@ -279,7 +308,7 @@ class Errors(InAFolder):
         self.assertEqual(traceback.format_exception_only(RefusedSource, error), [f"{wanted}\n"])
 
     def test_what_is_put_on_one_crosses_processes_too(self):
-        error = RefusedSource('{"error":"E","message":"m"}')
+        error = RefusedSource(line_of(EMPTY))
         error.more = 7
         self.assertEqual(pickle.loads(pickle.dumps(error)).more, 7)
 

@@ -8,11 +8,11 @@ from geoarrow_fields.columns import columns_of
 
 from .shared import BROKEN, BROKEN_FOUND, CRS, NO_GEO_METADATA, NOT_WHOLE, TEXT, TOP, with_crs
 
-COLUMN = '{"column":"t","index":0,"state":"plain","type":"utf8"}'
-ERROR = '{"severity":"error","code":"GeoBbox","column":"t","in":"geo","pointer":"/columns/t/bbox","found":"[1]","expected":"m","help":"h?"}'
-NOTE = '{"severity":"note","code":"GeoNewVersion","in":"geo","pointer":"/version","found":"\\"2.0.0\\"","expected":"1.0.0 or 1.1.0"}'
-WHOLE = '{"severity":"error","code":"GeoNotObject","in":"geo","pointer":"","found":"[]","expected":"an object"}'
-WARNING = '{"severity":"warning","code":"NoGeoMetadata","in":"geo","pointer":"","expected":"%s"}' % NO_GEO_METADATA.expected
+COLUMN = '{"kind":"column","index":0,"column":"t","state":"plain","type":"utf8"}'
+ERROR = '{"kind":"finding","severity":"error","code":"GeoBbox","column":"t","in":"geo","pointer":"/columns/t/bbox","found":"[1]","expected":"m","help":"h?"}'
+NOTE = '{"kind":"finding","severity":"note","code":"GeoNewVersion","in":"geo","pointer":"/version","found":"\\"2.0.0\\"","expected":"1.0.0 or 1.1.0"}'
+WHOLE = '{"kind":"finding","severity":"error","code":"GeoNotObject","in":"geo","pointer":"","found":"[]","expected":"an object"}'
+WARNING = '{"kind":"finding","severity":"warning","code":"NoGeoMetadata","in":"geo","pointer":"","expected":"%s"}' % NO_GEO_METADATA.expected
 
 
 class Cells(html.parser.HTMLParser):

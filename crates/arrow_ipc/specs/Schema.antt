@@ -14,7 +14,8 @@ use Rattle.arrow_ipc.specs.Tells.{Fails, ◌>>+◌}
 use Rattle.arrow_ipc.specs.declared.fault.IpcFault.{IpcFault}
 use Rattle.arrow_ipc.specs.declared.fault.IpcError.{IpcError}
 use Rattle.arrow_ipc.specs.declared.fault.IpcError.TheVariants.{Broken}
-use Rattle.arrow_ipc.specs.declared.fault.IpcRule.TheVariants.{Envelope, Message}
+use Rattle.arrow_ipc.specs.declared.fault.IpcRule.{IpcRule}
+use Rattle.arrow_ipc.specs.declared.fault.IpcRule.TheVariants.{Magic, FooterSize, Cut, EndOfStream, Message}
 use Rattle.arrow_ipc.specs.declared.schema.Endianness.{Endianness}
 use Rattle.arrow_ipc.specs.declared.schema.Endianness.TheVariants.{Little, Big}
 use Rattle.arrow_ipc.specs.declared.schema.Head.{Head}
@@ -70,28 +71,40 @@ footer_at bytes = do
   version ← integer_in bytes footer 0 w16 0
   if is_version version then table_in bytes footer 1 else breaks Message footer.at
 
--- so many bytes from a position on, which are some
-unfoldable pub cut : List ℕ → ℕ → ℕ → Result (List ℕ) IpcFault
-cut bytes start size = if nat_lt 0 size && nat_le (start + size) (length bytes) then Ok (take size (drop start bytes)) else breaks Envelope start
+-- so many bytes from a position on, which are some; or that rule is broken there
+unfoldable pub cut : IpcRule → List ℕ → ℕ → ℕ → Result (List ℕ) IpcFault
+cut rule bytes start size = if nat_lt 0 size && nat_le (start + size) (length bytes) then Ok (take size (drop start bytes)) else breaks rule start
+
+-- the size at a position of a stream, which is not cut off
+abbrev pub whole : ℕ → Result ℕ IpcFault → Result ℕ IpcFault
+whole at (Ok size) = Ok size
+whole at (Err fault) = breaks Cut at
+
+abbrev pub size_at : List ℕ → ℕ → Result ℕ IpcFault
+size_at bytes at = whole at (integer_at bytes at w32)
+
+-- the message of that size at a position of a stream; a size of 0 is the stream's end
+abbrev pub message_of : List ℕ → ℕ → ℕ → Result (List ℕ) IpcFault
+message_of bytes start size = if nat_lt 0 size then cut Cut bytes start size else breaks EndOfStream start
 
 -- the message of a stream: its size, which may have four bytes 255 before it, and the message
 unfoldable pub message_in : List ℕ → Result (List ℕ) IpcFault
 message_in bytes = do
-  first ← integer_at bytes 0 w32
+  first ← size_at bytes 0
   if first == 0xffff_ffff then (do
-    size ← integer_at bytes 4 w32
-    cut bytes 8 size) else cut bytes 4 first
+    size ← size_at bytes 4
+    message_of bytes 8 size) else message_of bytes 4 first
 
 -- the size at a file's end, with its magic behind it
 abbrev pub size_before_magic : ℕ → List ℕ → Result ℕ IpcFault
-size_before_magic end (a ∷ b ∷ c ∷ d ∷ magic) = if bytes_eq magic (codes "ARROW1") then Ok (from_le_bytes w32 (a ∷ b ∷ c ∷ d ∷ [])) else breaks Envelope end
-size_before_magic end _ = breaks Envelope end
+size_before_magic end (a ∷ b ∷ c ∷ d ∷ magic) = if bytes_eq magic (codes "ARROW1") then Ok (from_le_bytes w32 (a ∷ b ∷ c ∷ d ∷ [])) else breaks Magic end
+size_before_magic end _ = breaks Magic end
 
 -- the footer of a file: its size and the magic come behind it
 unfoldable pub footer_in : List ℕ → Result (List ℕ) IpcFault
-footer_in bytes = if nat_lt (length bytes) 10 then breaks Envelope 0 else (do
+footer_in bytes = if nat_lt (length bytes) 10 then breaks Magic 0 else (do
   size ← size_before_magic (length bytes - 10) (drop (length bytes - 10) bytes)
-  if nat_le size (length bytes - 10) then cut (take (length bytes - 10) bytes) (length bytes - 10 - size) size else breaks Envelope (length bytes - 10))
+  if nat_le size (length bytes - 10) then cut FooterSize (take (length bytes - 10) bytes) (length bytes - 10 - size) size else breaks FooterSize (length bytes - 10))
 
 -- the schema whose table is there
 abbrev pub schema_of : ℕ → Result ℕ IpcFault → List ℕ → Result (SchemaTree × ℕ) IpcFault

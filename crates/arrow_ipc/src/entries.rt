@@ -146,7 +146,7 @@ fn schema_entries<'a>(
 ///
 /// ```rust
 /// let refused = read_entries(alloc, &[0xff, 0xff, 0xff, 0xff, 0, 0, 0, 0]);
-/// assert!(rt; matches!(refused, Err(IpcError::Broken(fault)) if fault.rule == IpcRule::Envelope));
+/// assert!(rt; matches!(refused, Err(IpcError::Broken(fault)) if fault.rule == IpcRule::EndOfStream));
 /// ```
 #[tactic(auto, unfolding(crate::specs::Entries::entries_of_message))]
 pub fn read_entries<'a>(alloc: Global, stream: &'a [u8]) -> Result<SchemaEntries<'a>, IpcError>
@@ -157,7 +157,7 @@ pub fn read_entries<'a>(alloc: Global, stream: &'a [u8]) -> Result<SchemaEntries
 }
 
 /// Returns the entries of metadata of the schema of an Arrow file, from its end, as [`crate::read_file_footer`] takes it. Errs
-/// as [`read_entries`]; the byte is counted from the footer's first (of an `Envelope` from the first that is given).
+/// as [`read_entries`]; the byte is counted from the footer's first (of `Magic` and `FooterSize` from the first that is given).
 #[tactic(auto, unfolding(crate::specs::Entries::entries_of_footer))]
 pub fn read_file_entries<'a>(alloc: Global, end: &'a [u8]) -> Result<SchemaEntries<'a>, IpcError>
     ensures { AreEntries (footer_in end.now) entries_of_footer result }

@@ -1,6 +1,6 @@
 //! Why no schema is read.
 ghost use Rattle.std.specs.Prelude.{◌≡◌, true, false, OnOk, IfErr};
-ghost use Rattle.arrow_ipc.specs.Rules.{rule_code, rule_message, error_code, error_message};
+ghost use Rattle.arrow_ipc.specs.Rules.{rule_message, rule_wanted, error_message, error_wanted};
 ghost use Rattle.arrow_ipc.specs.declared.fault.IpcError.TheVariants.{Broken, OutOfMemory};
 
 use std::alloc::{AllocError, AllocFailed};
@@ -8,8 +8,14 @@ use std::alloc::{AllocError, AllocFailed};
 /// A rule of the format (`docs/FORMAT.md`, 3), as what is wrong where it is broken.
 #[derive(Clone, Copy, Debug, PartialEq, Eq)]
 pub enum IpcRule {
-    /// What stands around the message: its size, or the magic of a file.
-    Envelope,
+    /// A file ends with `ARROW1`.
+    Magic,
+    /// The footer of a file has some bytes, which stand before its size.
+    FooterSize,
+    /// The message of a stream has as many bytes as its size says.
+    Cut,
+    /// A stream begins with a message, and not with its end, which is a size of 0.
+    EndOfStream,
     /// A number lies at a multiple of its size, before the end.
     Number,
     /// An offset is not 0, and leads no further than the end.
@@ -41,35 +47,15 @@ pub enum IpcRule {
 }
 
 impl IpcRule {
-    /// Returns the code of the rule, as reports have it (`docs/FORMAT.md`, 2.8).
-    pub fn code(self) -> &'static str
-        ensures { result.now ≡ rule_code self }
-    {
-        match self {
-            IpcRule::Envelope => "IpcEnvelope",
-            IpcRule::Number => "IpcNumber",
-            IpcRule::Offset => "IpcOffset",
-            IpcRule::Vtable => "IpcVtable",
-            IpcRule::Slot => "IpcSlot",
-            IpcRule::Text => "IpcText",
-            IpcRule::Utf8 => "IpcUtf8",
-            IpcRule::Vector => "IpcVector",
-            IpcRule::Missing => "IpcMissing",
-            IpcRule::Message => "IpcMessage",
-            IpcRule::Tag => "IpcTag",
-            IpcRule::Parameter => "IpcParameter",
-            IpcRule::Children => "IpcChildren",
-            IpcRule::TypeIds => "IpcTypeIds",
-            IpcRule::Depth => "IpcDepth",
-        }
-    }
-
     /// Returns what is wrong where the rule is broken.
     pub fn message(self) -> &'static str
         ensures { result.now ≡ rule_message self }
     {
         match self {
-            IpcRule::Envelope => "no whole message",
+            IpcRule::Magic => "another end",
+            IpcRule::FooterSize => "a footer of no bytes, or of more than stand before its size",
+            IpcRule::Cut => "a message that is cut off",
+            IpcRule::EndOfStream => "the end of the stream",
             IpcRule::Number => "no aligned number before the end",
             IpcRule::Offset => "an offset that leads nowhere",
             IpcRule::Vtable => "a table without a vtable",
@@ -84,6 +70,32 @@ impl IpcRule {
             IpcRule::Children => "a type with a wrong number of children",
             IpcRule::TypeIds => "a union with wrong type ids",
             IpcRule::Depth => "columns that are nested too deep",
+        }
+    }
+
+    /// Returns what the rule asks.
+    pub fn wanted(self) -> &'static str
+        ensures { result.now ≡ rule_wanted self }
+    {
+        match self {
+            IpcRule::Magic => "ARROW1 at the end",
+            IpcRule::FooterSize => "a footer before its size",
+            IpcRule::Cut => "as many bytes as its size says",
+            IpcRule::EndOfStream => "a schema",
+            IpcRule::Number => "a number at a multiple of its size, before the end",
+            IpcRule::Offset => "an offset that is not 0 and leads no further than the end",
+            IpcRule::Vtable => "a vtable of an even size, before the end",
+            IpcRule::Slot => "a slot before the end",
+            IpcRule::Text => "a text before the end, with a byte 0 behind it",
+            IpcRule::Utf8 => "UTF-8",
+            IpcRule::Vector => "a vector before the end",
+            IpcRule::Missing => "each slot that the table must have",
+            IpcRule::Message => "a schema of version 4 or 5, without a body",
+            IpcRule::Tag => "a type of Schema.fbs, 1 to 26",
+            IpcRule::Parameter => "a width, unit or size that the type can have",
+            IpcRule::Children => "as many children as the type must have",
+            IpcRule::TypeIds => "type ids from 0 to 127, each once, as many as children",
+            IpcRule::Depth => "at most 61 levels",
         }
     }
 }
@@ -130,25 +142,25 @@ pub enum IpcError {
 }
 
 impl IpcError {
-    /// Returns the code of the error, as reports have it (`docs/FORMAT.md`, 2.8): that of the rule, if one is broken.
-    pub fn code(self) -> &'static str
-        ensures { result.now ≡ error_code self }
-    {
-        match self {
-            IpcError::Broken(fault) => fault.rule.code(),
-            IpcError::Budget(_) => "IpcBudget",
-            IpcError::OutOfMemory => "OutOfMemory",
-        }
-    }
-
     /// Returns what is wrong.
     pub fn message(self) -> &'static str
         ensures { result.now ≡ error_message self }
     {
         match self {
             IpcError::Broken(fault) => fault.rule.message(),
-            IpcError::Budget(_) => "more is to be read than eight times its bytes",
+            IpcError::Budget(_) => "more to be read than eight times the bytes",
             IpcError::OutOfMemory => "out of memory",
+        }
+    }
+
+    /// Returns what is asked.
+    pub fn wanted(self) -> &'static str
+        ensures { result.now ≡ error_wanted self }
+    {
+        match self {
+            IpcError::Broken(fault) => fault.rule.wanted(),
+            IpcError::Budget(_) => "at most eight times the bytes",
+            IpcError::OutOfMemory => "more memory",
         }
     }
 }

@@ -7,7 +7,7 @@ ghost use Rattle.arrow_ipc.specs.Fault.{map_ok};
 ghost use Rattle.arrow_ipc.specs.Parts.{parts_of};
 ghost use Rattle.arrow_ipc.specs.Tells.{Tells, Says};
 ghost use Rattle.arrow_ipc.specs.Columns.{entry_at, put_entry, texts_at, is_new, ids_at, finished, columns_by, column_at};
-ghost use Rattle.arrow_ipc.specs.Schema.{head_at, message_at, footer_at, cut, message_in, footer_in, schema_of, Meets, MeetsIn, schema_of_message, schema_of_footer};
+ghost use Rattle.arrow_ipc.specs.Schema.{head_at, message_at, footer_at, cut, size_at, message_of, message_in, footer_in, schema_of, Meets, MeetsIn, schema_of_message, schema_of_footer};
 
 use crate::fault::{Found, IpcError, IpcRule, broken, ensure};
 use crate::parts::{Kind, Parts, parts_at};
@@ -237,17 +237,40 @@ pub(crate) fn footer_at(bytes: &[u8]) -> Found<usize>
     }
 }
 
-/// The bytes of that size from a position on, which are some.
+/// The bytes of that size from a position on, which are some; or that rule is broken there.
 #[tactic(auto, unfolding(crate::specs::Schema::cut))]
-fn cut(bytes: &[u8], start: usize, size: usize) -> Found<&[u8]>
+fn cut(rule: IpcRule, bytes: &[u8], start: usize, size: usize) -> Found<&[u8]>
     requires { size < 2 ^ 32 }
-    ensures is { map_ok (λ m. m.now) result ≡ cut bytes.now start size }
+    ensures is { map_ok (λ m. m.now) result ≡ cut rule bytes.now start size }
     ensures small { IfOk result (λ m. length m.now < 2 ^ 32) }
 {
     match bytes.get(start..) {
         Some(rest) if 0 < size && size <= rest.len() => Ok(&rest[..size]),
-        _ => Err(broken(IpcRule::Envelope, start)),
+        _ => Err(broken(rule, start)),
     }
+}
+
+/// The size at a position of a stream, which is not cut off.
+fn size_at(bytes: &[u8], at: usize) -> Found<usize>
+    ensures is { result ≡ size_at bytes.now at }
+    ensures small { IfOk result (λ size. size < 2 ^ 32) }
+{
+    match integer_at(bytes, at, 4) {
+        Ok(size) => Ok(size),
+        Err(_) => Err(broken(IpcRule::Cut, at)),
+    }
+}
+
+/// The message of that size at a position of a stream; a size of 0 is the stream's end.
+fn message_of(bytes: &[u8], start: usize, size: usize) -> Found<&[u8]>
+    requires { size < 2 ^ 32 }
+    ensures is { map_ok (λ m. m.now) result ≡ message_of bytes.now start size }
+    ensures small { IfOk result (λ m. length m.now < 2 ^ 32) }
+{
+    if size == 0 {
+        return Err(broken(IpcRule::EndOfStream, start));
+    }
+    cut(IpcRule::Cut, bytes, start, size)
 }
 
 /// The message at the head of a stream.
@@ -256,9 +279,9 @@ pub(crate) fn message_in(bytes: &[u8]) -> Found<&[u8]>
     ensures is { map_ok (λ m. m.now) result ≡ message_in bytes.now }
     ensures small { IfOk result (λ m. length m.now < 2 ^ 32) }
 {
-    match integer_at(bytes, 0, 4)? {
-        0xffff_ffff => cut(bytes, 8, integer_at(bytes, 4, 4)?),
-        size => cut(bytes, 4, size),
+    match size_at(bytes, 0)? {
+        0xffff_ffff => message_of(bytes, 8, size_at(bytes, 4)?),
+        size => message_of(bytes, 4, size),
     }
 }
 
@@ -268,14 +291,14 @@ pub(crate) fn footer_in(bytes: &[u8]) -> Found<&[u8]>
     ensures is { map_ok (λ m. m.now) result ≡ footer_in bytes.now }
     ensures small { IfOk result (λ m. length m.now < 2 ^ 32) }
 {
-    ensure(bytes.len() >= 10, IpcRule::Envelope, 0)?;
+    ensure(bytes.len() >= 10, IpcRule::Magic, 0)?;
     let end = bytes.len() - 10;
     let size = match &bytes[end..] {
         [a, b, c, d, 65, 82, 82, 79, 87, 49] => u32::from_le_bytes([*a, *b, *c, *d]) as usize,
-        _ => return Err(broken(IpcRule::Envelope, end)),
+        _ => return Err(broken(IpcRule::Magic, end)),
     };
-    ensure(size <= end, IpcRule::Envelope, end)?;
-    cut(&bytes[..end], end - size, size)
+    ensure(size <= end, IpcRule::FooterSize, end)?;
+    cut(IpcRule::FooterSize, &bytes[..end], end - size, size)
 }
 
 /// What the table of a schema at a position says before its columns are read.
@@ -318,13 +341,13 @@ fn read_flatbuffer(alloc: Global, bytes: &[u8], place: Found<usize>) -> Read<Sch
 /// The schema at the head of an Arrow stream (Arrow, "Serialization and Interprocess Communication"): with the
 /// continuation marker or, as written before version 0.15, without it; what follows the message is not looked at.
 ///
-/// Errs with the rule that the message breaks, and the byte, counted from the message's first (of an `Envelope` from
-/// the stream's first); with `Budget` where the tables and texts to be read, each as often as it is reached, have more than
+/// Errs with the rule that the message breaks, and the byte, counted from the message's first (of `Cut` and
+/// `EndOfStream` from the stream's first); with `Budget` where the tables and texts to be read, each as often as it is reached, have more than
 /// eight times the message's bytes; and when out of memory. At most 61 levels of columns are read.
 ///
 /// ```rust
 /// let refused = read_schema(alloc, &[0xff, 0xff, 0xff, 0xff, 0, 0, 0, 0]);
-/// assert!(rt; matches!(refused, Err(IpcError::Broken(fault)) if fault.rule == IpcRule::Envelope));
+/// assert!(rt; matches!(refused, Err(IpcError::Broken(fault)) if fault.rule == IpcRule::EndOfStream));
 /// ```
 #[tactic(auto, unfolding(crate::specs::Schema::schema_of_message))]
 pub fn read_schema(alloc: Global, stream: &[u8]) -> Result<Schema, IpcError>
@@ -335,8 +358,8 @@ pub fn read_schema(alloc: Global, stream: &[u8]) -> Result<Schema, IpcError>
 }
 
 /// The schema of an Arrow file, from its end: the bytes of the file, or as many of its last ones as the footer, its
-/// size and the magic take. Errs as `read_schema`; the byte is counted from the footer's first (of an `Envelope` from the first
-/// that is given).
+/// size and the magic take. Errs as `read_schema`; the byte is counted from the footer's first (of `Magic` and `FooterSize` from
+/// the first that is given).
 #[tactic(auto, unfolding(crate::specs::Schema::schema_of_footer))]
 pub fn read_file_footer(alloc: Global, end: &[u8]) -> Result<Schema, IpcError>
     ensures { Meets (footer_in end.now) (schema_of_footer NESTING_LIMIT) result }

@@ -1,5 +1,5 @@
 //! A schema as the message at the head of a stream, and the blocks of which a message is made, each of a length that is a multiple of eight.
-ghost use Rattle.arrow_ipc.specs.Rules.{write_code, write_message};
+ghost use Rattle.arrow_ipc.specs.Rules.{write_code, write_message, write_wanted};
 ghost use Rattle.std.specs.Prelude.{◌≡◌, ◌+◌, ◌*◌, ◌<◌, ◌++◌, ◌∷◌, [], length, OnOk, map, IfOk, IfErr};
 ghost use Rattle.arrow_values.specs.View.{texts_of};
 ghost use Rattle.arrow_columns.specs.Column.{type_tree, column_tree};
@@ -46,8 +46,19 @@ impl WriteError {
     {
         match self {
             WriteError::Column(_) => "a type that no message can hold",
-            WriteError::TooLarge => "the schema takes 2^31 bytes or more",
+            WriteError::TooLarge => "a schema of 2^31 bytes or more",
             WriteError::OutOfMemory => "out of memory",
+        }
+    }
+
+    /// Returns what is asked.
+    pub fn wanted(self) -> &'static str
+        ensures { result.now ≡ write_wanted self }
+    {
+        match self {
+            WriteError::Column(_) => "a type of Schema.fbs, nested at most 61 levels deep",
+            WriteError::TooLarge => "fewer than 2^31 bytes",
+            WriteError::OutOfMemory => "more memory",
         }
     }
 }

@@ -1,7 +1,7 @@
 //! What the words ask.
 use crate::codes::{codes_text, explained, no_code};
 use crate::command::command;
-use crate::flags::flags_of;
+use crate::flags::{excluded, flags_of};
 use crate::weights::weights_of;
 use clap::error::ErrorKind;
 use clap::{ArgMatches, Error};
@@ -111,6 +111,9 @@ fn asked_of(alloc: Global, matches: &ArgMatches<'_>) -> Result<Result<Asked, Str
         files.push(String::from_str(alloc, word)?)?;
     }
     let flags = flags_of(matches);
+    if let Some(reason) = excluded(flags) {
+        return Ok(Err(String::from_str(alloc, reason)?));
+    }
     if flags.ipc && files.len() > 1 {
         return Ok(Err(String::from_str(alloc, "--ipc takes one file")?));
     }

@@ -1,6 +1,7 @@
 //! The codes of findings, as they are printed without a file (docs/FORMAT.md, 2.7).
 use column_check::WarningCode;
 use column_reports::Code;
+use file_check::{REFUSALS, Rule};
 use geoparquet::{GeoCode, Version};
 use parquet_columns::FileCode;
 use parquet_footer::FooterCode;
@@ -13,47 +14,73 @@ const FOOTER_CODES: [FooterCode; 2] = [FooterCode::NameNotText, FooterCode::KeyN
 /// How many edits lead from a word to a code that it is like, at most.
 const EDITS: usize = 3;
 
-/// Returns each code, in the order of docs/FORMAT.md: those of columns, of footers, of the other parts
-/// of a Parquet file, and of GeoParquet metadata. Errs only when out of memory.
-fn all_codes(alloc: Global) -> Result<Vec<Code>, AllocError> {
+/// A code that is known.
+#[derive(Clone, Copy)]
+enum Known {
+    /// Of a finding of a file that is reported.
+    Found(Code),
+    /// With which a file is refused.
+    Refused(Rule),
+}
+
+impl Known {
+    /// The code as a word.
+    fn word(self) -> &'static str {
+        match self {
+            Known::Found(code) => code.word(),
+            Known::Refused(rule) => rule.code,
+        }
+    }
+
+    /// The section of docs/FORMAT.md that has the rule.
+    fn section(self) -> &'static str {
+        match self {
+            Known::Found(Code::Column(_)) => "2.6",
+            Known::Refused(_) => "2.8",
+            Known::Found(Code::Text(_)) => "4.3",
+            Known::Found(Code::File(_)) => "4.5",
+            Known::Found(Code::Geo(_)) => "5",
+        }
+    }
+
+    /// The line of the code: its severity, the code, and when it is found.
+    fn line(self, alloc: Global) -> Result<String, AllocError> {
+        let word = self.word();
+        let (severity, rule) = match self {
+            Known::Found(code) => (code.severity().word(), code.rule()),
+            Known::Refused(rule) => ("error", rule.words),
+        };
+        format!(in alloc; "{severity}[{word}]: {rule}\n")
+    }
+}
+
+/// Returns each code, in the order of docs/FORMAT.md: those of columns, of refused files, of footers,
+/// of the other parts of a Parquet file, and of GeoParquet metadata. Errs only when out of memory.
+fn all_codes(alloc: Global) -> Result<Vec<Known>, AllocError> {
     let mut codes = Vec::new(alloc);
     for code in &WarningCode::ALL {
-        codes.push(Code::Column(*code))?;
+        codes.push(Known::Found(Code::Column(*code)))?;
+    }
+    for rule in &REFUSALS {
+        codes.push(Known::Refused(*rule))?;
     }
     for code in &FOOTER_CODES {
-        codes.push(Code::Text(*code))?;
+        codes.push(Known::Found(Code::Text(*code)))?;
     }
     for code in &FileCode::ALL {
-        codes.push(Code::File(*code))?;
+        codes.push(Known::Found(Code::File(*code)))?;
     }
     for code in &GeoCode::ALL {
-        codes.push(Code::Geo(*code))?;
+        codes.push(Known::Found(Code::Geo(*code)))?;
     }
     Ok(codes)
-}
-
-/// The section of docs/FORMAT.md that has the rule of a code.
-fn section(code: Code) -> &'static str {
-    match code {
-        Code::Column(_) => "2.6",
-        Code::Text(_) => "4.3",
-        Code::File(_) => "4.5",
-        Code::Geo(_) => "5",
-    }
-}
-
-/// The line of a code: its severity, the code, and when it is found.
-fn line(alloc: Global, code: Code) -> Result<String, AllocError> {
-    let severity = code.severity().word();
-    let (word, rule) = (code.word(), code.rule());
-    format!(in alloc; "{severity}[{word}]: {rule}\n")
 }
 
 /// Returns a line for each code, in the order of `all_codes`. Errs only when out of memory.
 pub(crate) fn codes_text(alloc: Global) -> Result<String, AllocError> {
     let mut text = String::new(alloc);
     for code in &all_codes(alloc)? {
-        text.push_str(line(alloc, *code)?.as_str())?;
+        text.push_str(code.line(alloc)?.as_str())?;
     }
     Ok(text)
 }
@@ -64,7 +91,7 @@ pub(crate) fn explained(alloc: Global, word: &str) -> Result<Option<String>, All
     let mut text = String::new(alloc);
     for code in &all_codes(alloc)? {
         if code.word() == word {
-            text.push_str(known(alloc, *code)?.as_str())?;
+            text.push_str(known_text(alloc, *code)?.as_str())?;
         }
     }
     if text.is_empty() {
@@ -74,22 +101,29 @@ pub(crate) fn explained(alloc: Global, word: &str) -> Result<Option<String>, All
 }
 
 /// What is known of a code: its line, what is expected and what helps, and where the rule stands.
-fn known(alloc: Global, code: Code) -> Result<String, AllocError> {
-    let mut text = line(alloc, code)?;
-    let expected = code.expected(Version::V1_1);
-    text.push_str(format!(in alloc; "expected: {expected}\n")?.as_str())?;
-    if let Some(help) = code.help(Version::V1_1) {
-        text.push_str(format!(in alloc; "help: {help}\n")?.as_str())?;
+fn known_text(alloc: Global, known: Known) -> Result<String, AllocError> {
+    let mut text = known.line(alloc)?;
+    if let Known::Found(code) = known {
+        let expected = code.expected(Version::V1_1);
+        text.push_str(format!(in alloc; "expected: {expected}\n")?.as_str())?;
+        if let Some(help) = code.help(Version::V1_1) {
+            text.push_str(format!(in alloc; "help: {help}\n")?.as_str())?;
+        }
     }
-    let section = section(code);
+    let section = known.section();
     text.push_str(format!(in alloc; "docs/FORMAT.md, {section}\n")?.as_str())?;
     Ok(text)
 }
 
-/// Returns whether a code is so called. Errs only when out of memory.
+/// Returns whether a code of findings is so called. Errs only when out of memory.
 pub(crate) fn is_code(alloc: Global, word: &str) -> Result<bool, AllocError> {
     let codes = all_codes(alloc)?;
-    Ok(codes.iter().any(|code| code.word() == word))
+    Ok(codes.iter().any(|code| matches!(code, Known::Found(_)) && code.word() == word))
+}
+
+/// Returns whether a code with which files are refused is so called.
+pub(crate) fn is_refusal(word: &str) -> bool {
+    REFUSALS.iter().any(|rule| rule.code == word)
 }
 
 /// Returns why a word that is no code is refused: with the code that it is most like, if it is like

@@ -2,8 +2,21 @@
 use clap::{Arg, ArgAction, Command};
 use std::alloc::{AllocError, Global};
 
+/// The words behind `--format`.
+const FORMATS: &[&str] = &["text", "json", "github", "sarif"];
+
 /// What stands behind the options in the help.
-const AFTER: &str = "--json, --lines and --ipc exclude one another.
+const AFTER: &str =
+    "--format, --lines and --ipc exclude one another, as do --json, --lines and --ipc; of --format and
+--json, and of two formats, the later counts. With --format github each finding that is printed is a
+command of a workflow of GitHub, and with --format sarif a result of a log of SARIF 2.1.0; and so is
+why a file is refused, or what is expected and not met.
+
+--quiet is for text, where it prints a line for each finding that counts as an error, with the file's
+name, and for github and sarif, of which it leaves out the other findings. --problems leaves out of
+text the rows of columns and the names of files of which nothing is found; github and sarif have
+findings alone. What is asked and not met, and why a file is refused, is said with both. Both exclude
+--json, --lines and --ipc.
 
 --expect may stand several times. COLUMN is the name of a column, WANT what it is to hold, with
 commas between: a kind, a coordinate type, a dimension, an encoding (native, WKB, WKT), a CRS;
@@ -28,17 +41,51 @@ fn flag<'a>(alloc: Global, name: &'a str, help: &'a str) -> Arg<'a> {
 
 /// The options that say what is printed of columns.
 fn with_outputs<'a>(alloc: Global, command: Command<'a>) -> Result<Command<'a>, AllocError> {
-    let json = "Print a line of JSON for each column, in place of a table";
+    let json = "Print a line of JSON for each column: --format json";
     let lines = "Print the columns as lines of fields, in place of what they hold";
     let ipc = "Print the columns of one file as an Arrow stream of its schema alone";
     command
-        .arg(flag(alloc, "json", json))?
-        .arg(flag(alloc, "lines", lines).conflicts_with("json")?)?
+        .arg(format(alloc)?)?
+        .arg(flag(alloc, "json", json).overrides_with("format")?)?
+        .arg(
+            flag(alloc, "lines", lines)
+                .conflicts_with("format")?
+                .conflicts_with("json")?,
+        )?
         .arg(
             flag(alloc, "ipc", ipc)
+                .conflicts_with("format")?
                 .conflicts_with("json")?
                 .conflicts_with("lines")?,
         )
+}
+
+/// The option that takes a format.
+fn format<'a>(alloc: Global) -> Result<Arg<'a>, AllocError> {
+    Arg::new(alloc, "format")
+        .long("format")
+        .value_name("FORMAT")
+        .value_parser(FORMATS)
+        .help("Print a table, lines of JSON, or findings alone")
+        .action(ArgAction::Set)
+        .overrides_with("json")
+}
+
+/// The options that leave out what needs no care.
+fn with_less<'a>(alloc: Global, command: Command<'a>) -> Result<Command<'a>, AllocError> {
+    let quiet = "Print a line for each error, and nothing else";
+    let problems = "Print only the columns and the files of which something is found";
+    command
+        .arg(of_text(flag(alloc, "quiet", quiet).short('q'))?)?
+        .arg(of_text(flag(alloc, "problems", problems))?)
+}
+
+/// An option that goes with no other output than text.
+fn of_text<'a>(option: Arg<'a>) -> Result<Arg<'a>, AllocError> {
+    option
+        .conflicts_with("json")?
+        .conflicts_with("lines")?
+        .conflicts_with("ipc")
 }
 
 /// The options that add to what is said.
@@ -70,11 +117,9 @@ fn coded<'a>(alloc: Global, name: &'a str, help: &'a str) -> Arg<'a> {
 
 /// The options for which the status counts.
 fn with_demands<'a>(alloc: Global, command: Command<'a>) -> Result<Command<'a>, AllocError> {
-    let quiet = "Print nothing of the columns";
     let require_geometry = "Give status 1 where a file has no column of geometries";
     let expect = "Give status 1 where the column holds other geometries, or none";
     command
-        .arg(flag(alloc, "quiet", quiet))?
         .arg(flag(alloc, "require-geometry", require_geometry))?
         .arg(
             Arg::new(alloc, "expect")
@@ -113,6 +158,7 @@ and what is wrong with GeoParquet metadata",
     let command = with_outputs(alloc, command)?;
     let command = with_more(alloc, command)?;
     let command = with_weights(alloc, command)?;
+    let command = with_less(alloc, command)?;
     let command = with_demands(alloc, command)?;
     let command = with_codes(alloc, command)?;
     command.arg(

@@ -1,15 +1,44 @@
-//! The options that stand alone.
+//! The options that stand alone, and the format.
 use clap::ArgMatches;
-use file_check::Flags;
+use file_check::{Flags, Format};
+
+/// Why lines of JSON are not quiet.
+const QUIET_JSON: &str = "the argument '--format json' cannot be used with '--quiet'";
+
+/// Why lines of JSON are not those of problems alone.
+const PROBLEMS_JSON: &str = "the argument '--format json' cannot be used with '--problems'";
 
 /// The options among what is read.
 pub(crate) fn flags_of(matches: &ArgMatches<'_>) -> Flags {
     Flags {
-        json: matches.get_flag("json"),
+        format: format_of(matches),
         lines: matches.get_flag("lines"),
         ipc: matches.get_flag("ipc"),
         infer: matches.get_flag("infer"),
         quiet: matches.get_flag("quiet"),
+        problems: matches.get_flag("problems"),
         require_geometry: matches.get_flag("require-geometry"),
+    }
+}
+
+/// The format.
+fn format_of(matches: &ArgMatches<'_>) -> Format {
+    if matches.get_flag("json") {
+        return Format::Json;
+    }
+    match matches.get_str("format") {
+        Some("json") => Format::Json,
+        Some("github") => Format::Github,
+        Some("sarif") => Format::Sarif,
+        _ => Format::Text,
+    }
+}
+
+/// Why options exclude one another, where a format does. What stands alone is excluded by the command.
+pub(crate) fn excluded(flags: Flags) -> Option<&'static str> {
+    match flags.format {
+        Format::Json if flags.quiet => Some(QUIET_JSON),
+        Format::Json if flags.problems => Some(PROBLEMS_JSON),
+        _ => None,
     }
 }

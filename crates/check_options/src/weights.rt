@@ -1,5 +1,5 @@
 //! Which findings are shown and how much each counts: `--notes`, `--deny` and `--allow`.
-use crate::codes::{is_code, no_code};
+use crate::codes::{is_code, is_refusal, no_code};
 use clap::ArgMatches;
 use column_reports::{CodeWeight, Weight, Weights};
 use std::alloc::{AllocError, Global};
@@ -18,7 +18,8 @@ struct Said<'a> {
     weight: Weight,
 }
 
-/// Returns what is asked of findings, or why it cannot be: a word that is no code. Errs only when out
+/// Returns what is asked of findings, or why it cannot be: a word that is no
+/// code, or one that is allowed and with which files are refused. Errs only when out
 /// of memory.
 pub(crate) fn weights_of(
     alloc: Global,
@@ -33,11 +34,18 @@ pub(crate) fn weights_of(
                 code: String::from_str(alloc, said.word)?,
                 weight: said.weight,
             })?;
-        } else {
+        } else if !is_refusal(said.word) {
             return Ok(Err(no_code(alloc, said.word)?));
+        } else if matches!(said.weight, Weight::Allow) {
+            return Ok(Err(not_allowed(alloc, said.word)?));
         }
     }
     Ok(Ok(weights))
+}
+
+/// Returns why a code with which files are refused is not allowed. Errs only when out of memory.
+fn not_allowed(alloc: Global, word: &str) -> Result<String, AllocError> {
+    format!(in alloc; "'{word}' cannot be allowed: no report is made of such a file")
 }
 
 /// The words behind both options, the last first.

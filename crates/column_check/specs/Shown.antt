@@ -1,4 +1,4 @@
--- What stands at a place, as a warning shows it.
+-- What stands at a place, as a finding shows it.
 use Rattle.std.specs.Prelude.{◌++◌, codes, length, take, nat_lt, if◌then◌else◌}
 use Rattle.std.specs.Str.{chars, encode_utf8_all}
 use Rattle.json.specs.Json.{Json}

@@ -15,11 +15,11 @@ ghost use Rattle.column_check.specs.NotWhole.{not_whole_in};
 ghost use Rattle.column_check.specs.Said.{said, said_if};
 
 use crate::code::WarningCode;
+use crate::excerpt::shown_value;
 use crate::malformed::push_malformed;
 use crate::metadata::ColumnMetadata;
 use crate::not_whole::{Place, first_not_whole};
 use crate::said::{push_in, value_in};
-use crate::shown::shown_value;
 use crate::warning::Warning;
 use crs_identity::{FormName, form_name};
 use geoarrow_meta::{CrsType, holds_whole_numbers};

@@ -11,8 +11,8 @@ ghost use Rattle.column_check.specs.Walk.{telling, tell_all};
 ghost use Rattle.column_check.specs.declared.code.WarningCode.TheVariants.{CrsMalformed};
 
 use crate::code::WarningCode;
+use crate::excerpt::shown_value;
 use crate::said::{value_in, warning_in};
-use crate::shown::shown_value;
 use crate::warning::Warning;
 use crate::way::{Rest, finish, tell};
 use crs_identity::{Part, malformed_parts};

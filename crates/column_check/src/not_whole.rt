@@ -6,9 +6,9 @@ ghost use Rattle.column_check.specs.NotWhole.{is_not_whole, of_number, first_not
 ghost use Rattle.column_check.specs.Said.{said};
 
 use crate::code::WarningCode;
+use crate::excerpt::shown;
 use crate::place::{item_place, member_place};
 use crate::said::warning_in;
-use crate::shown::shown;
 use crate::warning::Warning;
 use geoarrow_meta::holds_whole_numbers;
 use json::Value;

@@ -13,12 +13,12 @@ ghost use Rattle.column_check.specs.declared.metadata.MetadataFault.TheVariants.
 use crate::along::{names_along, type_along};
 use crate::code::WarningCode;
 use crate::data_type::TypeFault;
+use crate::excerpt::{shown, type_shown};
 use crate::finding::Reasons;
 use crate::malformed::found_at;
 use crate::metadata::MetadataFault;
 use crate::old_names::current_name;
 use crate::said::{push_in, value_in};
-use crate::shown::{shown, type_shown};
 use crate::warning::Warning;
 use arrow_columns::{AnyType, SchemaColumn};
 use geoarrow_layout::ExtensionName;

@@ -5,7 +5,7 @@ ghost use Rattle.column_check.specs.Parts.{spot_at};
 ghost use Rattle.column_check.specs.Walk.{names_on, shown_text, spot_if, telling, tell, tell_all, told};
 
 use crate::code::WarningCode;
-use crate::shown::type_shown;
+use crate::excerpt::type_shown;
 use crate::warning::Warning;
 use arrow_values::DataType;
 use std::alloc::{AllocError, Global};

@@ -10,7 +10,7 @@ use Rattle.arrow_ipc.specs.Schema.{SchemaTree, Meets, footer_in, size_before_mag
 use Rattle.arrow_ipc.specs.declared.fault.IpcFault.{IpcFault}
 use Rattle.arrow_ipc.specs.declared.fault.IpcError.{IpcError}
 use Rattle.arrow_ipc.specs.declared.fault.IpcError.TheVariants.{Broken, Budget, OutOfMemory}
-use Rattle.arrow_ipc.specs.declared.fault.IpcRule.TheVariants.{Envelope}
+use Rattle.arrow_ipc.specs.declared.fault.IpcRule.TheVariants.{Magic, FooterSize}
 use Rattle.arrow_ipc.specs.declared.schema.Schema.{Schema}
 use Rattle.arrow_columns.specs.Column.{ColumnTree, column_tree}
 use Rattle.arrow_ipc.specs.Entries.{entries_of_footer}
@@ -23,7 +23,7 @@ use Rattle.column_files.specs.declared.opening.File.{File}
 -- ---- what is found
 
 -- the last ten bytes tell a size, or no magic stands there
-told : (tail : List ℕ) → ((at : ℕ) → size_before_magic at tail ≡ Ok (size_in tail)) ⊎ ((at : ℕ) → size_before_magic at tail ≡ breaks Envelope at)
+told : (tail : List ℕ) → ((at : ℕ) → size_before_magic at tail ≡ Ok (size_in tail)) ⊎ ((at : ℕ) → size_before_magic at tail ≡ breaks Magic at)
 told [] = inr (λ at. refl)
 told (a ∷ []) = inr (λ at. refl)
 told (a ∷ b ∷ []) = inr (λ at. refl)
@@ -31,7 +31,7 @@ told (a ∷ b ∷ c ∷ []) = inr (λ at. refl)
 told (a ∷ b ∷ c ∷ d ∷ magic) = by_magic (bytes_eq magic (codes "ARROW1")) refl
   where
     by_magic : (t : Bool) → bytes_eq magic (codes "ARROW1") ≡ t
-        → ((at : ℕ) → size_before_magic at (a ∷ b ∷ c ∷ d ∷ magic) ≡ Ok (size_in (a ∷ b ∷ c ∷ d ∷ magic))) ⊎ ((at : ℕ) → size_before_magic at (a ∷ b ∷ c ∷ d ∷ magic) ≡ breaks Envelope at)
+        → ((at : ℕ) → size_before_magic at (a ∷ b ∷ c ∷ d ∷ magic) ≡ Ok (size_in (a ∷ b ∷ c ∷ d ∷ magic))) ⊎ ((at : ℕ) → size_before_magic at (a ∷ b ∷ c ∷ d ∷ magic) ≡ breaks Magic at)
     by_magic true is = inl (λ at. rw is refl)
     by_magic false is = inr (λ at. rw is refl)
 
@@ -60,25 +60,25 @@ module _ (bytes : List ℕ) (n : ℕ) (len : length bytes ≡ n + 10) where
   before : length bytes - 10 ≡ n
   before = omega (arith, len)
 
-  no_magic : size_before_magic n (drop n bytes) ≡ breaks Envelope n → footer_in bytes ≡ breaks Envelope n
+  no_magic : size_before_magic n (drop n bytes) ≡ breaks Magic n → footer_in bytes ≡ breaks Magic n
   unfolding footer_in
   no_magic is = rw (long, before, is) refl
 
-  too_great : (size : ℕ) → size_before_magic n (drop n bytes) ≡ Ok size → n < size → footer_in bytes ≡ breaks Envelope n
+  too_great : (size : ℕ) → size_before_magic n (drop n bytes) ≡ Ok size → n < size → footer_in bytes ≡ breaks FooterSize n
   unfolding footer_in
   too_great size is great =
       let fits : nat_le size n ≡ false = lt-leb size n great in
       rw (long, before, is, fits) refl
 
   sized : (size : ℕ) → size_before_magic n (drop n bytes) ≡ Ok size → size ≤ n
-      → footer_in bytes ≡ (if nat_lt 0 size then Ok (take size (drop (n - size) (take n bytes))) else breaks Envelope (n - size))
+      → footer_in bytes ≡ (if nat_lt 0 size then Ok (take size (drop (n - size) (take n bytes))) else breaks FooterSize (n - size))
   unfolding footer_in cut
   sized size is fits =
       let fit : nat_le size n ≡ true = le-leb size n fits in
       let whole : nat_le (n - size + size) (length (take n bytes)) ≡ true = le-leb (n - size + size) (length (take n bytes)) (omega (arith, fits, len, length-take-le n bytes (omega (arith, len)))) in
       rw (long, before, is, fit, whole) (and_true (nat_lt 0 size) (take size (drop (n - size) (take n bytes))) (n - size))
     where
-      and_true : (t : Bool) (footer : List ℕ) (at : ℕ) → (if t && true then Ok footer else breaks Envelope at) ≡ (if t then Ok footer else breaks Envelope at)
+      and_true : (t : Bool) (footer : List ℕ) (at : ℕ) → (if t && true then Ok footer else breaks FooterSize at) ≡ (if t then Ok footer else breaks FooterSize at)
       and_true true footer at = refl
       and_true false footer at = refl
 
@@ -86,14 +86,14 @@ module _ (bytes : List ℕ) (n : ℕ) (len : length bytes ≡ n + 10) where
 not_ok : (fault : IpcFault) (footer : List ℕ) → Err fault ≡ Ok footer → ⊥
 not_ok fault footer is = cc
 
-too_short : (bytes : List ℕ) → length bytes < 10 → footer_in bytes ≡ breaks Envelope 0
+too_short : (bytes : List ℕ) → length bytes < 10 → footer_in bytes ≡ breaks Magic 0
 unfolding footer_in
 too_short bytes short =
     let is : nat_lt (length bytes) 10 ≡ true = lt-ltb (length bytes) 10 short in
     rw is refl
 
 cut_fits : (bytes footer : List ℕ) (n size at : ℕ) (t : Bool) → length bytes ≡ n + 10 → size ≤ n
-    → (if t then Ok (take size (drop (n - size) (take n bytes))) else breaks Envelope at) ≡ Ok footer → 10 + length footer ≤ length bytes
+    → (if t then Ok (take size (drop (n - size) (take n bytes))) else breaks FooterSize at) ≡ Ok footer → 10 + length footer ≤ length bytes
 cut_fits bytes footer n size at true len fits is =
     let front : length (take n bytes) ≡ n = length-take-le n bytes (omega (arith, len)) in
     let rest = length-drop (n - size) (take n bytes) in
@@ -128,9 +128,9 @@ moved n (Ok footer) = Ok footer
 moved n (Err fault) = Err (record { rule = fault.rule; at = n + fault.at })
 
 choose : (t : Bool) (by at place : ℕ) (one other : List ℕ) → other ≡ one → place ≡ by + at
-    → (if t then Ok other else breaks Envelope place) ≡ moved by (if t then Ok one else breaks Envelope at)
+    → (if t then Ok other else breaks FooterSize place) ≡ moved by (if t then Ok one else breaks FooterSize at)
 choose true by at place one other same is = ap Ok same
-choose false by at place one other same is = ap (breaks Envelope) is
+choose false by at place one other same is = ap (breaks FooterSize) is
 
 module _ (front end : List ℕ) (n : ℕ) (len : length end ≡ n + 10) where
   all_len : length (front ++ end) ≡ length front + n + 10
@@ -214,7 +214,7 @@ of_whole front end fits r is = by_result r is
         subst (λ f. Refuses (front ++ end) f error) (sym found) (of_refusal front end (footer_in end) refl error inner meets is)
     by_result (Err (NoField k fault)) is = absurd is
     by_result (Err Empty) is = absurd is
-    by_result (Err (Foreign foreign)) is = absurd is
+    by_result (Err (Foreign foreign found)) is = absurd is
     by_result (Err ReportTooLarge) is = absurd is
     by_result (Err (Parquet error)) is = absurd is
     by_result (Err OutOfMemoryFault) is = tt
@@ -239,7 +239,7 @@ pub cut_begin : (bytes : List ℕ) (n size : ℕ) → length bytes ≡ n + 10 �
 cut_begin bytes n size len some fits told =
     let test : nat_lt 0 size ≡ true = lt-ltb 0 size some in
     let footer = take size (drop (n - size) (take n bytes)) in
-    let found : footer_in bytes ≡ Ok footer = sized bytes n len size told fits ∙ ap (λ t. if t then Ok footer else breaks Envelope (n - size)) test in
+    let found : footer_in bytes ≡ Ok footer = sized bytes n len size told fits ∙ ap (λ t. if t then Ok footer else breaks FooterSize (n - size)) test in
     let front : length (take n bytes) ≡ n = length-take-le n bytes (omega (arith, len)) in
     let cut_len : length footer ≡ size = length-take-le size (drop (n - size) (take n bytes)) (omega (arith, front, length-drop (n - size) (take n bytes), fits)) in
     let begins : footer_begin bytes (footer_in bytes) ≡ length bytes - 10 - length footer = ap (footer_begin bytes) found in

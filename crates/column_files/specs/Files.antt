@@ -1,6 +1,7 @@
 -- Which columns the bytes of a file denote, with all that is read of it beside them; or why they denote none.
-use Rattle.std.specs.Prelude.{◌≡◌, ◌≢◌, ◌⊎◌, ℕ, ◌+◌, ◌-◌, ◌^◌, ◌≤◌, min, true, List, [], ◌∷◌, ◌++◌, length, drop, map, Option, Result, Ok, Err, ⊤}
+use Rattle.std.specs.Prelude.{◌≡◌, ◌≢◌, ◌⊎◌, ℕ, ◌+◌, ◌-◌, ◌^◌, ◌≤◌, min, true, List, [], ◌∷◌, ◌++◌, length, drop, map, Option, option_map, string_bytes, Result, Ok, Err, ⊤}
 use Rattle.std.specs.Int.{w32, from_le_bytes}
+use Rattle.arrow_values.specs.Tree.{Text as Words}
 use Rattle.arrow_values.specs.Texts.{text_at}
 use Rattle.arrow_values.specs.View.{texts_of}
 use Rattle.arrow_columns.specs.Column.{ColumnTree, column_tree}
@@ -15,9 +16,12 @@ use Rattle.arrow_ipc.specs.declared.schema.Schema.{Schema}
 use Rattle.std.specs.declared.vec.Vec.{Vec}
 use Rattle.std.specs.declared.alloc.Global.{Global}
 use Rattle.column_files.specs.Forms.{IsForm, unmarked}
+use Rattle.column_files.specs.ForeignFound.{foreign_found}
+use Rattle.column_files.specs.LineFindings.{lines_findings}
 use Rattle.column_files.specs.LineItems.{LineItem, LinesGive, bad_in, refuses_file, AreKept, IsOfItems}
-use Rattle.column_files.specs.Geo.{Geo, absent, geo_key, geo_of, of_footer, of_schema}
+use Rattle.column_files.specs.Geo.{Geo, absent, geo_of, of_footer, of_schema}
 use Rattle.column_files.specs.declared.bad_lines.BadLine.{BadLine}
+use Rattle.column_files.specs.declared.foreign.Foreign.{Foreign as Format}
 use Rattle.column_files.specs.declared.form.Form.{Form}
 use Rattle.column_files.specs.declared.form.Form.TheVariants.{ArrowFile, ArrowStream, Parquet, Lines, Foreign}
 use Rattle.column_files.specs.declared.columns.FileFault.{FileFault}
@@ -26,7 +30,7 @@ use Rattle.column_files.specs.declared.line.LineFault.{LineFault}
 use Rattle.column_files.specs.declared.lines.LinesRead.{LinesRead}
 use Rattle.column_files.specs.declared.opening.File.{File}
 use Rattle.parquet_columns.specs.Reads as parquet
-use Rattle.parquet_columns.specs.Findings.{Finding, finding}
+use Rattle.parquet_columns.specs.Findings.{Finding, finding, geo_key}
 use Rattle.parquet_columns.specs.Entries.{repeated_entries}
 use Rattle.parquet_columns.specs.declared.code.FilePart.TheVariants.{Field}
 use Rattle.parquet_columns.specs.declared.error.SchemaError.{SchemaError}
@@ -34,12 +38,9 @@ use Rattle.parquet_columns.specs.declared.footer.FooterColumns.{FooterColumns}
 use Rattle.parquet_footer.specs.Findings.{finding as text_finding}
 use Rattle.parquet_footer.specs.Spelled.{Spelled}
 
--- no elements say anything, as in each file but a Parquet file; and nothing is found, as in lines
+-- no elements say or refute anything, as in each file but a Parquet file
 abbrev pub HasNoElements : File → Type 0
-HasNoElements file = (file.elements.items ≡ []) × (file.texts.items ≡ [])
-
-abbrev pub HasNoFooter : File → Type 0
-HasNoFooter file = HasNoElements file × (file.findings.items ≡ [])
+HasNoElements file = (file.elements.items ≡ []) × (file.texts.items ≡ []) × (file.refuted.items ≡ [])
 
 -- no line is bad, as in each file but one of lines
 abbrev pub HasNoBadLines : File → Type 0
@@ -70,14 +71,15 @@ AreLinesRead text (Err (NoField n fault)) =
 AreLinesRead text (Err OutOfMemory) = ⊤
 AreLinesRead text (Err fault) = ⊥
 
--- what is read of a file of lines, beside which nothing else is: its columns and bad lines, of which there are some; or that it has neither; or its first
--- line that is not blank refuses it
+-- what is read of a file of lines: its columns and bad lines, of which there are some, with what is found of its first bytes; or that it has neither; or its
+-- first line that is not blank refuses it
 abbrev pub lines_read : File → LinesRead
 lines_read file = record { columns = file.columns; bad_lines = file.bad_lines }
 
 abbrev pub IsOfLines : List ℕ → Result File FileFault → Type 0
 IsOfLines text (Ok file) =
-    AreAllRead text (Ok (lines_read file)) × ((file.columns.items ≢ []) ⊎ (file.bad_lines.first.items ≢ [])) × HasNoFooter file × (geo_of file.geo ≡ absent)
+    AreAllRead text (Ok (lines_read file)) × ((file.columns.items ≢ []) ⊎ (file.bad_lines.first.items ≢ [])) × HasNoElements file
+    × (map finding file.findings.items ≡ lines_findings text) × (geo_of file.geo ≡ absent)
 IsOfLines text (Err Empty) = LinesGive (unmarked text) [] []
 IsOfLines text (Err fault) = AreAllRead text (Err fault)
 
@@ -131,7 +133,7 @@ HasGeo footer geo = (value : Option Spelled) × parquet.IsValueRead geo_key foot
 
 -- the columns of a file, what their elements say, and what is found of them, as a footer gives them
 abbrev pub footer_columns : File → FooterColumns
-footer_columns file = record { columns = file.columns; elements = file.elements; findings = file.findings }
+footer_columns file = record { columns = file.columns; elements = file.elements; refuted = file.refuted; findings = file.findings }
 
 -- what is read of a Parquet file with that footer: its columns and elements, all that is found, and the value of the key `geo`; or how it is refused
 abbrev pub IsParquetRead : Result (List ℕ) SchemaError → Result File FileFault → Type 0
@@ -141,6 +143,18 @@ IsParquetRead footer (Ok file) =
 IsParquetRead footer (Err (ParquetFault error)) = parquet.IsFileRead footer (Err error)
 IsParquetRead footer (Err fault) = ⊥
 
+-- ---- formats that are not read
+
+-- what is read of a file of that format in which that is found, where more is said than the name of the format
+abbrev pub IsForeign : Format → Option Words → FileFault → Type 0
+IsForeign foreign more (ForeignFault it found) = (it ≡ foreign) × (option_map string_bytes found ≡ more)
+IsForeign foreign more OutOfMemory = ⊤
+IsForeign foreign more fault = ⊥
+
+abbrev pub IsForeignRead : Format → Option Words → Result File FileFault → Type 0
+IsForeignRead foreign more (Ok file) = ⊥
+IsForeignRead foreign more (Err fault) = IsForeign foreign more fault
+
 -- ---- files
 
 -- what is read of the bytes of a file in that format
@@ -149,7 +163,7 @@ IsFileRead ArrowFile bytes r = IsFooterRead 0 bytes r
 IsFileRead ArrowStream bytes r = IsSchemaRead (message_in bytes) (schema_of_message 61) entries_of_message r
 IsFileRead Parquet bytes r = IsParquetRead (parquet.footer_in bytes) r
 IsFileRead Lines bytes r = IsOfLines bytes r
-IsFileRead (Foreign foreign) bytes r = r ≡ Err (ForeignFault foreign)
+IsFileRead (Foreign foreign) bytes r = IsForeignRead foreign (foreign_found foreign bytes) r
 
 -- the number in the first four bytes, the lowest first; 0 where there are fewer
 abbrev pub size_in : List ℕ → ℕ

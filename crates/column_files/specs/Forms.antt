@@ -70,8 +70,11 @@ behind_blanks (code ∷ rest) = if is_blank_code code then behind_blanks rest el
 abbrev pub mark : List ℕ
 mark = 0xEF ∷ 0xBB ∷ 0xBF ∷ []
 
+abbrev pub is_marked : List ℕ → Bool
+is_marked text = bytes_eq mark (take 3 text)
+
 abbrev pub mark_len : List ℕ → ℕ
-mark_len text = if bytes_eq mark (take 3 text) then 3 else 0
+mark_len text = if is_marked text then 3 else 0
 
 abbrev pub unmarked : List ℕ → List ℕ
 unmarked text = drop (mark_len text) text

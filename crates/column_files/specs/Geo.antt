@@ -1,13 +1,9 @@
 -- What stands at the key `geo` of the metadata of a file.
-use Rattle.std.specs.Prelude.{Option, None, Some, string_bytes, codes}
+use Rattle.std.specs.Prelude.{Option, None, Some, string_bytes}
 use Rattle.arrow_values.specs.Tree.{Text}
 use Rattle.parquet_footer.specs.Spelled.{Spelled, spelled}
 use Rattle.column_files.specs.declared.geo.GeoText.{GeoText}
 use Rattle.column_files.specs.declared.geo.GeoText.TheVariants.{Absent, Footer, Schema}
-
--- the key of GeoParquet metadata
-abbrev pub geo_key : Text
-geo_key = codes "geo"
 
 -- nothing; the value of the key in a footer, with the byte where it begins; or its text in the metadata of a schema
 pub data Geo : Type 0 where

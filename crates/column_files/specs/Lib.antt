@@ -1,9 +1,11 @@
 pub mod Foreigns
 pub mod Forms
+pub mod ForeignFound
 pub mod Lines
 pub mod LineFaults
 pub mod LineItems
 pub mod ColumnLines
+pub mod LineFindings
 pub mod Geo
 pub mod Files
 pub mod Faults

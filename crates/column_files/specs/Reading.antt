@@ -9,6 +9,7 @@ use Rattle.line_reader.specs.Sources.{GivesUpTo}
 use Rattle.arrow_columns.specs.Column.{column_tree}
 use Rattle.arrow_columns.specs.declared.column.SchemaColumn.{SchemaColumn}
 use Rattle.column_files.specs.Forms.{head_bytes}
+use Rattle.column_files.specs.ForeignFound.{looked_at}
 use Rattle.column_files.specs.Lines.{LinesTo}
 use Rattle.column_files.specs.LineItems.{LineItem, AreItems}
 use Rattle.column_files.specs.Files.{bad_line, IsFileRead, size_in, HasFooter}
@@ -33,6 +34,10 @@ passed r = passed_lines r.lines
 
 abbrev pub has_item : {R : Type 0} → LineColumns R → Bool
 has_item r = r.has_item
+
+-- whether a byte order mark stands before the first
+abbrev pub has_mark : {R : Type 0} → LineColumns R → Bool
+has_mark r = r.is_marked
 
 -- the text whose lines are left, where the bytes of the source are known
 abbrev pub text_left : {R : Type 0} → (R → Option (List ℕ)) → LineColumns R → Option (List ℕ)
@@ -81,10 +86,10 @@ abbrev pub GivesAll : Option (List ℕ) → Option (List ℕ) → List ℕ → T
 GivesAll old new bytes = Consumes old new bytes × IsAtEnd new
 
 -- the source gives, behind the first bytes, those that belong to its schema: of a stream what the first message has beyond these, whose size stands
--- behind its marker; of a format that is not read none; else all
+-- behind its marker; of a format that is not read those that tell what is found in it; else all
 abbrev pub GivesSchema : Form → List ℕ → Option (List ℕ) → Option (List ℕ) → List ℕ → Type 0
 GivesSchema ArrowStream head old new more = GivesUpTo (8 + size_in (drop 4 head) - length head) old new more
-GivesSchema (Foreign foreign) head old new more = GivesUpTo 0 old new more
+GivesSchema (Foreign foreign) head old new more = GivesUpTo (looked_at foreign - length head) old new more
 GivesSchema form head old new more = GivesAll old new more
 
 -- the source gives these bytes, the first among them; of an Arrow or Parquet file, whose end alone may be read, it is at its end

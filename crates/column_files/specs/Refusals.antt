@@ -1,88 +1,116 @@
--- Why a file is refused, as every way in says it (docs/FORMAT.md, 2.8): the code, what is wrong, the place, what is found and what to try.
-use Rattle.std.specs.Prelude.{ℕ, ◌+◌, min, Option, None, Some, codes}
+-- Why a file is refused, as every way in says it (docs/FORMAT.md, 2.8): the code, the place, what is found, what is expected and what helps.
+use Rattle.std.specs.Prelude.{ℕ, ◌+◌, min, Option, None, Some, codes, string_bytes}
 use Rattle.arrow_values.specs.Tree.{Text}
+use Rattle.arrow_values.specs.Texts.{text_of}
 use Rattle.arrow_ipc.specs.Rules as ipc
 use Rattle.arrow_ipc.specs.declared.fault.IpcError.{IpcError}
 use Rattle.arrow_ipc.specs.declared.fault.IpcError.TheVariants as messages
+use Rattle.arrow_ipc.specs.declared.fault.IpcRule.{IpcRule}
+use Rattle.arrow_ipc.specs.declared.fault.IpcRule.TheVariants as rules
 use Rattle.arrow_ipc.specs.declared.write.WriteError.{WriteError}
 use Rattle.arrow_ipc.specs.declared.write.WriteError.TheVariants as writes
-use Rattle.parquet_columns.specs.Budget.{too_large}
+use Rattle.parquet_columns.specs.Budget.{too_large, within_budget}
 use Rattle.parquet_columns.specs.Rules as parquet
 use Rattle.parquet_columns.specs.declared.error.SchemaError.{SchemaError}
 use Rattle.parquet_columns.specs.declared.error.SchemaError.TheVariants as schemas
 use Rattle.parquet_footer.specs.declared.fault.FooterError.TheVariants as footers
 use Rattle.column_files.specs.Foreigns.{format_name, format_help}
+use Rattle.column_files.specs.declared.bad_lines.BadLine.{BadLine}
 use Rattle.column_files.specs.declared.columns.FileFault.{FileFault}
 use Rattle.column_files.specs.declared.columns.FileFault.TheVariants.{NoField, Empty, Foreign, ReportTooLarge, Ipc, Parquet, OutOfMemory}
 use Rattle.column_files.specs.declared.form.Form.{Form}
-use Rattle.column_files.specs.declared.form.Form.TheVariants.{ArrowFile}
+use Rattle.column_files.specs.declared.form.Form.TheVariants.{ArrowFile, ArrowStream}
 use Rattle.column_files.specs.declared.line.LineFault.{LineFault}
 use Rattle.column_files.specs.declared.line.LineFault.TheVariants as lines
+use Rattle.column_files.specs.declared.refusal.Fault.{Fault}
 use Rattle.column_files.specs.declared.refusal.Place.{Place}
 use Rattle.column_files.specs.declared.refusal.Place.TheVariants.{File, Line, LineByte, Byte, MessageByte, FooterByte, Element, Column}
 
 -- ---- codes
 
 abbrev pub line_code : LineFault → Text
-line_code (lines.NotUtf8 before) = codes "LineNotUtf8"
-line_code (lines.NotJson at) = codes "LineNotJson"
-line_code (lines.OpenObject at) = codes "LineNotJson"
-line_code (lines.OpenArray at) = codes "LineNotJson"
-line_code lines.NotObject = codes "LineNotObject"
 line_code lines.GeoJson = codes "ForeignFormat"
-line_code lines.Name = codes "LineName"
-line_code lines.Nullable = codes "LineNullable"
-line_code lines.Metadata = codes "LineMetadata"
-line_code lines.TypeUnknown = codes "LineType"
+line_code fault = codes "BadLine"
 
-abbrev pub fault_code : FileFault → Text
-fault_code (NoField before fault) = line_code fault
-fault_code Empty = codes "EmptyFile"
-fault_code (Foreign foreign) = codes "ForeignFormat"
-fault_code ReportTooLarge = codes "ReportTooLarge"
-fault_code (Ipc error) = ipc.error_code error
-fault_code (Parquet error) = parquet.error_code error
-fault_code OutOfMemory = codes "OutOfMemory"
+-- an Arrow file ends with its magic, behind a footer and its size; a stream begins with a whole message, which is a schema
+abbrev pub rule_code : Form → IpcRule → Text
+rule_code form rules.Magic = codes "Truncated"
+rule_code form rules.Cut = codes "Truncated"
+rule_code form rules.FooterSize = codes "FooterLength"
+rule_code form rules.EndOfStream = codes "NoSchema"
+rule_code ArrowStream rules.Message = codes "NoSchema"
+rule_code form rule = codes "BadMessage"
 
-abbrev pub long_line_code : Text
-long_line_code = codes "LineTooLong"
+abbrev pub ipc_code : Form → IpcError → Text
+ipc_code form (messages.Broken fault) = rule_code form fault.rule
+ipc_code form (messages.Budget at) = codes "BadMessage"
+ipc_code form messages.OutOfMemory = codes "OutOfMemory"
 
--- ---- what is wrong
+abbrev pub parquet_code : SchemaError → Text
+parquet_code (schemas.Footer footers.NotParquet) = codes "Truncated"
+parquet_code (schemas.Footer footers.Encrypted) = codes "Encrypted"
+parquet_code (schemas.Footer (footers.Invalid rule at)) = codes "BadFooter"
+parquet_code (schemas.Footer footers.Memory) = codes "OutOfMemory"
+parquet_code schemas.Length = codes "FooterLength"
+parquet_code (schemas.Elements fault) = codes "BadTree"
+parquet_code schemas.Budget = codes "ReportTooLarge"
+parquet_code schemas.OutOfMemory = codes "OutOfMemory"
 
-abbrev pub line_message : LineFault → Text
-line_message (lines.NotUtf8 before) = codes "is no UTF-8"
-line_message (lines.NotJson at) = codes "is no JSON, or nests more than 127 levels"
-line_message (lines.OpenObject at) = codes "is no JSON, or nests more than 127 levels"
-line_message (lines.OpenArray at) = codes "is no JSON, or nests more than 127 levels"
-line_message lines.NotObject = codes "is JSON, but no object"
-line_message lines.GeoJson = codes "is of a format that is not read"
-line_message lines.Name = codes "is JSON, but no field: \"name\" is no text"
-line_message lines.Nullable = codes "is JSON, but no field: \"nullable\" is neither true nor false"
-line_message lines.Metadata = codes "is JSON, but no field: \"metadata\" is no object of texts"
-line_message lines.TypeUnknown = codes "is JSON, but no field: \"type\" is unknown"
+abbrev pub fault_code : Form → FileFault → Text
+fault_code form (NoField before fault) = line_code fault
+fault_code form Empty = codes "EmptyFile"
+fault_code form (Foreign foreign found) = codes "ForeignFormat"
+fault_code form ReportTooLarge = codes "ReportTooLarge"
+fault_code form (Ipc error) = ipc_code form error
+fault_code form (Parquet error) = parquet_code error
+fault_code form OutOfMemory = codes "OutOfMemory"
 
-abbrev pub fault_message : FileFault → Text
-fault_message (NoField before fault) = line_message fault
-fault_message Empty = codes "is empty"
-fault_message (Foreign foreign) = codes "is of a format that is not read"
-fault_message ReportTooLarge = too_large
-fault_message (Ipc error) = ipc.error_message error
-fault_message (Parquet error) = parquet.error_message error
-fault_message OutOfMemory = codes "out of memory"
+-- ---- what is found
 
-abbrev pub long_line_message : Text
-long_line_message = codes "has more than 1048576 bytes"
+abbrev pub line_found : LineFault → Text
+line_found (lines.NotUtf8 before) = codes "bytes that are not UTF-8"
+line_found lines.NotObject = codes "JSON that is no object"
+line_found lines.GeoJson = codes "GeoJSON"
+line_found lines.Name = codes "no string at \"name\""
+line_found lines.Nullable = codes "neither true nor false at \"nullable\""
+line_found lines.Metadata = codes "no object of strings at \"metadata\""
+line_found lines.TypeUnknown = codes "an unknown type at \"type\""
+line_found fault = codes "no JSON, or more than 127 levels of it"
 
--- ---- what is found, and what to try
-
-abbrev pub line_found : LineFault → Option Text
-line_found lines.GeoJson = Some (codes "GeoJSON")
-line_found fault = None
-
-abbrev pub fault_found : FileFault → Option Text
+abbrev pub fault_found : FileFault → Text
 fault_found (NoField before fault) = line_found fault
-fault_found (Foreign foreign) = Some (format_name foreign)
-fault_found fault = None
+fault_found Empty = codes "no bytes, or blanks alone"
+fault_found (Foreign foreign None) = format_name foreign
+fault_found (Foreign foreign (Some found)) = string_bytes found
+fault_found ReportTooLarge = too_large
+fault_found (Ipc error) = ipc.error_message error
+fault_found (Parquet error) = parquet.error_message error
+fault_found OutOfMemory = codes "out of memory"
+
+-- ---- what is expected
+
+abbrev pub read_formats : Text
+read_formats = codes "an Arrow file, an Arrow stream, a Parquet file or lines of fields"
+
+abbrev pub line_expected : LineFault → Text
+line_expected (lines.NotUtf8 before) = codes "UTF-8"
+line_expected lines.GeoJson = read_formats
+line_expected lines.Name = codes "a string at \"name\""
+line_expected lines.Nullable = codes "true or false at \"nullable\""
+line_expected lines.Metadata = codes "an object of strings at \"metadata\""
+line_expected lines.TypeUnknown = codes "a data type, or {\"other\":\"timestamp[ms]\"}"
+line_expected fault = codes "a JSON object"
+
+abbrev pub fault_expected : FileFault → Text
+fault_expected (NoField before fault) = line_expected fault
+fault_expected Empty = read_formats
+fault_expected (Foreign foreign found) = read_formats
+fault_expected ReportTooLarge = within_budget
+fault_expected (Ipc error) = ipc.error_wanted error
+fault_expected (Parquet error) = parquet.error_wanted error
+fault_expected OutOfMemory = codes "more memory"
+
+-- ---- what helps
 
 abbrev pub line_help : LineFault → Option Text
 line_help (lines.OpenObject at) = Some (codes "One object on each line: try jq -c . FILE")
@@ -90,9 +118,29 @@ line_help (lines.OpenArray at) = Some (codes "One object on each line: try jq -c
 line_help lines.GeoJson = Some (codes "Try ogr2ogr out.parquet FILE")
 line_help fault = None
 
+abbrev pub cut_off : Text
+cut_off = codes "The file is cut off, or still being written"
+
+abbrev pub rule_help : IpcRule → Option Text
+rule_help rules.Magic = Some cut_off
+rule_help rules.Cut = Some cut_off
+rule_help rule = None
+
+abbrev pub ipc_help : IpcError → Option Text
+ipc_help (messages.Broken fault) = rule_help fault.rule
+ipc_help error = None
+
+abbrev pub parquet_help : SchemaError → Option Text
+parquet_help (schemas.Footer footers.NotParquet) = Some cut_off
+parquet_help (schemas.Footer footers.Encrypted) = Some (codes "A copy with a plain footer is needed")
+parquet_help error = None
+
 abbrev pub fault_help : FileFault → Option Text
 fault_help (NoField before fault) = line_help fault
-fault_help (Foreign foreign) = format_help foreign
+fault_help Empty = Some (codes "The writing or the copy broke off before its first byte")
+fault_help (Foreign foreign found) = format_help foreign
+fault_help (Ipc error) = ipc_help error
+fault_help (Parquet error) = parquet_help error
 fault_help fault = None
 
 -- ---- where
@@ -132,3 +180,61 @@ fault_place form fault = File
 abbrev pub write_place : WriteError → Place
 write_place (writes.Column index) = Column index
 write_place error = File
+
+-- ---- all of it
+
+pub record Told : Type 0 where
+  pub code : Text
+  pub place : Place
+  pub found : Text
+  pub expected : Text
+  pub help : Option Text
+
+abbrev pub told : Fault → Told
+told fault = record {
+  code = fault.code.now;
+  place = fault.place;
+  found = fault.found.now;
+  expected = fault.expected.now;
+  help = text_of fault.help;
+}
+
+-- of a file in that format
+abbrev pub file_told : Form → FileFault → Told
+file_told form fault = record {
+  code = fault_code form fault;
+  place = fault_place form fault;
+  found = fault_found fault;
+  expected = fault_expected fault;
+  help = fault_help fault;
+}
+
+-- of a bad line
+abbrev pub bad_told : BadLine → Told
+bad_told bad = record {
+  code = line_code bad.fault;
+  place = line_place (behind bad.before) bad.fault;
+  found = line_found bad.fault;
+  expected = line_expected bad.fault;
+  help = line_help bad.fault;
+}
+
+-- of a line that is too long, behind so many
+abbrev pub long_told : ℕ → Told
+long_told before = record {
+  code = codes "LongLine";
+  place = Line (behind before);
+  found = codes "more than 1048576 bytes";
+  expected = codes "at most 1048576 bytes";
+  help = None;
+}
+
+-- of a schema that is not written
+abbrev pub write_told : WriteError → Told
+write_told error = record {
+  code = ipc.write_code error;
+  place = write_place error;
+  found = ipc.write_message error;
+  expected = ipc.write_wanted error;
+  help = None;
+}

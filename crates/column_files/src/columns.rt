@@ -9,25 +9,27 @@ ghost use Rattle.column_files.specs.Files.{further, footer_begin, IsOfSchema, Is
 
 use crate::bad_lines::BadLines;
 use crate::foreign::Foreign;
-use crate::form::Form;
+use crate::form::{Form, is_marked};
 use crate::geo::{GeoText, take_geo};
 use crate::line::LineFault;
 use crate::lines::LinesRead;
+use crate::mark::mark_findings;
 use crate::opening::File;
 use arrow_ipc::{IpcError, IpcFault, Schema, SchemaEntries, read_entries, read_file_entries};
 use parquet_columns::{FileFinding, FilePart, SchemaError, repeated_entries};
 use std::alloc::{AllocError, AllocFailed, Global};
 
 /// Why the columns of a file are not read.
-#[derive(Debug, Clone, Copy, PartialEq, Eq)]
+#[derive(Debug, Drop)]
 pub enum FileFault {
     /// Behind so many lines, blank ones too, stands one that is not blank and denotes no column,
     /// for this reason. It refuses a file only where it is the first that is not blank.
     NoField(usize, LineFault),
     /// The file has no bytes, or blank lines alone.
     Empty,
-    /// The file is of a format that is not read.
-    Foreign(Foreign),
+    /// The file is of a format that is not read; with what is found in it, where more is said than
+    /// the name of the format.
+    Foreign(Foreign, Option<String>),
     /// The report of the file would be greater than its budget. Reading columns never errs so;
     /// reporting them may.
     ReportTooLarge,
@@ -61,25 +63,31 @@ impl<T: Drop> From<AllocFailed<T>> for FileFault {
     }
 }
 
-/// What is read of a file of lines, whose columns and bad lines are read.
+/// What is read of a file of lines, whose columns and bad lines are read of this text.
 pub(crate) fn file_of_lines<'a>(
     alloc: Global,
     read: Result<LinesRead, FileFault>,
+    text: &[u8],
 ) -> Result<File<'a>, FileFault>
+    requires { AreAllRead text.now read }
     ensures form { IfOk result (λ file. file.form ≡ Form.Lines) }
-    ensures is { (text : List ℕ) → AreAllRead text read → IsOfLines text result }
+    ensures is { IsOfLines text.now result }
 {
     match read {
         Ok(read) if read.is_empty() => Err(FileFault::Empty),
-        Ok(LinesRead { columns, bad_lines }) => Ok(File {
-            form: Form::Lines,
-            columns,
-            bad_lines,
-            elements: Vec::new(alloc),
-            findings: Vec::new(alloc),
-            texts: Vec::new(alloc),
-            geo: GeoText::Absent,
-        }),
+        Ok(LinesRead { columns, bad_lines }) => {
+            let findings = mark_findings(alloc, is_marked(text))?;
+            Ok(File {
+                form: Form::Lines,
+                columns,
+                bad_lines,
+                elements: Vec::new(alloc),
+                refuted: Vec::new(alloc),
+                findings,
+                texts: Vec::new(alloc),
+                geo: GeoText::Absent,
+            })
+        }
         Err(fault) => Err(fault),
     }
 }
@@ -203,6 +211,7 @@ fn file_of_schema<'a>(
         columns,
         bad_lines: BadLines::new(alloc),
         elements: Vec::new(alloc),
+        refuted: Vec::new(alloc),
         findings: found,
         texts: Vec::new(alloc),
         geo,

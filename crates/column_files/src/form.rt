@@ -1,7 +1,7 @@
 //! The format of a file, by its first bytes.
-ghost use Rattle.std.specs.Prelude.{◌≡◌, take, map};
+ghost use Rattle.std.specs.Prelude.{◌≡◌, drop, take, map};
 ghost use Rattle.column_files.specs.Forms.{IsForm, head_form, stands, first_row, begins, first_text};
-ghost use Rattle.column_files.specs.Forms.{mark_len, unmarked, behind_blanks, text_form, is_tag, is_words, is_duck};
+ghost use Rattle.column_files.specs.Forms.{is_marked, mark_len, unmarked, behind_blanks, text_form, is_tag, is_words, is_duck};
 
 use crate::foreign::Foreign;
 
@@ -125,8 +125,15 @@ fn first_row(rows: &[Row], bytes: &[u8]) -> Option<Form>
     None
 }
 
+/// What stands from a place on.
+pub(crate) fn rest_of(bytes: &[u8], start: usize) -> &[u8]
+    ensures { result.now ≡ drop start bytes.now }
+{
+    bytes.get(start..).unwrap_or(&[])
+}
+
 /// Whether bytes stand from a place on.
-fn stands(at: usize, front: &[u8], bytes: &[u8]) -> bool
+pub(crate) fn stands(at: usize, front: &[u8], bytes: &[u8]) -> bool
     ensures { result ≡ stands at front.now bytes.now }
 {
     bytes.get(at..).unwrap_or(&[]).starts_with(front)
@@ -197,9 +204,19 @@ fn is_words(text: &[u8]) -> bool
 pub(crate) fn mark_len(text: &[u8]) -> usize
     ensures { result ≡ mark_len text.now }
 {
+    match is_marked(text) {
+        true => 3,
+        false => 0,
+    }
+}
+
+/// Whether a text begins with a byte order mark.
+pub(crate) fn is_marked(text: &[u8]) -> bool
+    ensures { result ≡ is_marked text.now }
+{
     match text {
-        [0xef, 0xbb, 0xbf, ..] => 3,
-        _ => 0,
+        [0xef, 0xbb, 0xbf, ..] => true,
+        _ => false,
     }
 }
 

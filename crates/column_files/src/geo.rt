@@ -3,13 +3,12 @@ ghost use Rattle.std.specs.Prelude.{◌≡◌, option_map};
 ghost use Rattle.arrow_values.specs.Texts.{text_at};
 ghost use Rattle.arrow_values.specs.View.{texts_of};
 ghost use Rattle.parquet_footer.specs.Spelled.{spelled};
-ghost use Rattle.column_files.specs.Geo.{geo_key, geo_of, of_footer, of_schema};
+ghost use Rattle.column_files.specs.Geo.{geo_of, of_footer, of_schema};
+ghost use Rattle.parquet_columns.specs.Findings.{geo_key};
 
+use parquet_columns::GEO_KEY;
 use parquet_footer::FooterText;
 use std::collections::BTreeMap;
-
-/// The key of GeoParquet metadata.
-pub(crate) const GEO_KEY: &str = "geo";
 
 /// What stands at the key `geo` of the metadata of a file.
 #[derive(Debug, Drop)]

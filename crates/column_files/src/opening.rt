@@ -6,11 +6,12 @@ ghost use Rattle.column_files.specs.Files.{IsOpened, IsEndOpened, IsParquetRead}
 use crate::bad_lines::BadLines;
 use crate::columns::{FileFault, file_of_footer, file_of_lines, file_of_message};
 use crate::form::{Form, form_of};
-use crate::geo::{GEO_KEY, GeoText, geo_of_footer};
+use crate::found::foreign_fault;
+use crate::geo::{GeoText, geo_of_footer};
 use crate::lines::read_lines;
 use arrow_columns::SchemaColumn;
 use arrow_ipc::{read_file_footer, read_schema};
-use parquet_columns::{ElementClaim, FileFinding, read_file};
+use parquet_columns::{ElementClaim, FileFinding, GEO_KEY, read_file};
 use parquet_footer::FooterFinding;
 use std::alloc::Global;
 
@@ -26,8 +27,11 @@ pub struct File<'a> {
     /// Of a Parquet file, what the elements say beside its columns (docs/FORMAT.md, 4.6), one claim
     /// for each; else none.
     pub elements: Vec<ElementClaim>,
+    /// Of a Parquet file whose columns are those at `ARROW:schema`, for each of them whether its
+    /// element refutes a name of GeoArrow on it (docs/FORMAT.md, 4.5); else none.
+    pub refuted: Vec<bool>,
     /// What is found of `ARROW:schema`, of elements and of repeated keys (docs/FORMAT.md, 4.5): of an
-    /// Arrow file or stream of the latter alone, and of lines nothing.
+    /// Arrow file or stream of the latter alone, and of lines that they begin with a byte order mark.
     pub findings: Vec<FileFinding>,
     /// Of a Parquet file, names, keys and values that are not UTF-8 (docs/FORMAT.md, 4.3); else
     /// nothing.
@@ -43,7 +47,8 @@ pub struct File<'a> {
 ///
 /// Errs with `NoField` where the first line that is not blank is `{` or `[` alone, or GeoJSON, with
 /// how many lines stand before it, and why; with `Empty` where all lines are blank; with `Foreign`
-/// where the first bytes tell a format that is not read, and which; with `Ipc` as
+/// where the first bytes tell a format that is not read, which, and what is found in no more than
+/// the first 1,024 of them; with `Ipc` as
 /// `read_schema` and `read_file_footer` of `arrow_ipc` do, which say the rule that is broken, and
 /// the byte, of an Arrow file that of the file; with `Parquet` as `read_file` of `parquet_columns`
 /// does; and when out of memory.
@@ -87,8 +92,8 @@ pub fn open_end<'a>(
         }
         Form::ArrowStream => file_of_message(alloc, read_schema(alloc, end), end),
         Form::Parquet => open_parquet(alloc, end),
-        Form::Lines => file_of_lines(alloc, read_lines(alloc, end)),
-        Form::Foreign(foreign) => Err(FileFault::Foreign(foreign)),
+        Form::Lines => file_of_lines(alloc, read_lines(alloc, end), end),
+        Form::Foreign(foreign) => Err(foreign_fault(alloc, foreign, end)),
     }
 }
 
@@ -103,6 +108,7 @@ fn open_parquet<'a>(alloc: Global, end: &'a [u8]) -> Result<File<'a>, FileFault>
             columns: read.columns,
             bad_lines: BadLines::new(alloc),
             elements: read.elements,
+            refuted: read.refuted,
             findings: read.findings,
             texts: read.texts,
             geo: geo_of_footer(read.value),

@@ -1,20 +1,24 @@
 //! The columns of the lines of a source, one after another.
-ghost use Rattle.std.specs.Prelude.{◌≡◌, ◌||◌, false, take, [], Err, IfOk, IfSome, IfErr};
+ghost use Rattle.std.specs.Prelude.{◌≡◌, ◌||◌, false, take, map, [], Err, IfOk, IfSome, IfErr};
 ghost use Rattle.std.specs.Io.KnownBytes.{prepend_known};
 ghost use Rattle.line_reader.specs.Lines.{HasLine};
-ghost use Rattle.column_files.specs.Forms.{unmarked};
+ghost use Rattle.parquet_columns.specs.Findings.{finding};
+ghost use Rattle.column_files.specs.Forms.{is_marked, unmarked};
+ghost use Rattle.column_files.specs.LineFindings.{mark_findings};
 ghost use Rattle.column_files.specs.Lines.{is_blank};
-ghost use Rattle.column_files.specs.Reading.{ahead, passed, has_item, text_left};
+ghost use Rattle.column_files.specs.Reading.{ahead, passed, has_item, has_mark, text_left};
 ghost use Rattle.column_files.specs.Reading.{PassesLines, answered, is_item, IsNext};
 
 use crate::columns::FileFault;
 use crate::fault::ReadFault;
-use crate::form::mark_len;
+use crate::form::{is_marked, mark_len};
 use crate::line::parse_column_line;
 use crate::lines::is_blank;
+use crate::mark::mark_findings;
 use arrow_columns::SchemaColumn;
 use json::Scratch;
 use line_reader::LineBuffer;
+use parquet_columns::FileFinding;
 use std::alloc::{AllocError, Global};
 use std::io::Read;
 
@@ -37,6 +41,8 @@ pub struct LineColumns<R> {
     scratch: Scratch,
     /// Whether a line that is passed is not blank.
     has_item: bool,
+    /// Whether a byte order mark stands before the first line.
+    is_marked: bool,
 }
 
 impl<R: Read> LineColumns<R> {
@@ -47,15 +53,32 @@ impl<R: Read> LineColumns<R> {
         ensures text { text_left R.remaining result ≡ prepend_known (unmarked head.items) (R.remaining source) }
         ensures passed { passed result ≡ 0 }
         ensures none { has_item result ≡ false }
+        ensures mark { has_mark result ≡ is_marked head.items }
     {
         let start = mark_len(head.as_slice());
+        let is_marked = is_marked(head.as_slice());
         LineColumns {
             alloc,
             source,
             lines: LineBuffer::behind(head, start),
             scratch: Scratch::new(alloc),
             has_item: false,
+            is_marked,
         }
+    }
+
+    /// Returns what is found of the lines beside what calls answer, as [`crate::File::findings`] of a
+    /// file of lines have it (docs/FORMAT.md, 4.5). Errs only when out of memory.
+    ///
+    /// ```rust
+    /// let head = Vec::from_slice(alloc, b"\xef\xbb\xbf{}")?;
+    /// let lines = LineColumns::new(alloc, head, b"".as_slice());
+    /// assert_eq!(rt; lines.findings()?.len(), 1);
+    /// ```
+    pub fn findings(&self) -> Result<Vec<FileFinding>, AllocError>
+        ensures { IfOk result (λ found. map finding found.items ≡ mark_findings (has_mark self.now)) }
+    {
+        mark_findings(self.alloc, self.is_marked)
     }
 
     /// Returns the column of the next line that is not blank; or none where all lines are answered.
@@ -73,6 +96,7 @@ impl<R: Read> LineColumns<R> {
         ensures next { IsNext (passed self.new) (has_item self.old)
             (text_left R.remaining self.new) (ahead self.new) result }
         ensures item { has_item self.new ≡ (has_item self.old || is_item result) }
+        ensures mark { has_mark self.new ≡ has_mark self.old }
     {
         let Some(len) = self.hold_filled()? else {
             return match self.has_item {
@@ -101,6 +125,7 @@ impl<R: Read> LineColumns<R> {
         ensures passed { PassesLines (passed self.old) (passed self.new)
             (text_left R.remaining self.old) (text_left R.remaining self.new) [] }
         ensures item { has_item self.new ≡ has_item self.old }
+        ensures mark { has_mark self.new ≡ has_mark self.old }
         ensures line { IfOk result (HasLine (ahead self.new) (R.remaining self.new.source)) }
         ensures filled { IfOk result (λ held.
             IfSome held (λ len. is_blank (take len (ahead self.new)) ≡ false)) }

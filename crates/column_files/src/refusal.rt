@@ -1,18 +1,20 @@
-//! Why a file is refused, as every way in says it: a code, what is wrong, and the place.
-ghost use Rattle.std.specs.Prelude.{◌≡◌, None};
+//! Why a file is refused, as every way in says it: a code, the place, what is found and expected,
+//! and what helps.
+ghost use Rattle.std.specs.Prelude.{◌≡◌};
 ghost use Rattle.arrow_values.specs.Texts.{text_of};
-ghost use Rattle.column_files.specs.Refusals.{line_code, line_message, line_found, line_help};
-ghost use Rattle.column_files.specs.Refusals.{fault_code, fault_message, fault_found, fault_help};
-ghost use Rattle.column_files.specs.Refusals.{behind, line_place, byte_place, message_place, parquet_place};
-ghost use Rattle.column_files.specs.Refusals.{fault_place, write_place, long_line_code, long_line_message};
-ghost use Rattle.arrow_ipc.specs.Rules.{write_code, write_message};
+ghost use Rattle.column_files.specs.Refusals.{line_code, line_found, line_expected, line_help};
+ghost use Rattle.column_files.specs.Refusals.{rule_code, ipc_code, parquet_code, fault_code};
+ghost use Rattle.column_files.specs.Refusals.{fault_found, fault_expected, fault_help};
+ghost use Rattle.column_files.specs.Refusals.{ipc_help, parquet_help, behind, line_place, byte_place};
+ghost use Rattle.column_files.specs.Refusals.{message_place, parquet_place, fault_place};
+ghost use Rattle.column_files.specs.Refusals.{told, file_told, bad_told, long_told, write_told};
 
 use crate::bad_lines::BadLine;
 use crate::columns::FileFault;
 use crate::form::Form;
 use crate::line::LineFault;
-use arrow_ipc::{IpcError, WriteError};
-use parquet_columns::{SchemaError, TOO_LARGE};
+use arrow_ipc::{IpcError, IpcRule, WriteError};
+use parquet_columns::{SchemaError, TOO_LARGE, WITHIN_BUDGET};
 use parquet_footer::FooterError;
 
 /// Where a file is at fault (docs/FORMAT.md, 2.8).
@@ -38,176 +40,44 @@ pub enum Place {
 
 /// Why a file is refused (docs/FORMAT.md, 2.8).
 #[derive(Debug, Clone, Copy, PartialEq, Eq)]
-pub struct Fault {
-    /// The code, which stands for this message alone.
+pub struct Fault<'a> {
+    /// The code.
     pub code: &'static str,
-    /// What is wrong.
-    pub message: &'static str,
     /// Where.
     pub place: Place,
-    /// What stands there, as `a zip archive`, where that is said.
-    pub found: Option<&'static str>,
-    /// What to try, where anything is known.
+    /// What stands there, or what is wrong with it.
+    pub found: &'a str,
+    /// What is expected in its place.
+    pub expected: &'static str,
+    /// What helps, where anything is known.
     pub help: Option<&'static str>,
 }
 
-impl LineFault {
-    /// Returns the code of the fault, as reports have it (docs/FORMAT.md, 2.8).
-    pub fn code(self) -> &'static str
-        ensures { result.now ≡ line_code self }
-    {
-        match self {
-            LineFault::NotUtf8(_) => "LineNotUtf8",
-            LineFault::NotJson(_) | LineFault::OpenObject(_) | LineFault::OpenArray(_) => {
-                "LineNotJson"
-            }
-            LineFault::NotObject => "LineNotObject",
-            LineFault::GeoJson => "ForeignFormat",
-            LineFault::Name => "LineName",
-            LineFault::Nullable => "LineNullable",
-            LineFault::Metadata => "LineMetadata",
-            LineFault::TypeUnknown => "LineType",
-        }
-    }
+/// The formats that are read.
+const READ_FORMATS: &str = "an Arrow file, an Arrow stream, a Parquet file or lines of fields";
 
-    /// Returns what is wrong.
-    pub fn message(self) -> &'static str
-        ensures { result.now ≡ line_message self }
-    {
-        match self {
-            LineFault::NotUtf8(_) => "is no UTF-8",
-            LineFault::NotJson(_) | LineFault::OpenObject(_) | LineFault::OpenArray(_) => {
-                "is no JSON, or nests more than 127 levels"
-            }
-            LineFault::NotObject => "is JSON, but no object",
-            LineFault::GeoJson => "is of a format that is not read",
-            LineFault::Name => "is JSON, but no field: \"name\" is no text",
-            LineFault::Nullable => "is JSON, but no field: \"nullable\" is neither true nor false",
-            LineFault::Metadata => "is JSON, but no field: \"metadata\" is no object of texts",
-            LineFault::TypeUnknown => "is JSON, but no field: \"type\" is unknown",
-        }
-    }
+/// What helps where the end is missing.
+const CUT_OFF: &str = "The file is cut off, or still being written";
 
-    /// Returns what the line is, where it is of a format that is not read.
-    pub fn found(self) -> Option<&'static str>
-        ensures { text_of result ≡ line_found self }
-    {
-        match self {
-            LineFault::GeoJson => Some("GeoJSON"),
-            LineFault::NotUtf8(_)
-            | LineFault::NotJson(_)
-            | LineFault::OpenObject(_)
-            | LineFault::OpenArray(_)
-            | LineFault::NotObject
-            | LineFault::Name
-            | LineFault::Nullable
-            | LineFault::Metadata
-            | LineFault::TypeUnknown => None,
-        }
-    }
-
-    /// Returns what to try, if anything is known.
-    pub fn help(self) -> Option<&'static str>
-        ensures { text_of result ≡ line_help self }
-    {
-        match self {
-            LineFault::GeoJson => Some("Try ogr2ogr out.parquet FILE"),
-            LineFault::OpenObject(_) => Some("One object on each line: try jq -c . FILE"),
-            LineFault::OpenArray(_) => Some("One object on each line: try jq -c '.[]' FILE"),
-            LineFault::NotUtf8(_)
-            | LineFault::NotJson(_)
-            | LineFault::NotObject
-            | LineFault::Name
-            | LineFault::Nullable
-            | LineFault::Metadata
-            | LineFault::TypeUnknown => None,
-        }
-    }
-}
-
-impl FileFault {
-    /// Returns the code of the fault, as reports have it (docs/FORMAT.md, 2.8).
-    pub fn code(self) -> &'static str
-        ensures { result.now ≡ fault_code self }
-    {
-        match self {
-            FileFault::NoField(_, fault) => fault.code(),
-            FileFault::Empty => "EmptyFile",
-            FileFault::Foreign(_) => "ForeignFormat",
-            FileFault::ReportTooLarge => "ReportTooLarge",
-            FileFault::Ipc(error) => error.code(),
-            FileFault::Parquet(error) => error.code(),
-            FileFault::OutOfMemory => "OutOfMemory",
-        }
-    }
-
-    /// Returns what is wrong.
-    pub fn message(self) -> &'static str
-        ensures { result.now ≡ fault_message self }
-    {
-        match self {
-            FileFault::NoField(_, fault) => fault.message(),
-            FileFault::Empty => "is empty",
-            FileFault::Foreign(_) => "is of a format that is not read",
-            FileFault::ReportTooLarge => TOO_LARGE,
-            FileFault::Ipc(error) => error.message(),
-            FileFault::Parquet(error) => error.message(),
-            FileFault::OutOfMemory => "out of memory",
-        }
-    }
-
-    /// Returns what the file is, where it is of a format that is not read.
-    pub fn found(self) -> Option<&'static str>
-        ensures { text_of result ≡ fault_found self }
-    {
-        match self {
-            FileFault::NoField(_, fault) => fault.found(),
-            FileFault::Foreign(foreign) => Some(foreign.name()),
-            FileFault::Empty
-            | FileFault::ReportTooLarge
-            | FileFault::Ipc(_)
-            | FileFault::Parquet(_)
-            | FileFault::OutOfMemory => None,
-        }
-    }
-
-    /// Returns what to try, if anything is known.
-    pub fn help(self) -> Option<&'static str>
-        ensures { text_of result ≡ fault_help self }
-    {
-        match self {
-            FileFault::NoField(_, fault) => fault.help(),
-            FileFault::Foreign(foreign) => foreign.help(),
-            FileFault::Empty
-            | FileFault::ReportTooLarge
-            | FileFault::Ipc(_)
-            | FileFault::Parquet(_)
-            | FileFault::OutOfMemory => None,
-        }
-    }
-}
-
-/// Returns the code, what is wrong, the place, what is found and what to try of a fault of a file in
-/// that format. A place that is greater than `u64::MAX` is that number. Allocates nothing.
+/// Returns the fault of a file in that format: its code, its place, what is found, what is expected
+/// and what helps. A place that is greater than `u64::MAX` is that number. Allocates nothing.
 ///
 /// ```rust
-/// let fault = fault_of(Form::Lines, FileFault::NoField(1, LineFault::NotObject));
-/// assert_eq!(rt; fault.code, "LineNotObject");
+/// let refused = FileFault::NoField(1, LineFault::NotObject);
+/// let fault = fault_of(Form::Lines, &refused);
+/// assert_eq!(rt; fault.code, "BadLine");
 /// assert_eq!(rt; fault.place, Place::Line(2));
+/// assert_eq!(rt; (fault.found, fault.expected), ("JSON that is no object", "a JSON object"));
 /// ```
-pub fn fault_of(form: Form, fault: FileFault) -> Fault
-    ensures code { result.code.now ≡ fault_code fault }
-    ensures message { result.message.now ≡ fault_message fault }
-    ensures place { result.place ≡ fault_place form fault }
-    ensures found { text_of result.found ≡ fault_found fault }
-    ensures help { text_of result.help ≡ fault_help fault }
+pub fn fault_of<'a>(form: Form, fault: &'a FileFault) -> Fault<'a>
+    ensures { told result ≡ file_told form fault.now }
 {
     Fault {
-        code: fault.code(),
-        message: fault.message(),
+        code: code_of(form, fault),
         place: place_of(form, fault),
-        found: fault.found(),
-        help: fault.help(),
+        found: found_of(fault),
+        expected: expected_of(fault),
+        help: help_of(fault),
     }
 }
 
@@ -215,54 +85,226 @@ pub fn fault_of(form: Form, fault: FileFault) -> Fault
 ///
 /// ```rust
 /// let fault = bad_line_fault(BadLine { before: 1, fault: LineFault::NotObject });
-/// assert_eq!(rt; fault.code, "LineNotObject");
+/// assert_eq!(rt; fault.code, "BadLine");
 /// assert_eq!(rt; fault.place, Place::Line(2));
 /// ```
-pub fn bad_line_fault(bad: BadLine) -> Fault
-    ensures code { result.code.now ≡ line_code bad.fault }
-    ensures message { result.message.now ≡ line_message bad.fault }
-    ensures place { result.place ≡ line_place (behind bad.before) bad.fault }
-    ensures found { text_of result.found ≡ line_found bad.fault }
-    ensures help { text_of result.help ≡ line_help bad.fault }
+pub fn bad_line_fault(bad: BadLine) -> Fault<'static>
+    ensures { told result ≡ bad_told bad }
 {
-    fault_of(Form::Lines, FileFault::NoField(bad.before, bad.fault))
+    Fault {
+        code: line_code(bad.fault),
+        place: line_place(line_number(bad.before), bad.fault),
+        found: line_found(bad.fault),
+        expected: line_expected(bad.fault),
+        help: line_help(bad.fault),
+    }
 }
 
 /// Returns the fault of a line of a source that has more bytes than [`crate::MAX_LINE_BYTES`],
 /// behind so many lines. Allocates nothing.
-pub fn long_line(before: usize) -> Fault
-    ensures code { result.code.now ≡ long_line_code }
-    ensures message { result.message.now ≡ long_line_message }
-    ensures place { result.place ≡ Place.Line (behind before) }
-    ensures found { text_of result.found ≡ None }
-    ensures help { text_of result.help ≡ None }
+pub fn long_line(before: usize) -> Fault<'static>
+    ensures { told result ≡ long_told before }
 {
     Fault {
-        code: "LineTooLong",
-        message: "has more than 1048576 bytes",
+        code: "LongLine",
         place: Place::Line(line_number(before)),
-        found: None,
+        found: "more than 1048576 bytes",
+        expected: "at most 1048576 bytes",
         help: None,
     }
 }
 
 /// Returns why a schema is not written. Allocates nothing.
-pub fn write_fault(error: WriteError) -> Fault
-    ensures code { result.code.now ≡ write_code error }
-    ensures message { result.message.now ≡ write_message error }
-    ensures place { result.place ≡ write_place error }
-    ensures found { text_of result.found ≡ None }
-    ensures help { text_of result.help ≡ None }
+pub fn write_fault(error: WriteError) -> Fault<'static>
+    ensures { told result ≡ write_told error }
 {
     Fault {
         code: error.code(),
-        message: error.message(),
         place: match error {
             WriteError::Column(index) => Place::Column(index as u64),
             WriteError::TooLarge | WriteError::OutOfMemory => Place::File,
         },
-        found: None,
+        found: error.message(),
+        expected: error.wanted(),
         help: None,
+    }
+}
+
+/// The code of a line at fault.
+fn line_code(fault: LineFault) -> &'static str
+    ensures { result.now ≡ line_code fault }
+{
+    match fault {
+        LineFault::GeoJson => "ForeignFormat",
+        _ => "BadLine",
+    }
+}
+
+/// What is found in a line at fault.
+fn line_found(fault: LineFault) -> &'static str
+    ensures { result.now ≡ line_found fault }
+{
+    match fault {
+        LineFault::NotUtf8(_) => "bytes that are not UTF-8",
+        LineFault::NotJson(_) | LineFault::OpenObject(_) | LineFault::OpenArray(_) => {
+            "no JSON, or more than 127 levels of it"
+        }
+        LineFault::NotObject => "JSON that is no object",
+        LineFault::GeoJson => "GeoJSON",
+        LineFault::Name => "no string at \"name\"",
+        LineFault::Nullable => "neither true nor false at \"nullable\"",
+        LineFault::Metadata => "no object of strings at \"metadata\"",
+        LineFault::TypeUnknown => "an unknown type at \"type\"",
+    }
+}
+
+/// What is expected of a line.
+fn line_expected(fault: LineFault) -> &'static str
+    ensures { result.now ≡ line_expected fault }
+{
+    match fault {
+        LineFault::NotUtf8(_) => "UTF-8",
+        LineFault::NotJson(_)
+        | LineFault::OpenObject(_)
+        | LineFault::OpenArray(_)
+        | LineFault::NotObject => "a JSON object",
+        LineFault::GeoJson => READ_FORMATS,
+        LineFault::Name => "a string at \"name\"",
+        LineFault::Nullable => "true or false at \"nullable\"",
+        LineFault::Metadata => "an object of strings at \"metadata\"",
+        LineFault::TypeUnknown => "a data type, or {\"other\":\"timestamp[ms]\"}",
+    }
+}
+
+/// What helps with a line at fault, if anything is known.
+fn line_help(fault: LineFault) -> Option<&'static str>
+    ensures { text_of result ≡ line_help fault }
+{
+    match fault {
+        LineFault::GeoJson => Some("Try ogr2ogr out.parquet FILE"),
+        LineFault::OpenObject(_) => Some("One object on each line: try jq -c . FILE"),
+        LineFault::OpenArray(_) => Some("One object on each line: try jq -c '.[]' FILE"),
+        _ => None,
+    }
+}
+
+/// The code of a file at fault.
+fn code_of(form: Form, fault: &FileFault) -> &'static str
+    ensures { result.now ≡ fault_code form fault.now }
+{
+    match fault {
+        FileFault::NoField(_, fault) => line_code(*fault),
+        FileFault::Empty => "EmptyFile",
+        FileFault::Foreign(_, _) => "ForeignFormat",
+        FileFault::ReportTooLarge => "ReportTooLarge",
+        FileFault::Ipc(error) => ipc_code(form, *error),
+        FileFault::Parquet(error) => parquet_code(*error),
+        FileFault::OutOfMemory => "OutOfMemory",
+    }
+}
+
+/// The code of an Arrow file or stream at fault.
+fn ipc_code(form: Form, error: IpcError) -> &'static str
+    ensures { result.now ≡ ipc_code form error }
+{
+    match error {
+        IpcError::Broken(fault) => rule_code(form, fault.rule),
+        IpcError::Budget(_) => "BadMessage",
+        IpcError::OutOfMemory => "OutOfMemory",
+    }
+}
+
+/// The code of a rule that an Arrow file or stream breaks.
+fn rule_code(form: Form, rule: IpcRule) -> &'static str
+    ensures { result.now ≡ rule_code form rule }
+{
+    match (form, rule) {
+        (_, IpcRule::Magic | IpcRule::Cut) => "Truncated",
+        (_, IpcRule::FooterSize) => "FooterLength",
+        (_, IpcRule::EndOfStream) | (Form::ArrowStream, IpcRule::Message) => "NoSchema",
+        _ => "BadMessage",
+    }
+}
+
+/// The code of a Parquet file at fault.
+fn parquet_code(error: SchemaError) -> &'static str
+    ensures { result.now ≡ parquet_code error }
+{
+    match error {
+        SchemaError::Footer(FooterError::NotParquet) => "Truncated",
+        SchemaError::Footer(FooterError::Encrypted) => "Encrypted",
+        SchemaError::Footer(FooterError::Invalid(_, _)) => "BadFooter",
+        SchemaError::Length => "FooterLength",
+        SchemaError::Elements(_) => "BadTree",
+        SchemaError::Budget => "ReportTooLarge",
+        SchemaError::Footer(FooterError::Memory) | SchemaError::OutOfMemory => "OutOfMemory",
+    }
+}
+
+/// What is found in a file at fault.
+fn found_of(fault: &FileFault) -> &str
+    ensures { result.now ≡ fault_found fault.now }
+{
+    match fault {
+        FileFault::NoField(_, fault) => line_found(*fault),
+        FileFault::Empty => "no bytes, or blanks alone",
+        FileFault::Foreign(_, Some(found)) => found.as_str(),
+        FileFault::Foreign(foreign, None) => foreign.name(),
+        FileFault::ReportTooLarge => TOO_LARGE,
+        FileFault::Ipc(error) => error.message(),
+        FileFault::Parquet(error) => error.message(),
+        FileFault::OutOfMemory => "out of memory",
+    }
+}
+
+/// What is expected of a file.
+fn expected_of(fault: &FileFault) -> &'static str
+    ensures { result.now ≡ fault_expected fault.now }
+{
+    match fault {
+        FileFault::NoField(_, fault) => line_expected(*fault),
+        FileFault::Empty | FileFault::Foreign(_, _) => READ_FORMATS,
+        FileFault::ReportTooLarge => WITHIN_BUDGET,
+        FileFault::Ipc(error) => error.wanted(),
+        FileFault::Parquet(error) => error.wanted(),
+        FileFault::OutOfMemory => "more memory",
+    }
+}
+
+/// What helps with a file at fault, if anything is known.
+fn help_of(fault: &FileFault) -> Option<&'static str>
+    ensures { text_of result ≡ fault_help fault.now }
+{
+    match fault {
+        FileFault::NoField(_, fault) => line_help(*fault),
+        FileFault::Empty => Some("The writing or the copy broke off before its first byte"),
+        FileFault::Foreign(foreign, _) => foreign.help(),
+        FileFault::Ipc(error) => ipc_help(*error),
+        FileFault::Parquet(error) => parquet_help(*error),
+        FileFault::ReportTooLarge | FileFault::OutOfMemory => None,
+    }
+}
+
+/// What helps with an Arrow file or stream at fault, if anything is known.
+fn ipc_help(error: IpcError) -> Option<&'static str>
+    ensures { text_of result ≡ ipc_help error }
+{
+    match error {
+        IpcError::Broken(fault) if matches!(fault.rule, IpcRule::Magic | IpcRule::Cut) => Some(
+            CUT_OFF,
+        ),
+        _ => None,
+    }
+}
+
+/// What helps with a Parquet file at fault, if anything is known.
+fn parquet_help(error: SchemaError) -> Option<&'static str>
+    ensures { text_of result ≡ parquet_help error }
+{
+    match error {
+        SchemaError::Footer(FooterError::NotParquet) => Some(CUT_OFF),
+        SchemaError::Footer(FooterError::Encrypted) => Some("A copy with a plain footer is needed"),
+        _ => None,
     }
 }
 
@@ -274,15 +316,15 @@ fn line_number(before: usize) -> u64
 }
 
 /// Where a file in that format is at fault.
-fn place_of(form: Form, fault: FileFault) -> Place
-    ensures { result ≡ fault_place form fault }
+fn place_of(form: Form, fault: &FileFault) -> Place
+    ensures { result ≡ fault_place form fault.now }
 {
     match fault {
-        FileFault::NoField(before, fault) => line_place(line_number(before), fault),
-        FileFault::Ipc(error) => message_place(form, error),
-        FileFault::Parquet(error) => parquet_place(error),
+        FileFault::NoField(before, fault) => line_place(line_number(*before), *fault),
+        FileFault::Ipc(error) => message_place(form, *error),
+        FileFault::Parquet(error) => parquet_place(*error),
         FileFault::Empty
-        | FileFault::Foreign(_)
+        | FileFault::Foreign(_, _)
         | FileFault::ReportTooLarge
         | FileFault::OutOfMemory => Place::File,
     }
@@ -337,7 +379,7 @@ fn parquet_place(error: SchemaError) -> Place
         SchemaError::Footer(FooterError::Invalid(_, at)) => Place::FooterByte(at as u64),
         SchemaError::Elements(fault) => Place::Element(fault.at as u64),
         SchemaError::Footer(FooterError::NotParquet | FooterError::Encrypted | FooterError::Memory)
-        | SchemaError::Cut
+        | SchemaError::Length
         | SchemaError::Budget
         | SchemaError::OutOfMemory => Place::File,
     }

@@ -5,11 +5,13 @@ ghost use Rattle.std.specs.Io.KnownBytes.{IsAtEnd};
 ghost use Rattle.column_files.specs.Forms.{IsForm, head_bytes};
 ghost use Rattle.line_reader.specs.Sources.{GivesUpTo};
 ghost use Rattle.column_files.specs.Faults.{IsReadError};
+ghost use Rattle.column_files.specs.ForeignFound.{looked_at};
 ghost use Rattle.column_files.specs.Files.{size_in, HasFooter};
 ghost use Rattle.column_files.specs.Reading.{GivesSchema, GivesEnd, IsEnd, IsHead, ReadAs};
 
 use crate::fault::ReadFault;
-use crate::form::{Form, HEAD_BYTES};
+use crate::foreign::Foreign;
+use crate::form::{Form, HEAD_BYTES, rest_of};
 use line_reader::read_up_to;
 use std::alloc::Global;
 use std::io::{Read, Seek, SeekFrom};
@@ -39,8 +41,9 @@ pub fn read_head<R: Read>(alloc: Global, source: &mut R) -> Result<Vec<u8>, Read
 
 /// Returns the bytes from which `open` reads the columns of a source in that format, whose first
 /// bytes are `head`, as `read_head` gives them: of a stream these, and what its first message has
-/// beyond them; of a format that is not read these alone; and of another format all bytes. Errs
-/// where the source fails, and when out of memory.
+/// beyond them; of a format that is not read those that tell what is found in it, of XML 1,024 and
+/// else no more than these; and of another format all bytes. Errs where the source fails, and when
+/// out of memory.
 ///
 /// ```rust
 /// let mut source = b"bcdef".as_slice();
@@ -61,7 +64,7 @@ pub fn read_schema_bytes<R: Read>(
 {
     let rest = match form {
         Form::ArrowStream => left_of_message(head.as_slice()),
-        Form::Foreign(_) => 0,
+        Form::Foreign(foreign) => left_of_foreign(foreign, head.as_slice()),
         Form::ArrowFile | Form::Parquet | Form::Lines => u64::MAX,
     };
     Ok(read_up_to(source, head, rest)?)
@@ -73,6 +76,13 @@ fn left_of_message(head: &[u8]) -> u64
 {
     let size = u64::from(size_of_four(rest_of(head, 4)));
     (STREAM_HEAD + size).saturating_sub(head.len() as u64)
+}
+
+/// How many bytes behind the first ones of a file tell what is found in it.
+fn left_of_foreign(foreign: Foreign, head: &[u8]) -> u64
+    ensures { result ≡ looked_at foreign - length head.now }
+{
+    (foreign.looked_at() as u64).saturating_sub(head.len() as u64)
 }
 
 /// The end of a file, or all of it.
@@ -201,11 +211,4 @@ fn size_of_four(bytes: &[u8]) -> u32
         [a, b, c, d, ..] => u32::from_le_bytes([*a, *b, *c, *d]),
         _ => 0,
     }
-}
-
-/// What stands from a place on.
-fn rest_of(bytes: &[u8], start: usize) -> &[u8]
-    ensures { result.now ≡ drop start bytes.now }
-{
-    bytes.get(start..).unwrap_or(&[])
 }

@@ -9,31 +9,31 @@ use Rattle.geoparquet.specs.Facts.{facts_view}
 use Rattle.geoparquet.specs.declared.facts.ColumnFacts.{ColumnFacts}
 use Rattle.column_reports.specs.Columns.{IsColumnReport}
 use Rattle.column_reports.specs.FileReport.{AreReported, line_of, lines_of}
-use Rattle.column_reports.specs.Named.{Known, all_known}
+use Rattle.column_reports.specs.Named.{Known, all_known, named_view}
 use Rattle.column_reports.specs.Weights.{Weighing}
-use Rattle.column_reports.specs.declared.named.NamedBy.{NamedBy}
+use Rattle.column_reports.specs.declared.named.Named.{Named}
 use Rattle.column_reports.specs.declared.report.ColumnReport.{ColumnReport}
 
 -- a column with what is known of it
-abbrev pub known_view : ColumnFacts × NamedBy → Known
-known_view x = record { facts = facts_view x.0; by = x.1 }
+abbrev pub known_view : ColumnFacts × Named → Known
+known_view x = record { facts = facts_view x.0; by = x.1.by; beside = (named_view x.1).beside }
 
-abbrev pub viewed : SchemaColumn × (ColumnFacts × NamedBy) → ColumnTree × Known
+abbrev pub viewed : SchemaColumn × (ColumnFacts × Named) → ColumnTree × Known
 viewed x = (column_tree x.0, known_view x.1)
 
-known_zip : (fs : List ColumnFacts) (bys : List NamedBy) → map known_view (zip fs bys) ≡ all_known (map facts_view fs) bys
-known_zip [] bys = refl
+known_zip : (fs : List ColumnFacts) (ns : List Named) → map known_view (zip fs ns) ≡ all_known (map facts_view fs) (map named_view ns)
+known_zip [] ns = refl
 known_zip (f ∷ fs) [] = refl
-known_zip (f ∷ fs) (by ∷ bys) = ap (λ ks. known_view (f, by) ∷ ks) (known_zip fs bys)
+known_zip (f ∷ fs) (n ∷ ns) = ap (λ ks. known_view (f, n) ∷ ks) (known_zip fs ns)
 
-zip_known : (cs : List SchemaColumn) (ks : List (ColumnFacts × NamedBy)) → map viewed (zip cs ks) ≡ zip (map column_tree cs) (map known_view ks)
+zip_known : (cs : List SchemaColumn) (ks : List (ColumnFacts × Named)) → map viewed (zip cs ks) ≡ zip (map column_tree cs) (map known_view ks)
 zip_known [] ks = refl
 zip_known (c ∷ cs) [] = refl
 zip_known (c ∷ cs) (k ∷ ks) = ap (λ xs. (column_tree c, known_view k) ∷ xs) (zip_known cs ks)
 
-pub zip_viewed : (cs : List SchemaColumn) (fs : List ColumnFacts) (bys : List NamedBy)
-    → map viewed (zip cs (zip fs bys)) ≡ zip (map column_tree cs) (all_known (map facts_view fs) bys)
-zip_viewed cs fs bys = zip_known cs (zip fs bys) ∙ ap (zip (map column_tree cs)) (known_zip fs bys)
+pub zip_viewed : (cs : List SchemaColumn) (fs : List ColumnFacts) (ns : List Named)
+    → map viewed (zip cs (zip fs ns)) ≡ zip (map column_tree cs) (all_known (map facts_view fs) (map named_view ns))
+zip_viewed cs fs ns = zip_known cs (zip fs ns) ∙ ap (zip (map column_tree cs)) (known_zip fs ns)
 
 -- one more of them with its report
 reported_more : (infer : Bool) (w : Weighing) (xs : List (ColumnTree × Known)) (rs : List ColumnReport) (x : ColumnTree × Known) (r : ColumnReport) → AreReported infer w xs rs → IsColumnReport infer w x.0 x.1 r
@@ -43,7 +43,7 @@ reported_more infer w (y ∷ xs) (s ∷ rs) x r are is = (are.0, reported_more i
 reported_more infer w [] (s ∷ rs) x r are is = absurd are
 reported_more infer w (y ∷ xs) [] x r are is = absurd are
 
-pub reported_next : (infer : Bool) (w : Weighing) (xs : List (SchemaColumn × (ColumnFacts × NamedBy))) (rs new : List ColumnReport) (x : SchemaColumn × (ColumnFacts × NamedBy)) (r : ColumnReport) → AreReported infer w (map viewed xs) rs
+pub reported_next : (infer : Bool) (w : Weighing) (xs : List (SchemaColumn × (ColumnFacts × Named))) (rs new : List ColumnReport) (x : SchemaColumn × (ColumnFacts × Named)) (r : ColumnReport) → AreReported infer w (map viewed xs) rs
     → IsColumnReport infer w (column_tree x.0) (known_view x.1) r → new ≡ rs ++ r ∷ [] → AreReported infer w (map viewed (xs ++ x ∷ [])) new
 reported_next infer w xs rs new x r are is pushed =
     subst (AreReported infer w (map viewed (xs ++ x ∷ []))) (sym pushed)

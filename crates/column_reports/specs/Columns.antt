@@ -8,7 +8,8 @@ use Rattle.column_check.specs.declared.finding.Reasons.TheVariants.{Unread}
 use Rattle.column_check.specs.Warnings.{AreWarnings}
 use Rattle.column_check.specs.declared.warning.Warning.{Warning}
 use Rattle.geoparquet.specs.Facts.{facts_view}
-use Rattle.column_reports.specs.Gathered.{of_warnings}
+use Rattle.column_reports.specs.Beside.{AreBeside}
+use Rattle.column_reports.specs.Gathered.{of_column}
 use Rattle.column_reports.specs.Named.{Known}
 use Rattle.column_reports.specs.Weighed.{weighed}
 use Rattle.column_reports.specs.Weights.{Weighing}
@@ -21,12 +22,15 @@ abbrev pub IsFoundBy : NamedBy → Bool → ColumnTree → Finding → Type 0
 IsFoundBy Nobody infer c f = f ≡ Invalid Unread
 IsFoundBy by infer c f = IsFinding infer c f
 
--- the report of a column of which that is known, where types are inferred or not and that is asked of findings: the column itself, what is said of it,
--- its facts, and those of what is found of it that are told and shown
+-- the report of a column of which that is known, where types are inferred or not and that is asked of findings: the column itself, by whom it has its name,
+-- what is said of it, its facts, and those of what is found of it that are told and shown
 pub record IsColumnReport (infer : Bool) (w : Weighing) (c : ColumnTree) (k : Known) (r : ColumnReport) : Type 0 where
   pub column : column_tree r.column ≡ c
+  pub by : r.by ≡ k.by
   pub finding : IsFoundBy k.by infer c r.finding
   pub facts : facts_view r.facts ≡ k.facts
   pub warnings : List Warning
   pub are : AreWarnings true c r.finding warnings
-  pub findings : r.findings.items ≡ weighed w (of_warnings k c warnings)
+  pub beside : List Warning
+  pub are_beside : AreBeside k.beside beside
+  pub findings : r.findings.items ≡ weighed w (of_column k c warnings beside)

@@ -26,7 +26,7 @@ use Rattle.column_reports.specs.Columns.{IsColumnReport}
 use Rattle.column_reports.specs.Faults.{kept_text}
 use Rattle.column_reports.specs.FindingLines.{findings_text}
 use Rattle.column_reports.specs.Gathered.{of_file}
-use Rattle.column_reports.specs.Named.{Known, all_known, all_named_by}
+use Rattle.column_reports.specs.Named.{Known, all_known, all_named, nobody_where}
 use Rattle.column_reports.specs.Report.{report}
 use Rattle.column_reports.specs.Summary.{IsSummary}
 use Rattle.column_reports.specs.Weighed.{weighed}
@@ -58,7 +58,7 @@ pub record IsReport (infer : Bool) (w : Weighing) (opened : File) (r : FileRepor
   pub by : List ColumnTree
   pub are_by : AreColumnsBy (source_in opened.form opened.geo) (map column_tree opened.columns.items) by
   pub columns : AreReported infer w (zip by (all_known (facts_of (source_in opened.form opened.geo) (map column_tree opened.columns.items) (map claim opened.elements.items))
-      (all_named_by (map column_tree opened.columns.items) (map claim opened.elements.items)))) r.columns.items
+      (nobody_where opened.refuted.items (all_named (map column_tree opened.columns.items) (map claim opened.elements.items))))) r.columns.items
   -- what the metadata are found to be, of the columns that the file denotes
   pub geo : GeoReport
   pub is_geo : AreGeoFindings (source_in opened.form opened.geo) (map column_tree opened.columns.items) (map claim opened.elements.items) geo.version (map finding geo.findings.items)

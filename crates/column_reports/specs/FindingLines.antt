@@ -11,10 +11,11 @@ use Rattle.column_reports.specs.Objects.{array_of, object_of, string_if, number_
 use Rattle.column_reports.specs.declared.finding.Finding.{Finding}
 use Rattle.column_reports.specs.declared.weighed.Weighed.{Weighed}
 
--- how much it counts, the rule and the file
-abbrev pub rule_members : Option Text → Weighed → List (Text × Json)
-rule_members file w =
-    string_if (codes "severity") (Some (severity_text w.severity))
+-- what the object is, where it is a line; how much it counts, the rule and the file
+abbrev pub rule_members : Option Text → Option Text → Weighed → List (Text × Json)
+rule_members kind file w =
+    string_if (codes "kind") kind
+    ++ string_if (codes "severity") (Some (severity_text w.severity))
     ++ string_if (codes "code") (Some (word_of (code_in w.finding)))
     ++ string_if (codes "file") file
 
@@ -45,18 +46,18 @@ words_members f =
     ++ more_if (more_in f)
 
 -- a finding: an object of these
-abbrev pub finding_value : Option Text → Weighed → Json
-finding_value file w = object_of (rule_members file w ++ place_members w.finding ++ words_members w.finding)
+abbrev pub finding_value : Option Text → Option Text → Weighed → Json
+finding_value kind file w = object_of (rule_members kind file w ++ place_members w.finding ++ words_members w.finding)
 
 -- of a column of which something is found: all of it that is shown
 abbrev pub findings_in : List Weighed → Option Json
 findings_in [] = None
-findings_in (f ∷ fs) = Some (array_of (map (finding_value None) (f ∷ fs)))
+findings_in (f ∷ fs) = Some (array_of (map (finding_value None None) (f ∷ fs)))
 
 -- ---- lines
 
 abbrev pub finding_text : Option Text → Weighed → Text
-finding_text file f = print (json_tokens (finding_value file f))
+finding_text file f = print (json_tokens (finding_value (Some (codes "finding")) file f))
 
 -- the line with its line feed
 abbrev pub shown_text : Option Text → Weighed → Text

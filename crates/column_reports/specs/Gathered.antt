@@ -2,6 +2,8 @@
 use Rattle.std.specs.Prelude.{◌&&◌, Bool, true, false, List, [], ◌∷◌, ◌++◌, flat_map, map, if◌then◌else◌}
 use Rattle.arrow_columns.specs.Column.{ColumnTree}
 use Rattle.std.specs.List.{list_any}
+use Rattle.column_check.specs.declared.code.WarningCode.{WarningCode}
+use Rattle.column_check.specs.declared.code.WarningCode.TheVariants.{CrsMalformed, CrsEmpty, CrsTypeContradicts, CrsWkt1, CrsWithoutType, CrsNumber, CrsNotWhole, CoordinatesNotFloat, CoordinatesNotDouble, AxisOrder, AxisNames, NullableInner, UnionMode, NestedGeometry}
 use Rattle.column_check.specs.declared.warning.Warning.{Warning}
 use Rattle.parquet_footer.specs.declared.finding.FooterFinding.{FooterFinding}
 use Rattle.parquet_columns.specs.declared.finding.FileFinding.{FileFinding}
@@ -15,13 +17,47 @@ use Rattle.geoparquet.specs.declared.finding.Version.{Version}
 use Rattle.column_reports.specs.Named.{Known, is_told}
 use Rattle.column_reports.specs.declared.finding.Finding.{Finding}
 use Rattle.column_reports.specs.declared.finding.Finding.TheVariants.{Column, Text, File, Geo}
+use Rattle.column_reports.specs.declared.named.NamedBy.TheVariants.{Element}
 
 -- what is found of a column of which that is known, and is told of it
 abbrev pub if_told : Known → ColumnTree → Warning → List Finding
 if_told k c w = if is_told k c w then Column k.by w ∷ [] else []
 
-abbrev pub of_warnings : Known → ColumnTree → List Warning → List Finding
-of_warnings k c ws = flat_map (if_told k c) ws
+-- whether a code stands behind `CrsMalformed` in the order of codes
+abbrev pub is_behind : WarningCode → Bool
+is_behind CrsEmpty = true
+is_behind CrsTypeContradicts = true
+is_behind CrsWkt1 = true
+is_behind CrsWithoutType = true
+is_behind CrsNumber = true
+is_behind CrsNotWhole = true
+is_behind CoordinatesNotFloat = true
+is_behind CoordinatesNotDouble = true
+is_behind AxisOrder = true
+is_behind AxisNames = true
+is_behind NullableInner = true
+is_behind UnionMode = true
+is_behind NestedGeometry = true
+is_behind code = false
+
+-- what is told by itself, with a code up to that, or behind it
+abbrev pub if_before : Known → ColumnTree → Warning → List Finding
+if_before k c w = if is_behind w.code then [] else if_told k c w
+
+abbrev pub if_behind : Known → ColumnTree → Warning → List Finding
+if_behind k c w = if is_behind w.code then if_told k c w else []
+
+-- of what is found of the extension metadata that its element says beside it, that the CRS is no PROJJSON
+abbrev pub is_malformed : WarningCode → Bool
+is_malformed CrsMalformed = true
+is_malformed code = false
+
+abbrev pub if_malformed : Warning → List Finding
+if_malformed w = if is_malformed w.code then Column Element w ∷ [] else []
+
+-- what is found of a column of which that is known, in the order of codes: of itself that, and of what its element says beside it that
+abbrev pub of_column : Known → ColumnTree → List Warning → List Warning → List Finding
+of_column k c own beside = (flat_map (if_before k c) own ++ flat_map if_malformed beside) ++ flat_map (if_behind k c) own
 
 -- the code of a key in other letters, and that of missing metadata
 abbrev pub is_no_geo_metadata : FileCode → Bool

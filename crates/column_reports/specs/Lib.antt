@@ -1,5 +1,6 @@
 pub mod Codes
 pub mod Found
+pub mod Beside
 pub mod Columns
 pub mod Objects
 pub mod FindingLines

@@ -12,9 +12,10 @@ use Rattle.column_check.specs.declared.finding.Finding.{Finding as ColumnFinding
 use Rattle.column_check.specs.declared.finding.Finding.TheVariants.{Geometry, Invalid, Extension, Inferred, Plain}
 use Rattle.column_check.specs.States.{geometry_in}
 use Rattle.geoparquet.specs.Facts.{FactsOf, facts_view}
-use Rattle.column_reports.specs.FactMembers.{bbox_in, epoch_in, geometry_types_in, orientation_in, crs_fact_in, crs_members, edges_members_in, encoding_word_in, facts_in, verdicts_in}
+use Rattle.column_reports.specs.FactMembers.{bbox_in, epoch_in, geometry_types_in, orientation_in, crs_fact_in, crs_members, edges_members_in, encoding_word_in, facts_in, type_of_field, verdicts_in}
 use Rattle.column_reports.specs.FindingLines.{findings_in}
 use Rattle.column_reports.specs.Objects.{object_of, member_if, string_if}
+use Rattle.column_reports.specs.declared.named.NamedBy.{NamedBy}
 use Rattle.column_reports.specs.declared.report.ColumnReport.{ColumnReport}
 use Rattle.column_reports.specs.declared.weighed.Weighed.{Weighed}
 
@@ -34,37 +35,46 @@ abbrev pub type_word : ColumnTree → Option GeometryColumn → Text
 type_word c (Some g) = kind_text g.kind
 type_word c None = type_text c.data_type
 
--- the members, the name of the column first, then in the order of their keys: its box, its CRS, its edges and its epoch; names; what is found of it, its
--- geometry types, its place and its orientation; its state, its type and source, and what the others say
-abbrev pub names_of : Option Text → ColumnTree → List (Text × Json)
-names_of file c = string_if (codes "extension") (name_on c) ++ string_if (codes "file") file
+-- the members: what the object is, the file, where it is named, the place of the column and its name
+abbrev pub names_of : Option Text → ℕ → ColumnTree → List (Text × Json)
+names_of file index c =
+    string_if (codes "kind") (Some (codes "column"))
+    ++ string_if (codes "file") file
+    ++ member_if (codes "index") (Some (number (decimal index)))
+    ++ string_if (codes "column") (Some c.name)
 
-abbrev pub said_of : ColumnTree → Option FactsOf → List (Text × Json)
-said_of c fs =
-    string_if (codes "column") (Some c.name)
-    ++ member_if (codes "bbox") (bbox_in fs)
-    ++ crs_members (crs_fact_in fs)
+-- its state, its type, which source says it, and its extension name
+abbrev pub state_of : ColumnTree → ColumnFinding → Text → Option FactsOf → List (Text × Json)
+state_of c f word fs =
+    string_if (codes "state") (Some (state_word f))
+    ++ string_if (codes "type") (Some word)
+    ++ string_if (codes "type_from") (encoding_word_in fs)
+    ++ string_if (codes "extension") (name_on c)
+
+-- its CRS, its edges and its epoch
+abbrev pub crs_of : Option FactsOf → List (Text × Json)
+crs_of fs =
+    crs_members (crs_fact_in fs)
     ++ edges_members_in fs
     ++ member_if (codes "epoch") (epoch_in fs)
 
-abbrev pub found_of : ℕ → ColumnFinding → Text → Option FactsOf → List Weighed → List (Text × Json)
-found_of index f word fs ws =
-    member_if (codes "findings") (findings_in ws)
-    ++ member_if (codes "geometry_types") (geometry_types_in fs)
-    ++ member_if (codes "index") (Some (number (decimal index)))
-    ++ member_if (codes "orientation") (orientation_in fs)
-    ++ string_if (codes "state") (Some (state_word f))
-    ++ string_if (codes "type") (Some word)
-    ++ string_if (codes "type_from") (encoding_word_in fs)
+-- the orientation of its rings, its geometry types, its box, and what the other sources say
+abbrev pub more_facts_of : NamedBy → ColumnFinding → Option FactsOf → List (Text × Json)
+more_facts_of by f fs =
+    member_if (codes "orientation") (orientation_in fs)
+    ++ member_if (codes "geometry_types") (geometry_types_in fs (type_of_field by f))
+    ++ member_if (codes "bbox") (bbox_in fs)
     ++ member_if (codes "verdicts") (verdicts_in fs)
 
-abbrev pub members_of : Option Text → ℕ → ColumnTree → ColumnFinding → Option FactsOf → List Weighed → List (Text × Json)
-members_of file index c f fs ws =
-    said_of c fs
-    ++ names_of file c
-    ++ found_of index f (type_word c (geometry_in f)) fs ws
+abbrev pub members_of : Option Text → ℕ → ColumnTree → NamedBy → ColumnFinding → Option FactsOf → List Weighed → List (Text × Json)
+members_of file index c by f fs ws =
+    names_of file index c
+    ++ state_of c f (type_word c (geometry_in f)) fs
+    ++ crs_of fs
+    ++ more_facts_of by f fs
+    ++ member_if (codes "findings") (findings_in ws)
 
 -- the report: the file, where it is named, the place of the column, the column, what is said of it, its facts, and what is found of it
 abbrev pub report : Option Text → ℕ → ColumnReport → Json
 report file index r =
-    object_of (members_of file index (column_tree r.column) r.finding (facts_in (geometry_in r.finding) (facts_view r.facts)) r.findings.items)
+    object_of (members_of file index (column_tree r.column) r.by r.finding (facts_in (geometry_in r.finding) (facts_view r.facts)) r.findings.items)

@@ -15,7 +15,7 @@ use std::alloc::{AllocError, Global};
 /// let mut bad_lines = BadLines::new(alloc);
 /// bad_lines.add(BadLine { before: 1, fault: LineFault::NotObject })?;
 /// let lines = bad_line_lines(alloc, None, &bad_lines)?;
-/// assert_eq!(rt; lines.as_str(), "{\"error\":\"LineNotObject\",\"line\":2,\"message\":\"is JSON, but no object\",\"place\":\"line 2\"}\n");
+/// assert_eq!(rt; lines.as_str(), "{\"kind\":\"finding\",\"severity\":\"error\",\"code\":\"BadLine\",\"line\":2,\"found\":\"JSON that is no object\",\"expected\":\"a JSON object\"}\n");
 /// ```
 pub fn bad_line_lines(
     alloc: Global,

@@ -5,12 +5,15 @@ ghost use Rattle.geoparquet.specs.Facts.{crs_view, edges_view, facts_view};
 ghost use Rattle.value_tokens.specs.Adds.{Adds};
 ghost use Rattle.value_tokens.specs.Values.{or_null};
 ghost use Rattle.json.specs.Tree.{json_tokens};
-ghost use Rattle.column_reports.specs.FactMembers.{against_if, against_members, are_some, bbox_in, epoch_in, geometry_types_in, orientation_in, crs_against, crs_fact_in, crs_members, edges_against, edges_members, edges_members_in, encoding_against, encoding_word_in, has_one, verdict_members, verdict_word, verdicts_in};
+ghost use Rattle.column_reports.specs.FactMembers.{against_if, against_members, are_some, bbox_in, epoch_in, geometry_types_in, kind_of_field, orientation_in, crs_against, crs_fact_in, crs_members, edges_against, edges_members, edges_members_in, encoding_against, encoding_word_in, has_one, type_of_field, type_of_kind, types_said, verdict_members, verdict_word, verdicts_in};
 ghost use Rattle.column_reports.specs.Objects.{member_if, AddsMembers};
 
-use crate::put::{put_text, put_text_if};
+use crate::named::NamedBy;
+use crate::put::{put_one, put_text, put_text_if};
+use column_check::Finding;
 use crs_identity::Verdict;
-use geoparquet::{Against, ColumnFacts, CrsFact, EdgesFact};
+use geoarrow_layout::Kind;
+use geoparquet::{Against, ColumnFacts, CrsFact, EdgesFact, type_text};
 use json::{Scratch, Writer};
 use std::alloc::AllocError;
 use value_tokens::JsonText;
@@ -75,23 +78,62 @@ pub(crate) fn put_epoch(
     put_json_if(out, scratch, "epoch", facts.member.epoch.as_ref())
 }
 
-/// Writes the member of the types of geometries, if their member of `columns` says some.
+/// Returns the kind that a field has by its extension name, or by inference. That of a column which has
+/// its name by its member of `columns` is none: it is the encoding that the member says.
+fn kind_of_field(by: NamedBy, finding: &Finding) -> Option<Kind>
+    ensures { result ≡ kind_of_field by finding.now }
+{
+    match (by, finding) {
+        (NamedBy::Geo, Finding::Geometry(_)) => None,
+        (_, Finding::Geometry(geometry) | Finding::Inferred(geometry)) => Some(geometry.kind),
+        _ => None,
+    }
+}
+
+/// Returns the geometry type of a kind, if there is one.
+fn type_of_kind(kind: Kind) -> Option<&'static str>
+    ensures { text_of result ≡ type_of_kind kind }
+{
+    match kind {
+        Kind::Native(kind, _, dimension) => Some(type_text(kind, dimension)),
+        Kind::Geometry(_) | Kind::Rect(_) | Kind::Wkb(_) | Kind::Wkt(_) => None,
+    }
+}
+
+/// Returns the geometry type that a field says by its kind, if it says one.
+pub(crate) fn type_of_field(by: NamedBy, finding: &Finding) -> Option<&'static str>
+    ensures { text_of result ≡ type_of_field by finding.now }
+{
+    type_of_kind(kind_of_field(by, finding)?)
+}
+
+/// Returns the types of geometries that their member of `columns` says, if it says some.
+fn types_said(facts: Option<&ColumnFacts>) -> Option<&JsonText>
+    ensures { option_map (λ v. v.now) result ≡ types_said (option_map (λ f. facts_view f.now) facts.entry) }
+{
+    match facts {
+        Some(facts) => facts.member.geometry_types.as_ref(),
+        None => None,
+    }
+}
+
+/// Writes the member of the types of geometries: those that their member of `columns` says, or else
+/// the one that their field says, if there are any.
 pub(crate) fn put_geometry_types(
     out: &mut Writer,
     scratch: &mut Scratch,
     facts: Option<&ColumnFacts>,
+    own: Option<&str>,
 ) -> Result<(), AllocError>
-    ensures { OnOk result (AddsMembers (member_if (codes "geometry_types") (geometry_types_in (option_map (λ f. facts_view f.now) facts.entry))) out.old out.new) }
+    ensures { OnOk result (AddsMembers (member_if (codes "geometry_types") (geometry_types_in (option_map (λ f. facts_view f.now) facts.entry) (text_of own.entry))) out.old out.new) }
 {
-    let Some(facts) = facts else {
-        return Ok(());
-    };
-    put_json_if(
-        out,
-        scratch,
-        "geometry_types",
-        facts.member.geometry_types.as_ref(),
-    )
+    if let Some(types) = types_said(facts) {
+        return put_json_if(out, scratch, "geometry_types", Some(types));
+    }
+    match own {
+        Some(own) => put_one(out, "geometry_types", own),
+        None => Ok(()),
+    }
 }
 
 /// Writes the member of the orientation of geometries, if their member of `columns` says one.
@@ -136,8 +178,8 @@ fn put_crs_fact(out: &mut Writer, scratch: &mut Scratch, crs: &CrsFact) -> Resul
 {
     out.key("crs")?;
     put_json(out, scratch, crs.crs.as_ref())?;
-    put_text(out, "crs_from", crs.from.word())?;
-    put_text_if(out, "crs_type", crs.crs_type.as_deref())
+    put_text_if(out, "crs_type", crs.crs_type.as_deref())?;
+    put_text(out, "crs_from", crs.from.word())
 }
 
 /// Writes the members of the edges of geometries.

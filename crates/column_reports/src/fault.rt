@@ -1,31 +1,39 @@
 //! Why a file is refused, as a line of JSON and in words.
-ghost use Rattle.std.specs.Prelude.{◌≡◌, ◌≢◌, All, IfOk, OnOk, Some, option_map, string_bytes};
-ghost use Rattle.json.specs.Print.{print};
-ghost use Rattle.json.specs.Tree.{json_tokens};
+ghost use Rattle.std.specs.Prelude.{◌≡◌, ◌≢◌, ◌++◌, All, IfOk, OnOk, map, option_map, string_bytes};
 ghost use Rattle.arrow_values.specs.Texts.{text_of};
+ghost use Rattle.column_files.specs.Refusals.{told};
 ghost use Rattle.column_reports.specs.Objects.{AddsMembers};
-ghost use Rattle.column_reports.specs.Faults.{byte_in, line_in, element_in, column_in, counted};
-ghost use Rattle.column_reports.specs.Faults.{place_text, placed, with_more, said_of, fault_text};
-ghost use Rattle.column_reports.specs.Faults.{numbers_of, words_of, message_of, told, told_report, fault_report};
+ghost use Rattle.column_reports.specs.FindingWords.{each};
+ghost use Rattle.column_reports.specs.Faults.{part_in, byte_in, line_in, element_in, index_in};
+ghost use Rattle.column_reports.specs.Faults.{rule_of, place_of, words_of, fault_line};
+ghost use Rattle.column_reports.specs.Faults.{number_words, place_parts, said_words, fault_words};
 
 use crate::finding_json::put_more;
 use crate::put::{put_number_if, put_text, put_text_if};
+use crate::sentence::{add, around, placed};
+use column_check::Severity;
 use column_files::{Fault, Place};
 use json::Writer;
 use std::alloc::{AllocError, Global};
 use value_tokens::text_of;
 
-/// Returns why a file is refused as a line of JSON, without a line feed and without blanks between
-/// its parts (docs/FORMAT.md, 2.8), with the name of the file, where one is given. Errs only when
-/// out of memory.
+/// Returns why a file is refused as a line of JSON: an object with the keys `kind`, which is
+/// `finding`, `severity`, `code`, `file`, `index`, `in`, `byte`, `line`, `element`, `found`, `expected` and `help`, in this order
+/// and without blanks (docs/FORMAT.md, 2.8), and without a line feed. What does not apply is left
+/// out, and `file` where none is named. Errs only when out of memory.
 ///
 /// ```rust
-/// let fault = fault_of(Form::Lines, FileFault::NoField(1, LineFault::NotObject));
+/// let refused = FileFault::NoField(1, LineFault::NotObject);
+/// let fault = fault_of(Form::Lines, &refused);
 /// let line = fault_line(alloc, Some("a.json"), &fault)?;
-/// assert_eq!(rt; line.as_str(), r#"{"error":"LineNotObject","file":"a.json","line":2,"message":"is JSON, but no object","place":"line 2"}"#);
+/// assert_eq!(rt; line.as_str(), r#"{"kind":"finding","severity":"error","code":"BadLine","file":"a.json","line":2,"found":"JSON that is no object","expected":"a JSON object"}"#);
 /// ```
-pub fn fault_line(alloc: Global, file: Option<&str>, fault: &Fault) -> Result<String, AllocError>
-    ensures text { IfOk result (λ line. string_bytes line ≡ print (json_tokens (fault_report (text_of file.entry) fault.now))) }
+pub fn fault_line(
+    alloc: Global,
+    file: Option<&str>,
+    fault: &Fault<'_>,
+) -> Result<String, AllocError>
+    ensures text { IfOk result (λ line. string_bytes line ≡ fault_line (text_of file.entry) 0 (told fault.now)) }
     ensures one_line { IfOk result (λ line. All (λ b. b ≢ 10) (string_bytes line)) }
 {
     line_with(alloc, file, 0, fault)
@@ -37,137 +45,126 @@ pub(crate) fn line_with(
     alloc: Global,
     file: Option<&str>,
     more: usize,
-    fault: &Fault,
+    fault: &Fault<'_>,
 ) -> Result<String, AllocError>
-    ensures text { IfOk result (λ line. string_bytes line ≡ print (json_tokens (told_report (text_of file.entry) more (told fault.now)))) }
+    ensures text { IfOk result (λ line. string_bytes line ≡ fault_line (text_of file.entry) more (told fault.now)) }
     ensures one_line { IfOk result (λ line. All (λ b. b ≢ 10) (string_bytes line)) }
 {
-    let place = place_text(alloc, fault.place)?;
     let mut out = Writer::new(Vec::new(alloc));
     out.begin_object()?;
-    put_numbers(&mut out, fault.place)?;
-    put_words(&mut out, file, fault)?;
-    put_message(&mut out, fault, more, &place)?;
+    put_rule(&mut out, file, fault)?;
+    put_place(&mut out, fault.place)?;
+    put_words(&mut out, more, fault)?;
     out.end_object()?;
     Ok(text_of(out))
 }
 
-/// Returns why a file is refused, in words: the place, if there is one, what is wrong there, what is
-/// found, if that is said, and what to try, if anything is known. Errs only when out of memory.
-///
-/// ```rust
-/// let fault = fault_of(Form::Lines, FileFault::NoField(1, LineFault::NotObject));
-/// assert_eq!(rt; fault_text(alloc, &fault)?.as_str(), "line 2: is JSON, but no object");
-/// ```
-pub fn fault_text(alloc: Global, fault: &Fault) -> Result<String, AllocError>
-    ensures { IfOk result (λ text. string_bytes text ≡ fault_text fault.now) }
+/// Writes what the object is, that a fault is an error, its code, and the name of the file.
+fn put_rule(out: &mut Writer, file: Option<&str>, fault: &Fault<'_>) -> Result<(), AllocError>
+    ensures { OnOk result (AddsMembers (rule_of (text_of file.entry) (told fault.now)) out.old out.new) }
 {
-    let said = said_of(alloc, fault)?;
-    match place_text(alloc, fault.place)? {
-        None => Ok(said),
-        Some(place) => placed(alloc, place, said.as_str()),
-    }
+    put_text(out, "kind", "finding")?;
+    put_text(out, "severity", Severity::Error.word())?;
+    put_text(out, "code", fault.code)?;
+    put_text_if(out, "file", file)
 }
 
-/// What is said of a place.
-fn placed(alloc: Global, place: String, said: &str) -> Result<String, AllocError>
-    ensures { IfOk result (λ text. string_bytes text ≡ placed (Some (string_bytes place)) said.now) }
+/// Writes a place.
+fn put_place(out: &mut Writer, place: Place) -> Result<(), AllocError>
+    ensures { OnOk result (AddsMembers (place_of place) out.old out.new) }
 {
-    format!(in alloc; "{place}: {said}")
-}
-
-/// What is wrong, what is found, and what to try.
-fn said_of(alloc: Global, fault: &Fault) -> Result<String, AllocError>
-    ensures { IfOk result (λ text. string_bytes text ≡ said_of fault.now) }
-{
-    let mut text = String::from_str(alloc, fault.message)?;
-    push_if(&mut text, ": ", fault.found)?;
-    push_if(&mut text, ". ", fault.help)?;
-    Ok(text)
-}
-
-/// Adds a text to another, if there is one, and before it what stands between.
-fn push_if(text: &mut String, between: &str, more: Option<&str>) -> Result<(), AllocError>
-    ensures { OnOk result (string_bytes text.new ≡ with_more (string_bytes text.old) between.now (text_of more.entry)) }
-{
-    if let Some(more) = more {
-        text.push_str(between)?;
-        text.push_str(more)?;
-    }
-    Ok(())
-}
-
-/// A place in words, unless it is the file as a whole.
-fn place_text(alloc: Global, place: Place) -> Result<Option<String>, AllocError>
-    ensures { IfOk result (λ text. option_map string_bytes text ≡ place_text place) }
-{
-    match place {
-        Place::File => Ok(None),
-        Place::Line(line) => named(alloc, "line ", line, ""),
-        Place::LineByte(line, byte) => {
-            let behind = counted(alloc, ", byte ", byte, "")?;
-            named(alloc, "line ", line, behind.as_str())
-        }
-        Place::Byte(byte) => named(alloc, "byte ", byte, ""),
-        Place::MessageByte(byte) => named(alloc, "byte ", byte, " of the message"),
-        Place::FooterByte(byte) => named(alloc, "byte ", byte, " of the footer"),
-        Place::Element(element) => named(alloc, "element ", element, " of the schema"),
-        Place::Column(column) => named(alloc, "column ", column, ""),
-    }
-}
-
-/// The words of a place with a number.
-fn named(
-    alloc: Global,
-    before: &str,
-    number: u64,
-    behind: &str,
-) -> Result<Option<String>, AllocError>
-    ensures { IfOk result (λ text. option_map string_bytes text ≡ Some (counted before.now number behind.now)) }
-{
-    Ok(Some(counted(alloc, before, number, behind)?))
-}
-
-/// A number between two texts.
-fn counted(alloc: Global, before: &str, number: u64, behind: &str) -> Result<String, AllocError>
-    ensures { IfOk result (λ text. string_bytes text ≡ counted before.now number behind.now) }
-{
-    format!(in alloc; "{before}{number}{behind}")
-}
-
-/// Writes the numbers of a place but that of its line.
-fn put_numbers(out: &mut Writer, place: Place) -> Result<(), AllocError>
-    ensures { OnOk result (AddsMembers (numbers_of place) out.old out.new) }
-{
+    put_number_if(out, "index", index_in(place))?;
+    put_text_if(out, "in", part_in(place))?;
     put_number_if(out, "byte", byte_in(place))?;
-    put_number_if(out, "column", column_in(place))?;
+    put_number_if(out, "line", line_in(place))?;
     put_number_if(out, "element", element_in(place))
 }
 
-/// Writes the code, the name of the file, what is found and what to try.
-fn put_words(out: &mut Writer, file: Option<&str>, fault: &Fault) -> Result<(), AllocError>
-    ensures { OnOk result (AddsMembers (words_of (text_of file.entry) (told fault.now)) out.old out.new) }
+/// Writes what is found, what is expected, what helps, and how many more there are.
+fn put_words(out: &mut Writer, more: usize, fault: &Fault<'_>) -> Result<(), AllocError>
+    ensures { OnOk result (AddsMembers (words_of more (told fault.now)) out.old out.new) }
 {
-    put_text(out, "error", fault.code)?;
-    put_text_if(out, "file", file)?;
-    put_text_if(out, "found", fault.found)?;
-    put_text_if(out, "help", fault.help)
+    put_text(out, "found", fault.found)?;
+    put_text(out, "expected", fault.expected)?;
+    put_text_if(out, "help", fault.help)?;
+    put_more(out, more)
 }
 
-/// Writes the number of the line, what is wrong, how many more there are, and the place in words.
-fn put_message(
-    out: &mut Writer,
-    fault: &Fault,
-    more: usize,
-    place: &Option<String>,
-) -> Result<(), AllocError>
-    requires { option_map string_bytes place.now ≡ place_text fault.now.place }
-    ensures { OnOk result (AddsMembers (message_of more (told fault.now)) out.old out.new) }
+/// Returns why a file is refused, in words (docs/FORMAT.md, 2.8): `error[CODE] IN, byte N, line N:
+/// found FOUND; expected EXPECTED. HELP`, where parts that do not apply are left out. Errs only when
+/// out of memory.
+///
+/// ```rust
+/// let refused = FileFault::NoField(1, LineFault::NotObject);
+/// let fault = fault_of(Form::Lines, &refused);
+/// let text = "error[BadLine] line 2: found JSON that is no object; expected a JSON object";
+/// assert_eq!(rt; fault_words(alloc, &fault)?.as_str(), text);
+/// ```
+pub fn fault_words(alloc: Global, fault: &Fault<'_>) -> Result<String, AllocError>
+    ensures { IfOk result (λ text. string_bytes text ≡ fault_words (told fault.now)) }
 {
-    put_number_if(out, "line", line_in(fault.place))?;
-    put_text(out, "message", fault.message)?;
-    put_more(out, more)?;
-    put_text_if(out, "place", place.as_deref())
+    let code = fault.code;
+    let parts = place_parts(alloc, fault.place)?;
+    let place = placed(alloc, parts.as_slice())?;
+    let said = said_words(alloc, fault)?;
+    format!(in alloc; "error[{code}]{place}: {said}")
+}
+
+/// The parts of a place.
+fn place_parts(alloc: Global, place: Place) -> Result<Vec<String>, AllocError>
+    ensures { IfOk result (λ parts. map string_bytes parts.items ≡ place_parts place) }
+{
+    let mut parts = Vec::new(alloc);
+    add(&mut parts, number_words(alloc, "column ", index_in(place))?)?;
+    add_text(alloc, &mut parts, part_in(place))?;
+    add(&mut parts, number_words(alloc, "byte ", byte_in(place))?)?;
+    add(&mut parts, number_words(alloc, "line ", line_in(place))?)?;
+    add(
+        &mut parts,
+        number_words(alloc, "element ", element_in(place))?,
+    )?;
+    Ok(parts)
+}
+
+/// Adds a part, if it is there.
+fn add_text(alloc: Global, parts: &mut Vec<String>, part: Option<&str>) -> Result<(), AllocError>
+    ensures { OnOk result (map string_bytes parts.new.items ≡ map string_bytes parts.old.items ++ each (text_of part.entry)) }
+{
+    match part {
+        Some(part) => add(parts, Some(String::from_str(alloc, part)?)),
+        None => Ok(()),
+    }
+}
+
+/// A number, and what it is of.
+fn number_words(alloc: Global, of: &str, number: Option<u64>) -> Result<Option<String>, AllocError>
+    ensures { IfOk result (λ text. option_map string_bytes text ≡ number_words of.now number) }
+{
+    match number {
+        Some(number) => Ok(Some(format!(in alloc; "{of}{number}")?)),
+        None => Ok(None),
+    }
+}
+
+/// What is found, what is expected, and what helps.
+fn said_words(alloc: Global, fault: &Fault<'_>) -> Result<String, AllocError>
+    ensures { IfOk result (λ text. string_bytes text ≡ said_words (told fault.now)) }
+{
+    let (found, expected) = (fault.found, fault.expected);
+    let help = around(alloc, ". ", fault.help, "")?;
+    format!(in alloc; "found {found}; expected {expected}{help}")
+}
+
+/// The part of the file that a place is in.
+fn part_in(place: Place) -> Option<&'static str>
+    ensures { text_of result ≡ part_in place }
+{
+    match place {
+        Place::MessageByte(_) => Some("message"),
+        Place::FooterByte(_) => Some("footer"),
+        Place::Element(_) => Some("elements"),
+        _ => None,
+    }
 }
 
 /// The byte of a place.
@@ -203,12 +200,12 @@ fn element_in(place: Place) -> Option<u64>
     }
 }
 
-/// The column of a place.
-fn column_in(place: Place) -> Option<u64>
-    ensures { result ≡ column_in place }
+/// The column of a place, by its index.
+fn index_in(place: Place) -> Option<u64>
+    ensures { result ≡ index_in place }
 {
     match place {
-        Place::Column(column) => Some(column),
+        Place::Column(index) => Some(index),
         _ => None,
     }
 }

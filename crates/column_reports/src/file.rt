@@ -5,7 +5,7 @@ ghost use Rattle.arrow_values.specs.Texts.{text_of};
 ghost use Rattle.arrow_columns.specs.Column.{column_tree};
 ghost use Rattle.column_check.specs.States.{is_invalid, is_geometry};
 ghost use Rattle.geoparquet.specs.Facts.{facts_view};
-ghost use Rattle.column_reports.specs.Named.{all_known};
+ghost use Rattle.column_reports.specs.Named.{all_known, named_view};
 ghost use Rattle.column_reports.specs.FileReport.{AreReported, IsReport, Reports};
 ghost use Rattle.column_reports.specs.Summary.{has_error};
 ghost use Rattle.column_reports.specs.Weights.{plain, weighing};
@@ -13,7 +13,7 @@ ghost use Rattle.column_reports.specs.Weights.{plain, weighing};
 use crate::gathered::of_file;
 use crate::geo::source_of;
 use crate::lines::json_lines;
-use crate::named::{NamedBy, all_named_by};
+use crate::named::{Named, named_in};
 use crate::report::{ColumnReport, Options, column_with};
 use crate::summary::{Summary, has_error};
 use crate::weighed::{Weighed, weigh};
@@ -80,12 +80,14 @@ pub fn weighed_report<'a>(
         columns,
         bad_lines,
         elements,
+        refuted,
         findings,
         texts,
         geo,
     } = opened;
     let source = source_of(form, &geo);
-    let named = all_named_by(alloc, columns.as_slice(), elements.as_slice())?;
+    let flags = refuted.as_slice();
+    let named = named_in(alloc, columns.as_slice(), elements.as_slice(), flags)?;
     let answer = inspect_geo(alloc, source, columns, elements.as_slice())?;
     let found = of_file(alloc, texts, findings, answer.report)?;
     let findings = weigh(alloc, weights, found)?;
@@ -107,17 +109,17 @@ fn report_columns(
     alloc: Global,
     columns: Vec<SchemaColumn>,
     facts: Vec<ColumnFacts>,
-    named: Vec<NamedBy>,
+    named: Vec<Named<'_>>,
     infer: bool,
     weights: &Weights,
 ) -> Result<Vec<ColumnReport>, AllocError>
-    ensures { IfOk result (λ reported. AreReported infer (weighing weights.now) (zip (map column_tree columns.items) (all_known (map facts_view facts.items) named.items)) reported.items) }
+    ensures { IfOk result (λ reported. AreReported infer (weighing weights.now) (zip (map column_tree columns.items) (all_known (map facts_view facts.items) (map named_view named.entry.items))) reported.items) }
 {
     let mut scratch = Scratch::new(alloc);
     let mut reported = Vec::new(alloc);
     let known = facts.into_iter().zip(named.into_iter());
-    for (column, (facts, by)) in columns.into_iter().zip(known) {
-        let said = column_with(alloc, &mut scratch, column, facts, by, infer, weights)?;
+    for (column, (facts, named)) in columns.into_iter().zip(known) {
+        let said = column_with(alloc, &mut scratch, column, facts, named, infer, weights)?;
         reported.push(said)?;
     }
     Ok(reported)
@@ -173,7 +175,7 @@ fn is_one_failed(columns: &[ColumnReport]) -> bool
 /// let options = Options { infer: false, notes: false };
 /// let lines = report_file(alloc, None, br#"{"name":"id","nullable":true,"type":"int64"}"#, options);
 /// let Ok(lines) = lines else { return Ok(()); };
-/// let line = "{\"column\":\"id\",\"index\":0,\"state\":\"plain\",\"type\":\"int64\"}\n";
+/// let line = "{\"kind\":\"column\",\"index\":0,\"column\":\"id\",\"state\":\"plain\",\"type\":\"int64\"}\n";
 /// assert_eq!(rt; lines.as_str(), line);
 /// ```
 pub fn report_file(

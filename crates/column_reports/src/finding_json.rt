@@ -15,8 +15,8 @@ use json::Writer;
 use std::alloc::{AllocError, Global};
 use value_tokens::text_of;
 
-/// Returns a finding as a line of JSON: an object with the keys `severity`, `code`, `file`,
-/// `column`, `path`, `in`, `pointer`, `byte`, `found`, `expected`, `help` and `more`, in this order
+/// Returns a finding as a line of JSON: an object with the keys `kind`, which is `finding`,
+/// `severity`, `code`, `file`, `column`, `path`, `in`, `pointer`, `byte`, `found`, `expected`, `help` and `more`, in this order
 /// and without blanks (docs/FORMAT.md, 5.1), and without a line feed. What does not apply is left
 /// out, and `file` where none is named. Errs only when out of memory.
 ///
@@ -30,14 +30,14 @@ use value_tokens::text_of;
 /// };
 /// let finding = Finding::Geo(Version::V1_1, finding);
 /// let line = finding_line(alloc, None, &Weighed { severity: Severity::Error, finding })?;
-/// let text = r#"{"severity":"error","code":"GeoVersion","in":"geo","pointer":"/version","found":"1","expected":"1.1.0","help":"The rules of 1.1.0 are used."}"#;
+/// let text = r#"{"kind":"finding","severity":"error","code":"GeoVersion","in":"geo","pointer":"/version","found":"1","expected":"1.1.0","help":"The rules of 1.1.0 are used."}"#;
 /// assert_eq!(rt; line.as_str(), text);
 ///
 /// let text = FooterText { bytes: &[0xff, b'a'], byte: 8 };
 /// let finding = Finding::Text(FooterFinding { code: FooterCode::KeyNotText, text });
 /// let note = Weighed { severity: Severity::Note, finding };
 /// let line = finding_line(alloc, Some("a.parquet"), &note)?;
-/// let text = r#"{"severity":"note","code":"KeyNotText","file":"a.parquet","in":"footer","byte":8,"found":"\\xffa","expected":"UTF-8","help":"It is passed over."}"#;
+/// let text = r#"{"kind":"finding","severity":"note","code":"KeyNotText","file":"a.parquet","in":"footer","byte":8,"found":"\\xffa","expected":"UTF-8","help":"It is passed over."}"#;
 /// assert_eq!(rt; line.as_str(), text);
 /// ```
 pub fn finding_line(
@@ -49,7 +49,7 @@ pub fn finding_line(
     ensures one_line { IfOk result (λ line. All (λ b. b ≢ 10) (string_bytes line)) }
 {
     let mut out = Writer::new(Vec::new(alloc));
-    put_finding(alloc, &mut out, file, found)?;
+    put_finding(alloc, &mut out, Some("finding"), file, found)?;
     Ok(text_of(out))
 }
 
@@ -67,7 +67,7 @@ pub(crate) fn put_findings(
     out.key("findings")?;
     out.begin_array()?;
     for finding in findings {
-        put_finding(alloc, out, None, finding)?;
+        put_finding(alloc, out, None, None, finding)?;
     }
     out.end_array()
 }
@@ -76,22 +76,30 @@ pub(crate) fn put_findings(
 fn put_finding(
     alloc: Global,
     out: &mut Writer,
+    kind: Option<&str>,
     file: Option<&str>,
     found: &Weighed<'_>,
 ) -> Result<(), AllocError>
-    ensures { OnOk result (Adds (json_tokens (finding_value (text_of file.entry) found.now)) out.old out.new) }
+    ensures { OnOk result (Adds (json_tokens (finding_value (text_of kind.entry) (text_of file.entry) found.now)) out.old out.new) }
 {
     out.begin_object()?;
-    put_rule(out, file, found)?;
+    put_rule(out, kind, file, found)?;
     put_place(out, &found.finding)?;
     put_words(alloc, out, &found.finding)?;
     out.end_object()
 }
 
-/// Writes how much the finding counts, the rule, and the file.
-fn put_rule(out: &mut Writer, file: Option<&str>, found: &Weighed<'_>) -> Result<(), AllocError>
-    ensures { OnOk result (AddsMembers (rule_members (text_of file.entry) found.now) out.old out.new) }
+/// Writes what the object is, where it is a line, how much the finding counts, the rule, and the
+/// file.
+fn put_rule(
+    out: &mut Writer,
+    kind: Option<&str>,
+    file: Option<&str>,
+    found: &Weighed<'_>,
+) -> Result<(), AllocError>
+    ensures { OnOk result (AddsMembers (rule_members (text_of kind.entry) (text_of file.entry) found.now) out.old out.new) }
 {
+    put_text_if(out, "kind", kind)?;
     put_text(out, "severity", found.severity.word())?;
     put_text(out, "code", found.finding.code().word())?;
     put_text_if(out, "file", file)

@@ -1,13 +1,13 @@
 //! What is found by each source, one behind another.
-ghost use Rattle.std.specs.Prelude.{◌≡◌, ◌++◌, IfOk, OnOk};
+ghost use Rattle.std.specs.Prelude.{◌≡◌, ◌++◌, IfOk, OnOk, flat_map};
 ghost use Rattle.std.specs.List.{list_any};
 ghost use Rattle.arrow_columns.specs.Column.{column_tree};
 ghost use Rattle.geoparquet.specs.Facts.{facts_view};
-ghost use Rattle.column_reports.specs.Named.{is_told, is_told_beside_geo, known};
-ghost use Rattle.column_reports.specs.Gathered.{if_told, of_warnings, of_texts, of_footer, is_of_letters, if_first, of_geo, of_file};
+ghost use Rattle.column_reports.specs.Named.{is_told, is_told_beside_geo, known, named_view};
+ghost use Rattle.column_reports.specs.Gathered.{if_told, if_before, if_behind, if_malformed, is_behind, of_column, of_texts, of_footer, is_of_letters, if_first, of_geo, of_file};
 
 use crate::finding::Finding;
-use crate::named::NamedBy;
+use crate::named::{Named, NamedBy};
 use arrow_columns::SchemaColumn;
 use column_check::{Warning, WarningCode};
 use geoparquet::{ColumnFacts, GeoCode, GeoFinding, GeoReport, Version};
@@ -16,35 +16,116 @@ use parquet_footer::FooterFinding;
 use std::alloc::{AllocError, Global};
 
 /// Returns what is found of a column of those facts, which has its extension name by that, as
-/// findings, but what is told of its member of `columns`. Errs only when out of memory.
-pub(crate) fn of_warnings(
+/// findings: of itself, but what is told of its member of `columns`; and that the CRS that its
+/// element says beside it is no PROJJSON. Errs only when out of memory.
+pub(crate) fn of_column(
     alloc: Global,
-    by: NamedBy,
+    named: Named<'_>,
     facts: &ColumnFacts,
     column: &SchemaColumn,
-    warnings: Vec<Warning>,
+    own: Vec<Warning>,
+    beside: Vec<Warning>,
 ) -> Result<Vec<Finding<'static>>, AllocError>
-    ensures { IfOk result (λ all. all.items ≡ of_warnings (known (facts_view facts.now, by)) (column_tree column.now) warnings.items) }
+    ensures { IfOk result (λ all. all.items ≡ of_column (known (facts_view facts.now, named_view named.entry)) (column_tree column.now) own.items beside.items) }
 {
     let mut all = Vec::new(alloc);
-    for warning in warnings {
-        add_told(&mut all, by, facts, column, warning)?;
+    let mut behind = Vec::new(alloc);
+    for warning in own {
+        add_by_order(&mut all, &mut behind, named, facts, column, warning)?;
     }
+    add_malformed(&mut all, beside)?;
+    add_behind(&mut all, behind)?;
     Ok(all)
+}
+
+/// Adds a finding of a column, if it is told of it, to those before, or to those behind what is found
+/// of a CRS that is no PROJJSON.
+fn add_by_order(
+    all: &mut Vec<Finding<'static>>,
+    behind: &mut Vec<Finding<'static>>,
+    named: Named<'_>,
+    facts: &ColumnFacts,
+    column: &SchemaColumn,
+    warning: Warning,
+) -> Result<(), AllocError>
+    ensures before { OnOk result (all.new.items ≡ all.old.items ++ if_before (known (facts_view facts.now, named_view named.entry)) (column_tree column.now) warning) }
+    ensures behind { OnOk result (behind.new.items ≡ behind.old.items ++ if_behind (known (facts_view facts.now, named_view named.entry)) (column_tree column.now) warning) }
+{
+    if is_behind(warning.code) {
+        add_told(behind, named, facts, column, warning)
+    } else {
+        add_told(all, named, facts, column, warning)
+    }
 }
 
 /// Adds a finding of a column, if it is told of it.
 fn add_told(
     all: &mut Vec<Finding<'static>>,
-    by: NamedBy,
+    named: Named<'_>,
     facts: &ColumnFacts,
     column: &SchemaColumn,
     warning: Warning,
 ) -> Result<(), AllocError>
-    ensures { OnOk result (all.new.items ≡ all.old.items ++ if_told (known (facts_view facts.now, by)) (column_tree column.now) warning) }
+    ensures { OnOk result (all.new.items ≡ all.old.items ++ if_told (known (facts_view facts.now, named_view named.entry)) (column_tree column.now) warning) }
 {
-    if is_told(by, facts, column, &warning) {
-        all.push(Finding::Column(by, warning))?;
+    if is_told(named, facts, column, &warning) {
+        all.push(Finding::Column(named.by, warning))?;
+    }
+    Ok(())
+}
+
+/// Whether a code stands behind `CrsMalformed` in the order of codes.
+fn is_behind(code: WarningCode) -> bool
+    ensures { result ≡ is_behind code }
+{
+    matches!(
+        code,
+        WarningCode::CrsEmpty
+            | WarningCode::CrsTypeContradicts
+            | WarningCode::CrsWkt1
+            | WarningCode::CrsWithoutType
+            | WarningCode::CrsNumber
+            | WarningCode::CrsNotWhole
+            | WarningCode::CoordinatesNotFloat
+            | WarningCode::CoordinatesNotDouble
+            | WarningCode::AxisOrder
+            | WarningCode::AxisNames
+            | WarningCode::NullableInner
+            | WarningCode::UnionMode
+            | WarningCode::NestedGeometry
+    )
+}
+
+/// Adds of what is found of the extension metadata that an element says beside a field that the CRS
+/// is no PROJJSON.
+fn add_malformed(all: &mut Vec<Finding<'static>>, beside: Vec<Warning>) -> Result<(), AllocError>
+    ensures { OnOk result (all.new.items ≡ all.old.items ++ flat_map if_malformed beside.items) }
+{
+    for warning in beside {
+        add_if_malformed(all, warning)?;
+    }
+    Ok(())
+}
+
+/// Adds a finding of extension metadata that an element says, if it is of a CRS that is no PROJJSON.
+fn add_if_malformed(all: &mut Vec<Finding<'static>>, warning: Warning) -> Result<(), AllocError>
+    ensures { OnOk result (all.new.items ≡ all.old.items ++ if_malformed warning) }
+{
+    if matches!(warning.code, WarningCode::CrsMalformed) {
+        all.push(Finding::Column(NamedBy::Element, warning))?;
+    }
+    Ok(())
+}
+
+/// Adds findings behind others.
+fn add_behind(
+    all: &mut Vec<Finding<'static>>,
+    behind: Vec<Finding<'static>>,
+) -> Result<(), AllocError>
+    ensures { OnOk result (all.new.items ≡ all.old.items ++ behind.entry.items) }
+{
+    for finding in behind {
+        all.push(finding)?;
     }
     Ok(())
 }
@@ -60,10 +141,10 @@ fn is_told_beside_geo(contradicts: bool, warning: &Warning) -> bool
 }
 
 /// Whether a finding is told of a column.
-fn is_told(by: NamedBy, facts: &ColumnFacts, column: &SchemaColumn, warning: &Warning) -> bool
-    ensures { result ≡ is_told (known (facts_view facts.now, by)) (column_tree column.now) warning.now }
+fn is_told(named: Named<'_>, facts: &ColumnFacts, column: &SchemaColumn, warning: &Warning) -> bool
+    ensures { result ≡ is_told (known (facts_view facts.now, named_view named.entry)) (column_tree column.now) warning.now }
 {
-    match by {
+    match named.by {
         NamedBy::Geo => {
             column.extension_type_name().is_none()
                 || is_told_beside_geo(facts.layout_contradicts, warning)

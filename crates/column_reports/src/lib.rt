@@ -8,6 +8,7 @@
 #![tactic(auto)]
 
 mod bad_lines;
+mod beside;
 mod bytes;
 mod code;
 mod fact_members;
@@ -32,7 +33,7 @@ mod words;
 
 pub use bad_lines::bad_line_lines;
 pub use code::Code;
-pub use fault::{fault_line, fault_text};
+pub use fault::{fault_line, fault_words};
 pub use file::{FileReport, report_file, report_of, weighed_report};
 pub use finding::Finding;
 pub use finding_json::finding_line;

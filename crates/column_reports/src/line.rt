@@ -7,11 +7,11 @@ ghost use Rattle.arrow_columns.specs.Column.{column_tree};
 ghost use Rattle.geoparquet.specs.Facts.{facts_view};
 ghost use Rattle.column_reports.specs.FactMembers.{facts_in};
 ghost use Rattle.column_reports.specs.Objects.{AddsMembers};
-ghost use Rattle.column_reports.specs.Report.{said_of, names_of, found_of, report};
+ghost use Rattle.column_reports.specs.Report.{names_of, state_of, crs_of, more_facts_of, report};
 
 use crate::fact_members::{
     encoding_word, put_bbox, put_crs, put_edges, put_epoch, put_geometry_types, put_orientation,
-    put_verdicts,
+    put_verdicts, type_of_field,
 };
 use crate::finding_json::put_findings;
 use crate::put::{put_number, put_text, put_text_if};
@@ -47,7 +47,7 @@ const LINE_ROOM: usize = 512;
 /// let options = Options { infer: false, notes: false };
 /// let report = report_column(alloc, &mut scratch, column, options)?;
 /// let line = json_line(alloc, &mut scratch, None, 3, &report)?;
-/// assert_eq!(rt; line.as_str(), r#"{"column":"geom","index":3,"state":"plain","type":"int64"}"#);
+/// assert_eq!(rt; line.as_str(), r#"{"kind":"column","index":3,"column":"geom","state":"plain","type":"int64"}"#);
 ///
 /// let mut metadata = BTreeMap::new(alloc);
 /// let name = String::from_str(alloc, "ARROW:extension:name")?;
@@ -58,14 +58,14 @@ const LINE_ROOM: usize = 512;
 /// let column = SchemaColumn { name: report.column.name, nullable: true, data_type, metadata };
 /// let report = report_column(alloc, &mut scratch, column, options)?;
 /// let line = json_line(alloc, &mut scratch, Some("a.arrow"), 0, &report)?;
-/// assert_eq!(rt; line.as_str(), r#"{"column":"geom","crs":"EPSG:4326","crs_from":"field","edges":"planar","edges_from":"field","extension":"geoarrow.wkb","file":"a.arrow","index":0,"state":"geometry","type":"wkb - -","type_from":"field"}"#);
+/// assert_eq!(rt; line.as_str(), r#"{"kind":"column","file":"a.arrow","index":0,"column":"geom","state":"geometry","type":"wkb - -","type_from":"field","extension":"geoarrow.wkb","crs":"EPSG:4326","crs_from":"field","edges":"planar","edges_from":"field"}"#);
 ///
 /// let data_type = AnyType::Data(DataType::Utf8);
 /// let SchemaColumn { name, nullable, metadata, .. } = report.column;
 /// let column = SchemaColumn { name, nullable, data_type, metadata };
 /// let report = report_column(alloc, &mut scratch, column, options)?;
 /// let line = json_line(alloc, &mut scratch, None, 0, &report)?;
-/// assert_eq!(rt; line.as_str(), r#"{"column":"geom","extension":"geoarrow.wkb","findings":[{"severity":"error","code":"WrongStorage","in":"field","found":"utf8","expected":"binary, large_binary or binary_view","help":"For WKT use geoarrow.wkt."}],"index":0,"state":"invalid","type":"utf8"}"#);
+/// assert_eq!(rt; line.as_str(), r#"{"kind":"column","index":0,"column":"geom","state":"invalid","type":"utf8","extension":"geoarrow.wkb","findings":[{"severity":"error","code":"WrongStorage","in":"field","found":"utf8","expected":"binary, large_binary or binary_view","help":"For WKT use geoarrow.wkt."}]}"#);
 ///
 /// let path = vec![in alloc; String::from_str(alloc, "child")?]?;
 /// let code = WarningCode::NestedGeometry;
@@ -75,9 +75,9 @@ const LINE_ROOM: usize = 512;
 /// let findings = vec![in alloc; warned]?;
 /// let finding = column_check::Finding::Extension;
 /// let (column, facts) = (report.column, report.facts);
-/// let report = ColumnReport { column, finding, facts, findings };
+/// let report = ColumnReport { column, by: NamedBy::Field, finding, facts, findings };
 /// let line = json_line(alloc, &mut scratch, None, 0, &report)?;
-/// assert_eq!(rt; line.as_str(), r#"{"column":"geom","extension":"geoarrow.wkb","findings":[{"severity":"warning","code":"NestedGeometry","path":["child"],"in":"field","found":"geoarrow.wkb","expected":"the name of a column alone","help":"GeoParquet takes columns at the root alone."}],"index":0,"state":"extension","type":"utf8"}"#);
+/// assert_eq!(rt; line.as_str(), r#"{"kind":"column","index":0,"column":"geom","state":"extension","type":"utf8","extension":"geoarrow.wkb","findings":[{"severity":"warning","code":"NestedGeometry","path":["child"],"in":"field","found":"geoarrow.wkb","expected":"the name of a column alone","help":"GeoParquet takes columns at the root alone."}]}"#);
 /// ```
 pub fn json_line(
     alloc: Global,
@@ -94,17 +94,11 @@ pub fn json_line(
     let type_word = type_word(alloc, &said.column, geometry)?;
     let mut out = Writer::new(Vec::with_capacity(alloc, LINE_ROOM)?);
     out.begin_object()?;
-    put_said(&mut out, scratch, &said.column, facts)?;
-    put_names(&mut out, &said.column, file)?;
-    put_found(
-        alloc,
-        &mut out,
-        scratch,
-        index,
-        said,
-        type_word.as_str(),
-        facts,
-    )?;
+    put_names(&mut out, file, index, &said.column)?;
+    put_state(&mut out, said, type_word.as_str(), facts)?;
+    put_crs_and_edges(&mut out, scratch, facts)?;
+    put_facts(&mut out, scratch, said, facts)?;
+    put_findings(alloc, &mut out, said.findings.as_slice())?;
     out.end_object()?;
     Ok(text_of(out))
 }
@@ -119,49 +113,61 @@ fn facts_in<'f>(geometry: Option<&Geometry>, facts: &'f ColumnFacts) -> Option<&
     }
 }
 
-/// Writes the name of a column, its box, its CRS, its edges and its epoch: those that there are.
-fn put_said(
+/// Writes what the object is, the name of the file, if there is one, and the place of a column and
+/// its name.
+fn put_names(
     out: &mut Writer,
-    scratch: &mut Scratch,
+    file: Option<&str>,
+    index: usize,
     column: &SchemaColumn,
+) -> Result<(), AllocError>
+    ensures { OnOk result (AddsMembers (names_of (text_of file.entry) index (column_tree column.now)) out.old out.new) }
+{
+    put_text(out, "kind", "column")?;
+    put_text_if(out, "file", file)?;
+    put_number(out, "index", index as u64)?;
+    put_text(out, "column", column.name.as_str())
+}
+
+/// Writes the state of a column, the word of its type, which source says it, and its extension name.
+fn put_state(
+    out: &mut Writer,
+    said: &ColumnReport,
+    word: &str,
     facts: Option<&ColumnFacts>,
 ) -> Result<(), AllocError>
-    ensures { OnOk result (AddsMembers (said_of (column_tree column.now) (option_map (λ f. facts_view f.now) facts.entry)) out.old out.new) }
+    ensures { OnOk result (AddsMembers (state_of (column_tree said.now.column) said.now.finding word.now (option_map (λ f. facts_view f.now) facts.entry)) out.old out.new) }
 {
-    put_text(out, "column", column.name.as_str())?;
-    put_bbox(out, scratch, facts)?;
+    put_text(out, "state", state_word(&said.finding))?;
+    put_text(out, "type", word)?;
+    put_text_if(out, "type_from", encoding_word(facts))?;
+    put_text_if(out, "extension", said.column.extension_type_name())
+}
+
+/// Writes the CRS, the edges and the epoch of geometries.
+fn put_crs_and_edges(
+    out: &mut Writer,
+    scratch: &mut Scratch,
+    facts: Option<&ColumnFacts>,
+) -> Result<(), AllocError>
+    ensures { OnOk result (AddsMembers (crs_of (option_map (λ f. facts_view f.now) facts.entry)) out.old out.new) }
+{
     put_crs(out, scratch, facts)?;
     put_edges(out, facts)?;
     put_epoch(out, scratch, facts)
 }
 
-/// Writes the names of the extension and the file: those that there are.
-fn put_names(out: &mut Writer, column: &SchemaColumn, file: Option<&str>) -> Result<(), AllocError>
-    ensures { OnOk result (AddsMembers (names_of (text_of file.entry) (column_tree column.now)) out.old out.new) }
-{
-    put_text_if(out, "extension", column.extension_type_name())?;
-    put_text_if(out, "file", file)
-}
-
-/// Writes the place of a column and what is found of it, its geometry types and its orientation, with
-/// the word of its type and what its sources say.
-fn put_found(
-    alloc: Global,
+/// Writes the orientation, the types and the box of geometries, and what the other sources say.
+fn put_facts(
     out: &mut Writer,
     scratch: &mut Scratch,
-    index: usize,
     said: &ColumnReport,
-    word: &str,
     facts: Option<&ColumnFacts>,
 ) -> Result<(), AllocError>
-    ensures { OnOk result (AddsMembers (found_of index said.now.finding word.now (option_map (λ f. facts_view f.now) facts.entry) said.now.findings.items) out.old out.new) }
+    ensures { OnOk result (AddsMembers (more_facts_of said.now.by said.now.finding (option_map (λ f. facts_view f.now) facts.entry)) out.old out.new) }
 {
-    put_findings(alloc, out, said.findings.as_slice())?;
-    put_geometry_types(out, scratch, facts)?;
-    put_number(out, "index", index as u64)?;
     put_orientation(out, scratch, facts)?;
-    put_text(out, "state", state_word(&said.finding))?;
-    put_text(out, "type", word)?;
-    put_text_if(out, "type_from", encoding_word(facts))?;
+    put_geometry_types(out, scratch, facts, type_of_field(said.by, &said.finding))?;
+    put_bbox(out, scratch, facts)?;
     put_verdicts(out, facts)
 }

@@ -2,6 +2,7 @@
 ghost use Rattle.std.specs.Prelude.{◌∷◌, [], OnOk, decimal, map, string_bytes};
 ghost use Rattle.json.specs.Json.{number, string};
 ghost use Rattle.arrow_values.specs.Texts.{text_of};
+ghost use Rattle.column_reports.specs.FactMembers.{one_text};
 ghost use Rattle.column_reports.specs.Objects.{array_of, string_if, number_if, AddsMembers};
 
 use json::Writer;
@@ -41,6 +42,16 @@ pub(crate) fn put_number_if(out: &mut Writer, key: &str, n: Option<u64>) -> Resu
         Some(n) => put_number(out, key, n),
         None => Ok(()),
     }
+}
+
+/// Writes a member whose value is an array of one string.
+pub(crate) fn put_one(out: &mut Writer, key: &str, text: &str) -> Result<(), AllocError>
+    ensures { OnOk result (AddsMembers ((key.now, one_text text.now) ∷ []) out.old out.new) }
+{
+    out.key(key)?;
+    out.begin_array()?;
+    out.string(text)?;
+    out.end_array()
 }
 
 /// Writes a member whose value is an array of strings.

@@ -3,11 +3,12 @@ ghost use Rattle.std.specs.Prelude.{IfOk};
 ghost use Rattle.arrow_columns.specs.Column.{column_tree};
 ghost use Rattle.geoparquet.specs.Facts.{facts_view};
 ghost use Rattle.column_reports.specs.Columns.{IsFoundBy, IsColumnReport};
-ghost use Rattle.column_reports.specs.Named.{known, known_alone};
+ghost use Rattle.column_reports.specs.Named.{known, known_alone, named_view};
 ghost use Rattle.column_reports.specs.Weights.{plain, weighing};
 
-use crate::gathered::of_warnings;
-use crate::named::NamedBy;
+use crate::beside::warnings_beside;
+use crate::gathered::of_column;
+use crate::named::{Named, NamedBy};
 use crate::weighed::{Weighed, weigh};
 use crate::weights::Weights;
 use arrow_columns::SchemaColumn;
@@ -31,12 +32,14 @@ pub struct Options {
 pub struct ColumnReport {
     /// The column itself.
     pub column: SchemaColumn,
+    /// Who gives it its extension name, if it has one.
+    pub by: NamedBy,
     /// What is said of it, as `inspect_column` of `column_check` answers it.
     pub finding: column_check::Finding,
     /// What counts of its CRS, its edges and its encoding, and which source says it.
     pub facts: ColumnFacts,
     /// What is found of it and shown: of why it is invalid and of what is doubtful, as `warnings` of
-    /// `column_check` answers it.
+    /// `column_check` answers it; and that the CRS that its element says beside it is no PROJJSON.
     pub findings: Vec<Weighed<'static>>,
 }
 
@@ -81,36 +84,35 @@ pub fn weighed_column(
     ensures { IfOk result (IsColumnReport infer (weighing weights.now) (column_tree column) (known_alone (column_tree column))) }
 {
     let facts = field_facts(alloc, &column)?;
-    column_with(
-        alloc,
-        scratch,
-        column,
-        facts,
-        NamedBy::Field,
-        infer,
-        weights,
-    )
+    let named = Named {
+        by: NamedBy::Field,
+        beside: None,
+    };
+    column_with(alloc, scratch, column, facts, named, infer, weights)
 }
 
-/// Returns a column of those facts, which has its extension name by that, with what is said of it and
-/// what is found of it, as it counts by what is asked of findings. Errs only when out of memory.
+/// Returns a column of those facts, which has its extension name by that, and beside which its
+/// element says that, with what is said of it and what is found of it, as it counts by what is asked
+/// of findings. Errs only when out of memory.
 pub(crate) fn column_with(
     alloc: Global,
     scratch: &mut Scratch,
     column: SchemaColumn,
     facts: ColumnFacts,
-    by: NamedBy,
+    named: Named<'_>,
     infer: bool,
     weights: &Weights,
 ) -> Result<ColumnReport, AllocError>
-    ensures { IfOk result (IsColumnReport infer (weighing weights.now) (column_tree column) (known (facts_view facts, by))) }
+    ensures { IfOk result (IsColumnReport infer (weighing weights.now) (column_tree column) (known (facts_view facts, named_view named.entry))) }
 {
-    let finding = said_of(alloc, scratch, &column, by, infer)?;
-    let warnings = warnings(alloc, &column, &finding, true)?;
-    let told = of_warnings(alloc, by, &facts, &column, warnings)?;
+    let finding = said_of(alloc, scratch, &column, named.by, infer)?;
+    let own = warnings(alloc, &column, &finding, true)?;
+    let beside = warnings_beside(alloc, scratch, named.beside)?;
+    let told = of_column(alloc, named, &facts, &column, own, beside)?;
     let findings = weigh(alloc, weights, told)?;
     Ok(ColumnReport {
         column,
+        by: named.by,
         finding,
         facts,
         findings,

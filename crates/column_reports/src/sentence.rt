@@ -48,7 +48,7 @@ pub fn finding_words(alloc: Global, found: &Weighed<'_>) -> Result<String, Alloc
 }
 
 /// The parts of a place behind a blank, with commas between them; nothing where there are none.
-fn placed(alloc: Global, parts: &[String]) -> Result<String, AllocError>
+pub(crate) fn placed(alloc: Global, parts: &[String]) -> Result<String, AllocError>
     ensures { IfOk result (λ text. string_bytes text ≡ placed (map string_bytes parts.now)) }
 {
     if parts.is_empty() {
@@ -75,7 +75,7 @@ fn place_parts(alloc: Global, finding: &Finding<'_>) -> Result<Vec<String>, Allo
 }
 
 /// Adds a part, if it is there.
-fn add(parts: &mut Vec<String>, part: Option<String>) -> Result<(), AllocError>
+pub(crate) fn add(parts: &mut Vec<String>, part: Option<String>) -> Result<(), AllocError>
     ensures { OnOk result (map string_bytes parts.new.items ≡ map string_bytes parts.old.items ++ each (option_map string_bytes part)) }
 {
     if let Some(part) = part {
@@ -153,23 +153,25 @@ fn more_words(alloc: Global, more: usize) -> Result<Option<String>, AllocError>
 fn said_words(alloc: Global, finding: &Finding<'_>) -> Result<String, AllocError>
     ensures { IfOk result (λ text. string_bytes text ≡ said_words finding.now) }
 {
-    let found = around(alloc, "found ", &finding.found(alloc)?, "; ")?;
+    let found = finding.found(alloc)?;
+    let found = around(alloc, "found ", found.as_deref(), "; ")?;
     let expected = finding.expected(alloc)?;
-    let help = around(alloc, ". ", &finding.help(alloc)?, "")?;
+    let help = finding.help(alloc)?;
+    let help = around(alloc, ". ", help.as_deref(), "")?;
     format!(in alloc; "{found}expected {expected}{help}")
 }
 
 /// A text between two others; nothing where there is none.
-fn around(
+pub(crate) fn around(
     alloc: Global,
     before: &str,
-    text: &Option<String>,
+    text: Option<&str>,
     behind: &str,
 ) -> Result<String, AllocError>
-    ensures { IfOk result (λ s. string_bytes s ≡ around before.now (option_map string_bytes text.now) behind.now) }
+    ensures { IfOk result (λ s. string_bytes s ≡ around before.now (text_of text.entry) behind.now) }
 {
     match text {
-        Some(text) => between(alloc, before, text.as_str(), behind),
+        Some(text) => between(alloc, before, text, behind),
         None => Ok(String::new(alloc)),
     }
 }

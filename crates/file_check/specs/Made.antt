@@ -16,7 +16,7 @@ use Rattle.file_check.specs.Names.{name_of}
 use Rattle.file_check.specs.Wants.{AreFoundIn}
 use Rattle.file_check.specs.declared.asked.Asked.{Asked}
 use Rattle.file_check.specs.declared.asked.Output.{Output}
-use Rattle.file_check.specs.declared.asked.Output.TheVariants.{Json, Table}
+use Rattle.file_check.specs.declared.asked.Output.TheVariants.{Json, Errors, Table, Github, Sarif}
 use Rattle.file_check.specs.declared.print.Made.{Made}
 
 -- the lines of JSON of a report
@@ -26,11 +26,17 @@ json_text file r = report_text (name_of file) r
 abbrev pub IsPastTable : FileFault → Type 0
 IsPastTable fault = (fault ≡ OutOfMemory) ⊎ (fault ≡ ReportTooLarge)
 
--- the text that is printed first: the lines of JSON within the limit; of a table nothing is said but that it may be too large; else no text
+-- the text that is printed first: the lines of JSON within the limit; of a table and of lines of findings nothing is said but that they may be too large; else no text
 abbrev pub IsTextOf : Output → Text → ℕ → FileReport → Result (String Global) FileFault → Type 0
 IsTextOf Json file limit r result = IsWithin limit (json_text file r) result
 IsTextOf Table file limit r (Ok text) = ⊤
 IsTextOf Table file limit r (Err fault) = IsPastTable fault
+IsTextOf Errors file limit r (Ok text) = ⊤
+IsTextOf Errors file limit r (Err fault) = IsPastTable fault
+IsTextOf Github file limit r (Ok text) = ⊤
+IsTextOf Github file limit r (Err fault) = IsPastTable fault
+IsTextOf Sarif file limit r (Ok text) = ⊤
+IsTextOf Sarif file limit r (Err fault) = IsPastTable fault
 IsTextOf output file limit r (Ok text) = string_bytes text ≡ []
 IsTextOf output file limit r (Err fault) = fault ≡ OutOfMemory
 

@@ -1,70 +1,78 @@
 -- What is printed of a file, and the status.
 use Rattle.std.specs.Prelude.{◌≡◌, ◌⊎◌, ◌++◌, ℕ, ⊤, List, Option, None, Ok, Err, codes, string_bytes}
 use Rattle.std.specs.Io.KnownBytes.{Appends}
-use Rattle.json.specs.Print.{print}
-use Rattle.json.specs.Tree.{json_tokens}
 use Rattle.arrow_values.specs.Tree.{Text}
-use Rattle.arrow_values.specs.Texts.{text_of}
 use Rattle.column_files.specs.Forms.{IsForm, head_bytes}
 use Rattle.column_files.specs.Faults.{IsReadError}
 use Rattle.column_files.specs.Reading.{GivesSchema, GivesEnd, IsEnd}
-use Rattle.column_files.specs.Refusals.{fault_code, fault_message, fault_place, fault_found, fault_help, long_line_code, long_line_message, behind}
+use Rattle.column_files.specs.Refusals.{Told, file_told, long_told}
 use Rattle.line_reader.specs.Sources.{GivesUpTo}
 use Rattle.column_files.specs.declared.columns.FileFault.{FileFault}
 use Rattle.column_files.specs.declared.fault.ReadFault.{ReadFault}
 use Rattle.column_files.specs.declared.fault.ReadFault.TheVariants.{Input, LongLine, File}
 use Rattle.column_files.specs.declared.form.Form.{Form}
 use Rattle.column_files.specs.declared.form.Form.TheVariants as forms
-use Rattle.column_files.specs.declared.refusal.Fault.{Fault}
-use Rattle.column_files.specs.declared.refusal.Place.TheVariants as places
-use Rattle.column_reports.specs.Faults.{fault_report}
+use Rattle.column_files.specs.declared.refusal.Place.TheVariants.{File as OfFile}
+use Rattle.column_reports.specs.Faults.{fault_line}
 use Rattle.file_check.specs.Asked.{output_of}
 use Rattle.file_check.specs.Counted.{status_of}
 use Rattle.file_check.specs.Made.{MakesOfEnd}
 use Rattle.file_check.specs.Names.{name_of}
 use Rattle.file_check.specs.declared.asked.Asked.{Asked}
 use Rattle.file_check.specs.declared.asked.Output.{Output}
-use Rattle.file_check.specs.declared.asked.Output.TheVariants.{Json, Lines, Ipc}
+use Rattle.file_check.specs.declared.asked.Output.TheVariants.{Json, Errors, Table, Github, Sarif, Lines, Ipc}
 use Rattle.file_check.specs.declared.print.Made.{Made}
 
 -- ---- a file that is refused
 
--- the code, what is wrong, the place, what is found and what to try of a fault of a file in that format; those of a line that is too long, behind so many
-pub record IsFaultOf (form : Form) (fault : FileFault) (f : Fault) : Type 0 where
-  pub code : f.code.now ≡ fault_code fault
-  pub message : f.message.now ≡ fault_message fault
-  pub place : f.place ≡ fault_place form fault
-  pub found : text_of f.found ≡ fault_found fault
-  pub help : text_of f.help ≡ fault_help fault
-
-pub record IsLongLine (before : ℕ) (f : Fault) : Type 0 where
-  pub code : f.code.now ≡ long_line_code
-  pub message : f.message.now ≡ long_line_message
-  pub place : f.place ≡ places.Line (behind before)
-  pub found : text_of f.found ≡ None
-  pub help : text_of f.help ≡ None
-
 -- the line of a fault, with its line feed
-abbrev pub fault_line : Text → Fault → Text
-fault_line file f = print (json_tokens (fault_report (name_of file) f)) ++ codes "\n"
+abbrev pub line_of_fault : Text → Told → Text
+line_of_fault file t = fault_line (name_of file) 0 t ++ codes "\n"
 
--- what is printed where a file is refused: with --json its fault, unless the system did not give it
-abbrev pub PrintsFault : Output → Text → Fault → Option (List ℕ) → Option (List ℕ) → Type 0
-PrintsFault Json file f old new = Appends old new (fault_line file f)
-PrintsFault output file f old new = ⊤
+-- what is said of a file stands on standard output too where its format has all that is said of a file; else nothing of it is printed there
+abbrev pub Keeps : Output → Option (List ℕ) → Option (List ℕ) → Type 0
+Keeps Table old new = ⊤
+Keeps Errors old new = ⊤
+Keeps Github old new = ⊤
+Keeps Sarif old new = ⊤
+Keeps output old new = new ≡ old
+
+-- what is told of a file that the system does not give, in its words
+abbrev pub unread_told : Text → Told
+unread_told words = record {
+  code = codes "CannotRead";
+  place = OfFile;
+  found = words;
+  expected = codes "a file that can be read";
+  help = None;
+}
+
+-- what is printed where a file is refused: with --json its fault
+abbrev pub PrintsFault : Output → Text → Told → Option (List ℕ) → Option (List ℕ) → Type 0
+PrintsFault Json file t old new = Appends old new (line_of_fault file t)
+PrintsFault output file t old new = Keeps output old new
 
 abbrev pub PrintsRefusal : Output → Text → Form → ReadFault → Option (List ℕ) → Option (List ℕ) → Type 0
-PrintsRefusal output file form (Input error) old new = new ≡ old
-PrintsRefusal output file form (LongLine before) old new = (f : Fault) × IsLongLine before f × PrintsFault output file f old new
-PrintsRefusal output file form (File fault) old new = (f : Fault) × IsFaultOf form fault f × PrintsFault output file f old new
+PrintsRefusal output file form (Input error) old new = (words : Text) × PrintsFault output file (unread_told words) old new
+PrintsRefusal output file form (LongLine before) old new = PrintsFault output file (long_told before) old new
+PrintsRefusal output file form (File fault) old new = PrintsFault output file (file_told form fault) old new
 
 -- ---- a file that is reported
 
--- what is printed of what is made, and the status: its text, and no more but with --lines and --ipc the columns behind it, of which nothing is said here;
--- with --ipc the status is 2 where no message holds the columns
+-- a text is printed; of a log of SARIF, whose results have commas between them, nothing is said here
+abbrev pub PrintsText : Output → List ℕ → Option (List ℕ) → Option (List ℕ) → Type 0
+PrintsText Sarif text old new = ⊤
+PrintsText output text old new = Appends old new text
+
+-- what is printed of what is made, and the status: its text, and no more but with --lines and --ipc the columns behind it, and with lines of findings what is asked
+-- and not met, of which nothing is said here; with --ipc the status is 2 where no message holds the columns
 abbrev pub Prints : Output → Asked → Made → Option (List ℕ) → Option (List ℕ) → ℕ → Type 0
 Prints Lines asked made old new status = status ≡ status_of asked.flags made.counted
 Prints Ipc asked made old new status = (status ≡ status_of asked.flags made.counted) ⊎ (status ≡ 2)
+Prints Table asked made old new status = status ≡ status_of asked.flags made.counted
+Prints Errors asked made old new status = status ≡ status_of asked.flags made.counted
+Prints Github asked made old new status = status ≡ status_of asked.flags made.counted
+Prints Sarif asked made old new status = status ≡ status_of asked.flags made.counted
 Prints output asked made old new status = Appends old new (string_bytes made.text) × (status ≡ status_of asked.flags made.counted)
 
 -- of the end of a file in that format, before which so many bytes stand: it is reported, or refused

@@ -1,6 +1,6 @@
 //! What is asked of files.
 ghost use Rattle.std.specs.Prelude.{◌≡◌};
-ghost use Rattle.file_check.specs.Asked.{output_of};
+ghost use Rattle.file_check.specs.Asked.{output_of, of_format};
 
 use column_reports::Weights;
 
@@ -29,29 +29,48 @@ pub struct Want {
 /// Which options that stand alone there are.
 #[derive(Debug, Clone, Copy)]
 pub struct Flags {
-    /// `--json`: lines of JSON.
-    pub json: bool,
+    /// `--format` or `--json`: what is printed in place of a table.
+    pub format: Format,
     /// `--lines`: lines of fields.
     pub lines: bool,
     /// `--ipc`: an Arrow stream.
     pub ipc: bool,
     /// `--infer`: types are inferred for columns without an extension name.
     pub infer: bool,
-    /// `--quiet`: nothing is printed of columns.
+    /// `--quiet`: only findings that count as errors are printed.
     pub quiet: bool,
+    /// `--problems`: only the rows of columns of which something is found stand in a table.
+    pub problems: bool,
     /// `--require-geometry`: a file has a column of geometries.
     pub require_geometry: bool,
+}
+
+/// A format of a report: `--format`.
+#[derive(Debug, Clone, Copy)]
+pub enum Format {
+    /// `text`: a table, and findings in words.
+    Text,
+    /// `json`: lines of JSON.
+    Json,
+    /// `github`: findings as commands of a workflow of GitHub.
+    Github,
+    /// `sarif`: findings as a log of SARIF 2.1.0.
+    Sarif,
 }
 
 /// What is printed of columns.
 #[derive(Debug, Clone, Copy)]
 pub enum Output {
-    /// Nothing.
-    Nothing,
+    /// A line for each finding that counts as an error.
+    Errors,
     /// A table for people.
     Table,
     /// Lines of JSON.
     Json,
+    /// A command of a workflow of GitHub for each finding.
+    Github,
+    /// A result of a log of SARIF for each finding.
+    Sarif,
     /// Lines of fields.
     Lines,
     /// An Arrow stream of its schema alone.
@@ -59,8 +78,8 @@ pub enum Output {
 }
 
 impl Flags {
-    /// Returns what is printed of columns: of several the first of lines of fields, a stream,
-    /// nothing, lines of JSON; and a table where none is asked for.
+    /// Returns what is printed of columns: of several the first of lines of fields, a stream; and what
+    /// the format has where neither is asked for.
     pub fn output(&self) -> Output
         ensures { result ≡ output_of self.now }
     {
@@ -68,12 +87,21 @@ impl Flags {
             Output::Lines
         } else if self.ipc {
             Output::Ipc
-        } else if self.quiet {
-            Output::Nothing
-        } else if self.json {
-            Output::Json
         } else {
-            Output::Table
+            of_format(self.format, self.quiet)
         }
+    }
+}
+
+/// What is printed of columns in a format, where only errors are asked for or more.
+fn of_format(format: Format, is_quiet: bool) -> Output
+    ensures { result ≡ of_format format is_quiet }
+{
+    match format {
+        Format::Text if is_quiet => Output::Errors,
+        Format::Text => Output::Table,
+        Format::Json => Output::Json,
+        Format::Github => Output::Github,
+        Format::Sarif => Output::Sarif,
     }
 }

@@ -5,6 +5,7 @@ ghost use Rattle.file_check.specs.Printed.{IsAnswered, IsUnread, IsRead, IsCheck
 
 use crate::asked::Asked;
 use crate::lines::check_lines;
+use crate::numbers::Tally;
 use crate::print::print_made;
 use crate::refusal::refuse;
 use crate::schema::made_of_end;
@@ -33,11 +34,11 @@ pub struct Answer {
 /// `--json`, and the status whatever is printed; of lines it says neither.
 ///
 /// ```rust
-/// let flags = Flags { json: true, lines: false, ipc: false, infer: false, quiet: false, require_geometry: false };
+/// let flags = Flags { format: file_check::Format::Json, lines: false, ipc: false, infer: false, quiet: false, problems: false, require_geometry: false };
 /// let weights = Weights::new(alloc, false);
 /// let asked = Asked { flags, weights, wants: Vec::new(alloc), files: Vec::new(alloc) };
 /// let answer = check_bytes(alloc, &asked, "-", b"\xef\xbb\xbf{}")?;
-/// let line = b"{\"error\":\"LineName\",\"line\":1,\"message\":\"is JSON, but no field: \\\"name\\\" is no text\",\"place\":\"line 1\"}\n";
+/// let line = b"{\"kind\":\"finding\",\"severity\":\"error\",\"code\":\"BadLine\",\"line\":1,\"found\":\"no string at \\\"name\\\"\",\"expected\":\"a string at \\\"name\\\"\"}\n";
 /// assert!(rt; answer.output.as_slice() == line.as_slice());
 /// assert_eq!(rt; answer.status, 2);
 /// ```
@@ -49,9 +50,18 @@ pub fn check_bytes(
 ) -> Result<Answer, AllocError>
     ensures { IfOk result (λ answer. IsWhole asked.now file.now bytes.now (Some []) (Some answer.output.items) answer.status) }
 {
+    let mut tally = Tally::new(alloc);
     let mut output = Vec::new(alloc);
     let mut errors = Vec::new(alloc);
-    match check_whole(alloc, asked, file, bytes, &mut output, &mut errors) {
+    match check_whole(
+        alloc,
+        asked,
+        file,
+        bytes,
+        &mut tally,
+        &mut output,
+        &mut errors,
+    ) {
         Ok(status) => Ok(Answer {
             output,
             errors,
@@ -67,6 +77,7 @@ fn check_whole<W: Write, E: Write>(
     asked: &Asked,
     file: &str,
     bytes: &[u8],
+    tally: &mut Tally,
     out: &mut W,
     err: &mut E,
 ) -> io::Result<u8>
@@ -74,17 +85,18 @@ fn check_whole<W: Write, E: Write>(
 {
     let form = form_of(bytes);
     match form {
-        Form::Lines => check_source(alloc, asked, file, bytes, out, err),
+        Form::Lines => check_source(alloc, asked, file, bytes, tally, out, err),
         Form::ArrowFile | Form::ArrowStream | Form::Parquet | Form::Foreign(_) => {
-            check_end(alloc, asked, file, form, 0, bytes, out, err)
+            check_end(alloc, asked, file, form, 0, bytes, tally, out, err)
         }
     }
 }
 
 /// Reports a file by a source of all its bytes, as standard input is: of an Arrow stream its first
 /// message is read, of an Arrow or Parquet file all, and lines one after another. What is asked of
-/// it is printed on `out`, and what is said of it on `err`. Returns the status. Errs where a writer
-/// fails, and when out of memory.
+/// it is printed on `out`, and what is said of it too, or on `err`, by its format; and what there is
+/// to count is added to the tally. Returns the status. Errs where a writer fails, and when out of
+/// memory.
 ///
 /// The contract says of a file that has a schema exactly what `--json` prints, and the status
 /// whatever is printed; of lines it says neither.
@@ -93,6 +105,7 @@ pub fn check_source<R: Read + Drop, W: Write, E: Write>(
     asked: &Asked,
     file: &str,
     source: R,
+    tally: &mut Tally,
     out: &mut W,
     err: &mut E,
 ) -> io::Result<u8>
@@ -100,8 +113,8 @@ pub fn check_source<R: Read + Drop, W: Write, E: Write>(
 {
     let mut source = source;
     match read_head(alloc, &mut source) {
-        Ok(head) => check_head(alloc, asked, file, head, source, out, err),
-        Err(fault) => refuse(alloc, asked, file, Form::Lines, fault, out, err),
+        Ok(head) => check_head(alloc, asked, file, head, source, tally, out, err),
+        Err(fault) => refuse(alloc, asked, file, Form::Lines, fault, tally, out, err),
     }
 }
 
@@ -112,6 +125,7 @@ fn check_head<R: Read + Drop, W: Write, E: Write>(
     file: &str,
     head: Vec<u8>,
     source: R,
+    tally: &mut Tally,
     out: &mut W,
     err: &mut E,
 ) -> io::Result<u8>
@@ -121,10 +135,10 @@ fn check_head<R: Read + Drop, W: Write, E: Write>(
     match form {
         Form::Lines => {
             let lines = LineColumns::new(alloc, head, source);
-            check_lines(alloc, asked, file, lines, out, err)
+            check_lines(alloc, asked, file, lines, tally, out, err)
         }
         Form::ArrowFile | Form::ArrowStream | Form::Parquet | Form::Foreign(_) => {
-            check_schema(alloc, asked, file, form, head, source, out, err)
+            check_schema(alloc, asked, file, form, head, source, tally, out, err)
         }
     }
 }
@@ -137,6 +151,7 @@ fn check_schema<R: Read + Drop, W: Write, E: Write>(
     form: Form,
     head: Vec<u8>,
     source: R,
+    tally: &mut Tally,
     out: &mut W,
     err: &mut E,
 ) -> io::Result<u8>
@@ -145,8 +160,18 @@ fn check_schema<R: Read + Drop, W: Write, E: Write>(
 {
     let mut source = source;
     match read_schema_bytes(form, head, &mut source) {
-        Ok(bytes) => check_end(alloc, asked, file, form, 0, bytes.as_slice(), out, err),
-        Err(fault) => refuse(alloc, asked, file, form, fault, out, err),
+        Ok(bytes) => check_end(
+            alloc,
+            asked,
+            file,
+            form,
+            0,
+            bytes.as_slice(),
+            tally,
+            out,
+            err,
+        ),
+        Err(fault) => refuse(alloc, asked, file, form, fault, tally, out, err),
     }
 }
 
@@ -157,6 +182,7 @@ pub fn check_file<S: Read + Seek + Drop, W: Write, E: Write>(
     asked: &Asked,
     file: &str,
     source: S,
+    tally: &mut Tally,
     out: &mut W,
     err: &mut E,
 ) -> io::Result<u8>
@@ -164,8 +190,8 @@ pub fn check_file<S: Read + Seek + Drop, W: Write, E: Write>(
 {
     let mut source = source;
     match read_head(alloc, &mut source) {
-        Ok(head) => check_file_head(alloc, asked, file, head, source, out, err),
-        Err(fault) => refuse(alloc, asked, file, Form::Lines, fault, out, err),
+        Ok(head) => check_file_head(alloc, asked, file, head, source, tally, out, err),
+        Err(fault) => refuse(alloc, asked, file, Form::Lines, fault, tally, out, err),
     }
 }
 
@@ -176,6 +202,7 @@ fn check_file_head<S: Read + Seek + Drop, W: Write, E: Write>(
     file: &str,
     head: Vec<u8>,
     source: S,
+    tally: &mut Tally,
     out: &mut W,
     err: &mut E,
 ) -> io::Result<u8>
@@ -185,10 +212,10 @@ fn check_file_head<S: Read + Seek + Drop, W: Write, E: Write>(
     match form {
         Form::Lines => {
             let lines = LineColumns::new(alloc, head, source);
-            check_lines(alloc, asked, file, lines, out, err)
+            check_lines(alloc, asked, file, lines, tally, out, err)
         }
         Form::ArrowFile | Form::ArrowStream | Form::Parquet | Form::Foreign(_) => {
-            check_file_end(alloc, asked, file, form, head, source, out, err)
+            check_file_end(alloc, asked, file, form, head, source, tally, out, err)
         }
     }
 }
@@ -201,6 +228,7 @@ fn check_file_end<S: Read + Seek + Drop, W: Write, E: Write>(
     form: Form,
     head: Vec<u8>,
     source: S,
+    tally: &mut Tally,
     out: &mut W,
     err: &mut E,
 ) -> io::Result<u8>
@@ -211,9 +239,9 @@ fn check_file_end<S: Read + Seek + Drop, W: Write, E: Write>(
     match read_schema_end(alloc, form, head, &mut source) {
         Ok(end) => {
             let bytes = end.bytes.as_slice();
-            check_end(alloc, asked, file, form, end.start, bytes, out, err)
+            check_end(alloc, asked, file, form, end.start, bytes, tally, out, err)
         }
-        Err(fault) => refuse(alloc, asked, file, form, fault, out, err),
+        Err(fault) => refuse(alloc, asked, file, form, fault, tally, out, err),
     }
 }
 
@@ -225,13 +253,23 @@ fn check_end<W: Write, E: Write>(
     form: Form,
     start: u64,
     end: &[u8],
+    tally: &mut Tally,
     out: &mut W,
     err: &mut E,
 ) -> io::Result<u8>
     ensures { IfOk result (IsAnswered asked.now file.now form start end.now (W.contents out.old) (W.contents out.new)) }
 {
-    match made_of_end(alloc, asked, file, form, start, end) {
-        Ok(made) => print_made(alloc, asked, file, made, out, err),
-        Err(fault) => refuse(alloc, asked, file, form, ReadFault::File(fault), out, err),
+    match made_of_end(alloc, asked, file, form, start, end, tally) {
+        Ok(made) => print_made(alloc, asked, file, made, tally, out, err),
+        Err(fault) => refuse(
+            alloc,
+            asked,
+            file,
+            form,
+            ReadFault::File(fault),
+            tally,
+            out,
+            err,
+        ),
     }
 }

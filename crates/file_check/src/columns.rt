@@ -10,6 +10,7 @@ ghost use Rattle.file_check.specs.Columns.{extension_word, facts_of, held, row_o
 ghost use Rattle.file_check.specs.Crs.{crs_that_counts, edges_that_count};
 ghost use Rattle.file_check.specs.Shown.{shown};
 
+use crate::asked::Asked;
 use crate::cell::cut;
 use crate::crs::{crs_that_counts, edges_that_count};
 use crate::table::Row;
@@ -35,6 +36,12 @@ pub fn row_of(alloc: Global, report: &ColumnReport) -> Result<Row, AllocError>
         edges: edges_cell(alloc, facts_of(report))?,
         notes: notes_of(alloc, report.findings.as_slice())?,
     })
+}
+
+/// Whether a column has a row in a table: with `--problems` only where it is invalid, or something is
+/// found of it and shown.
+pub(crate) fn is_in_table(asked: &Asked, report: &ColumnReport) -> bool {
+    !asked.flags.problems || report.finding.is_invalid() || !report.findings.is_empty()
 }
 
 /// The name of a column, as a cell.

@@ -5,19 +5,20 @@ ghost use Rattle.file_check.specs.Wants.{is_unmet, IsFoundIn, AreFoundIn};
 ghost use Rattle.file_check.specs.Counted.{misses, status_of};
 
 use crate::asked::{Asked, Want};
-use crate::refusal::say;
+use crate::numbers::Numbers;
+use crate::rules::{EXPECT, NO_GEOMETRY};
+use crate::told::Told;
 use crate::wants::Found;
 use column_reports::{ColumnReport, Summary};
 use std::alloc::{AllocError, Global};
-use std::io;
-use std::io::Write;
 
 /// What counts of a file for the status: of its columns and findings, and what is found of each
-/// expectation.
+/// expectation; and how many columns and findings there are.
 #[derive(Debug, Drop)]
 pub(crate) struct Counted {
     pub(crate) summary: Summary,
     pub(crate) found: Vec<Found>,
+    pub(crate) numbers: Numbers,
 }
 
 impl Counted {
@@ -36,23 +37,18 @@ impl Counted {
         self.summary.status(self.is_unmet(asked))
     }
 
-    /// Says on standard error what is asked of the file and not met.
-    pub(crate) fn say_unmet<E: Write>(
-        &self,
-        alloc: Global,
-        asked: &Asked,
-        file: &str,
-        err: &mut E,
-    ) -> io::Result<()> {
+    /// What is told of what is asked of the file and not met.
+    pub(crate) fn unmet(&self, alloc: Global, asked: &Asked) -> Result<Vec<Told>, AllocError> {
+        let mut unmet = Vec::new(alloc);
         for (want, found) in asked.wants.iter().zip(self.found.iter()) {
             if let Some(said) = found.said(alloc, want.column.as_str())? {
-                say(alloc, file, said.as_str(), err)?;
+                unmet.push(Told::error(alloc, EXPECT, said.as_str())?)?;
             }
         }
         if asked.flags.require_geometry && !self.summary.has_geometry {
-            say(alloc, file, "no column of geometries", err)?;
+            unmet.push(Told::error(alloc, NO_GEOMETRY, "no column of geometries")?)?;
         }
-        Ok(())
+        Ok(unmet)
     }
 }
 

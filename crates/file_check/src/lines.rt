@@ -1,19 +1,28 @@
 //! The report of lines, of which one at a time is kept.
 
 use crate::asked::{Asked, Output};
-use crate::columns::row_of;
+use crate::columns::{is_in_table, row_of};
 use crate::counted::Counted;
+use crate::findings::findings_text;
 use crate::names::named;
+use crate::numbers::{Numbers, Tally};
 use crate::print::{KEPT_BYTES, Made, named_table, print_made, push_line};
 use crate::refusal::{refuse, tell_bad_lines};
+use crate::said::{print_text, say};
 use crate::table::{Row, row_bytes};
+use crate::told::{push_column, push_findings};
 use crate::wants::Found;
 use arrow_columns::SchemaColumn;
 use column_files::{
-    BadLine, BadLines, FileFault, Form, LineColumns, MAX_LINE_BYTES, ReadFault, column_line,
+    BadLine, BadLines, File, FileFault, Form, GeoText, LineColumns, MAX_LINE_BYTES, ReadFault,
+    column_line,
 };
-use column_reports::{ColumnReport, Summary, json_line, report_budget, weighed_column};
+use column_reports::{
+    ColumnReport, FileReport, Weighed, finding_lines, json_line, report_budget, weighed_column,
+    weighed_report,
+};
 use json::Scratch;
+use parquet_columns::FileFinding;
 use std::alloc::{AllocError, Global};
 use std::io::{Read, Write};
 use std::{io, mem};
@@ -33,6 +42,8 @@ struct LineReport<'a> {
     columns: Vec<SchemaColumn>,
     counted: Counted,
     bad_lines: BadLines,
+    /// What is found of the file and shown.
+    findings: Vec<Weighed<'static>>,
     /// How many columns there are.
     count: usize,
 }
@@ -43,27 +54,44 @@ pub(crate) fn check_lines<R: Read + Drop, W: Write, E: Write>(
     asked: &Asked,
     file: &str,
     lines: LineColumns<R>,
+    tally: &mut Tally,
     out: &mut W,
     err: &mut E,
 ) -> io::Result<u8> {
-    let mut report = LineReport::new(alloc, asked, file)?;
-    match report.add_all(lines, out)? {
+    let mut report = LineReport::new(alloc, asked, file, lines.findings()?)?;
+    match report.add_all(lines, tally, out)? {
         None if report.bad_lines.is_empty() => {
-            print_made(alloc, asked, file, report.made()?, out, err)
+            let found = report.found_text(tally)?;
+            let mut made = report.made()?;
+            made.text.push_str(found.as_str())?;
+            print_made(alloc, asked, file, made, tally, out, err)
         }
-        None => report.print_beside(out, err),
+        None => report.print_beside(tally, out, err),
         Some(fault) => {
-            report.write(out)?;
-            tell_bad_lines(alloc, asked, file, &report.bad_lines, out, err)?;
-            refuse(alloc, asked, file, Form::Lines, fault, out, err)
+            report.write(tally, out)?;
+            tell_bad_lines(alloc, asked, file, &report.bad_lines, tally, out, err)?;
+            refuse(alloc, asked, file, Form::Lines, fault, tally, out, err)
         }
     }
 }
 
 impl<'a> LineReport<'a> {
-    /// The report of lines none of which is read yet.
-    fn new(alloc: Global, asked: &'a Asked, file: &'a str) -> Result<Self, AllocError> {
+    /// The report of lines none of which is read yet, and of which that is found.
+    fn new(
+        alloc: Global,
+        asked: &'a Asked,
+        file: &'a str,
+        findings: Vec<FileFinding>,
+    ) -> Result<Self, AllocError> {
+        let opened = without_lines(alloc, findings);
+        let FileReport {
+            findings,
+            summary,
+            ..
+        } = weighed_report(alloc, opened, asked.flags.infer, &asked.weights)?;
         let found = asked.wants.iter().map(|_| Found::NoColumn).collect(alloc)?;
+        let mut numbers = Numbers::new();
+        numbers.add_findings(findings.as_slice());
         Ok(LineReport {
             alloc,
             asked,
@@ -73,10 +101,12 @@ impl<'a> LineReport<'a> {
             rows: Vec::new(alloc),
             columns: Vec::new(alloc),
             counted: Counted {
-                summary: Summary::new(),
+                summary,
                 found,
+                numbers,
             },
             bad_lines: BadLines::new(alloc),
+            findings,
             count: 0,
         })
     }
@@ -86,23 +116,24 @@ impl<'a> LineReport<'a> {
     fn add_all<R: Read + Drop, W: Write>(
         &mut self,
         lines: LineColumns<R>,
+        tally: &mut Tally,
         out: &mut W,
     ) -> io::Result<Option<ReadFault>> {
         let mut lines = lines;
         for _ in 0..u64::MAX {
             let added = match lines.next_column() {
-                Ok(Some(column)) => self.add(column),
+                Ok(Some(column)) => self.add(column, tally),
                 Ok(None) => return Ok(None),
-                Err(ReadFault::File(FileFault::NoField(before, fault))) => {
-                    self.add_bad(BadLine { before, fault })
-                }
-                Err(fault) => return Ok(Some(fault)),
+                Err(fault) => match bad_line_of(fault) {
+                    Ok(bad) => self.add_bad(bad),
+                    Err(fault) => return Ok(Some(fault)),
+                },
             };
             if let Err(fault) = added {
                 return Ok(Some(ReadFault::File(fault)));
             }
             if self.text.len() >= KEPT_BYTES {
-                self.write(out)?;
+                self.write(tally, out)?;
             }
         }
         // No source gives so many lines.
@@ -110,20 +141,21 @@ impl<'a> LineReport<'a> {
     }
 
     /// Adds a column.
-    fn add(&mut self, column: SchemaColumn) -> Result<(), FileFault> {
+    fn add(&mut self, column: SchemaColumn, tally: &mut Tally) -> Result<(), FileFault> {
         let (infer, weights) = (self.asked.flags.infer, &self.asked.weights);
         let said = weighed_column(self.alloc, &mut self.scratch, column, infer, weights)?;
         self.counted.summary.add(&said);
+        self.counted.numbers.add_column(&said);
         self.expect(&said)?;
         match self.asked.flags.output() {
             Output::Json => self.add_json(&said)?,
             Output::Table => self.add_row(&said)?,
+            Output::Errors | Output::Github | Output::Sarif => self.add_told(&said, tally)?,
             Output::Lines => {
                 let line = column_line(self.alloc, said.column)?;
                 push_line(&mut self.text, line.as_str())?;
             }
             Output::Ipc => self.columns.push(said.column)?,
-            Output::Nothing => {}
         }
         self.count = self.count.saturating_add(1);
         Ok(())
@@ -136,6 +168,7 @@ impl<'a> LineReport<'a> {
             return Err(FileFault::NoField(bad.before, bad.fault));
         }
         self.counted.summary.has_bad_lines = true;
+        self.counted.numbers.add_errors(1);
         Ok(self.bad_lines.add(bad)?)
     }
 
@@ -147,8 +180,11 @@ impl<'a> LineReport<'a> {
         Ok(())
     }
 
-    /// Adds the row of a column.
+    /// Adds the row of a column, if it has one.
     fn add_row(&mut self, said: &ColumnReport) -> Result<(), FileFault> {
+        if !is_in_table(self.asked, said) {
+            return Ok(());
+        }
         let row = row_of(self.alloc, said)?;
         if row_bytes(&row) as u128 > report_budget(MAX_LINE_BYTES) {
             return Err(FileFault::ReportTooLarge);
@@ -166,23 +202,58 @@ impl<'a> LineReport<'a> {
         Ok(push_line(&mut self.text, line.as_str())?)
     }
 
+    /// Adds the lines of what is found of a column.
+    fn add_told(&mut self, said: &ColumnReport, tally: &mut Tally) -> Result<(), FileFault> {
+        let mut lines = String::new(self.alloc);
+        push_column(self.alloc, self.asked, self.file, said, tally, &mut lines)?;
+        if lines.len() as u128 > report_budget(MAX_LINE_BYTES) {
+            return Err(FileFault::ReportTooLarge);
+        }
+        Ok(self.text.push_str(lines.as_str())?)
+    }
+
+    /// What is found of the file, as it is printed behind the columns and the bad lines.
+    fn found_text(&self, tally: &mut Tally) -> Result<String, AllocError> {
+        let findings = self.findings.as_slice();
+        let mut text = String::new(self.alloc);
+        match self.asked.flags.output() {
+            Output::Json => return finding_lines(self.alloc, named(self.file), findings),
+            Output::Table => return findings_text(self.alloc, findings),
+            Output::Errors | Output::Github | Output::Sarif => {
+                let (asked, file) = (self.asked, self.file);
+                push_findings(self.alloc, asked, file, None, findings, tally, &mut text)?;
+            }
+            Output::Lines | Output::Ipc => {}
+        }
+        Ok(text)
+    }
+
     /// Writes what is not written yet.
-    fn write<W: Write>(&mut self, out: &mut W) -> io::Result<()> {
-        out.write_all(self.text.as_bytes())?;
+    fn write<W: Write>(&mut self, tally: &mut Tally, out: &mut W) -> io::Result<()> {
+        print_text(self.asked, self.text.as_str(), tally, out)?;
         self.text.clear();
         Ok(())
     }
 
-    /// Prints what is made of all lines, some of which are bad, and says what is asked of the file
-    /// and not met. No stream is written. Returns the status.
-    fn print_beside<W: Write, E: Write>(self, out: &mut W, err: &mut E) -> io::Result<u8> {
+    /// Prints what is made of all lines, some of which are bad, and what is found of the file, and
+    /// says what is asked of it and not met. No stream is written. Returns the status.
+    fn print_beside<W: Write, E: Write>(
+        self,
+        tally: &mut Tally,
+        out: &mut W,
+        err: &mut E,
+    ) -> io::Result<u8> {
         let mut report = self;
         let (alloc, asked, file) = (report.alloc, report.asked, report.file);
         let bad_lines = mem::replace(&mut report.bad_lines, BadLines::new(alloc));
+        let found = report.found_text(tally)?;
         let made = report.made()?;
-        out.write_all(made.text.as_bytes())?;
-        tell_bad_lines(alloc, asked, file, &bad_lines, out, err)?;
-        made.counted.say_unmet(alloc, asked, file, err)?;
+        print_text(asked, made.text.as_str(), tally, out)?;
+        tell_bad_lines(alloc, asked, file, &bad_lines, tally, out, err)?;
+        print_text(asked, found.as_str(), tally, out)?;
+        let unmet = made.counted.unmet(alloc, asked)?;
+        tally.add_file(made.counted.numbers, unmet.len());
+        say(alloc, asked, file, unmet.as_slice(), tally, out, err)?;
         Ok(made.counted.status(asked))
     }
 
@@ -198,16 +269,50 @@ impl<'a> LineReport<'a> {
             columns,
             counted,
             bad_lines: _,
+            findings,
             count: _,
         } = self;
         let text = match asked.flags.output() {
-            Output::Table => named_table(alloc, asked, file, rows.as_slice())?,
-            Output::Json | Output::Lines | Output::Ipc | Output::Nothing => text,
+            Output::Table => {
+                named_table(alloc, asked, file, rows.as_slice(), !findings.is_empty())?
+            }
+            Output::Json
+            | Output::Errors
+            | Output::Github
+            | Output::Sarif
+            | Output::Lines
+            | Output::Ipc => text,
         };
         Ok(Made {
             text,
             columns,
             counted,
         })
+    }
+}
+
+/// The bad line that a fault is of, or the fault where it is of no line.
+fn bad_line_of(fault: ReadFault) -> Result<BadLine, ReadFault> {
+    match fault {
+        ReadFault::File(fault) => match fault {
+            FileFault::NoField(before, fault) => Ok(BadLine { before, fault }),
+            fault => Err(ReadFault::File(fault)),
+        },
+        ReadFault::Input(error) => Err(ReadFault::Input(error)),
+        ReadFault::LongLine(count) => Err(ReadFault::LongLine(count)),
+    }
+}
+
+/// Lines of which that is found, without those that are columns or bad.
+fn without_lines(alloc: Global, findings: Vec<FileFinding>) -> File<'static> {
+    File {
+        form: Form::Lines,
+        columns: Vec::new(alloc),
+        bad_lines: BadLines::new(alloc),
+        elements: Vec::new(alloc),
+        refuted: Vec::new(alloc),
+        findings,
+        texts: Vec::new(alloc),
+        geo: GeoText::Absent,
     }
 }

@@ -6,13 +6,14 @@ ghost use Rattle.file_check.specs.Printed.{Prints};
 
 use crate::asked::{Asked, Output};
 use crate::counted::Counted;
-use crate::refusal::say;
+use crate::numbers::Tally;
+use crate::said::{print_text, say};
 use crate::table::{Row, table_text};
 use crate::text::shown;
+use crate::told::Told;
 use arrow_columns::SchemaColumn;
 use arrow_ipc::{Endianness, Schema, write_schema};
 use column_files::{column_line, write_fault};
-use column_reports::fault_text;
 use std::alloc::{AllocError, Global};
 use std::collections::BTreeMap;
 use std::io;
@@ -32,12 +33,14 @@ pub(crate) struct Made {
     pub(crate) counted: Counted,
 }
 
-/// Prints what is made of a file, and says what is asked of it and not met. Returns the status.
+/// Prints what is made of a file, says what is asked of it and not met, and counts it. Returns the
+/// status.
 pub(crate) fn print_made<W: Write, E: Write>(
     alloc: Global,
     asked: &Asked,
     file: &str,
     made: Made,
+    tally: &mut Tally,
     out: &mut W,
     err: &mut E,
 ) -> io::Result<u8>
@@ -48,20 +51,23 @@ pub(crate) fn print_made<W: Write, E: Write>(
         columns,
         counted,
     } = made;
-    out.write_all(text.as_bytes())?;
+    let unmet = counted.unmet(alloc, asked)?;
+    tally.add_file(counted.numbers, unmet.len());
+    let unmet = unmet.as_slice();
     let status = counted.status(asked);
+    print_text(asked, text.as_str(), tally, out)?;
     match asked.flags.output() {
         Output::Lines => {
             print_lines(alloc, columns, out)?;
-            counted.say_unmet(alloc, asked, file, err)?;
+            say(alloc, asked, file, unmet, tally, out, err)?;
             Ok(status)
         }
         Output::Ipc => {
-            counted.say_unmet(alloc, asked, file, err)?;
-            Ok(print_stream(alloc, file, columns, out, err)?.max(status))
+            say(alloc, asked, file, unmet, tally, out, err)?;
+            Ok(print_stream(alloc, asked, file, columns, tally, out, err)?.max(status))
         }
-        Output::Json | Output::Table | Output::Nothing => {
-            counted.say_unmet(alloc, asked, file, err)?;
+        Output::Json | Output::Github | Output::Sarif | Output::Table | Output::Errors => {
+            say(alloc, asked, file, unmet, tally, out, err)?;
             Ok(status)
         }
     }
@@ -90,8 +96,10 @@ pub(crate) fn push_line(text: &mut String, line: &str) -> Result<(), AllocError>
 /// can hold them, it says so on standard error. Returns the status.
 fn print_stream<W: Write, E: Write>(
     alloc: Global,
+    asked: &Asked,
     file: &str,
     columns: Vec<SchemaColumn>,
+    tally: &mut Tally,
     out: &mut W,
     err: &mut E,
 ) -> io::Result<u8>
@@ -108,25 +116,30 @@ fn print_stream<W: Write, E: Write>(
             Ok(0)
         }
         Err(error) => {
-            let words = fault_text(alloc, &write_fault(error))?;
-            say(alloc, file, words.as_str(), err)?;
+            let told = Told::fault(alloc, &write_fault(error))?;
+            say(alloc, asked, file, &[told], tally, out, err)?;
             Ok(2)
         }
     }
 }
 
-/// The table of rows, below the file's name where there are several files.
+/// The table of rows, below the file's name where there are several files. With `--problems` there
+/// is none without rows, and no name either, unless something is found of the file.
 pub(crate) fn named_table(
     alloc: Global,
     asked: &Asked,
     file: &str,
     rows: &[Row],
+    has_findings: bool,
 ) -> Result<String, AllocError> {
     let mut text = String::new(alloc);
-    if asked.files.len() > 1 {
+    let is_left_out = asked.flags.problems && rows.is_empty();
+    if asked.files.len() > 1 && (has_findings || !is_left_out) {
         text.push_str(shown(alloc, file)?.as_str())?;
         text.push_str(":\n")?;
     }
-    text.push_str(table_text(alloc, rows)?.as_str())?;
+    if !is_left_out {
+        text.push_str(table_text(alloc, rows)?.as_str())?;
+    }
     Ok(text)
 }

@@ -3,12 +3,14 @@ ghost use Rattle.std.specs.Prelude.{IfErr};
 ghost use Rattle.file_check.specs.Made.{IsPastTable, MakesText, MakesOf, MakesOfEnd};
 
 use crate::asked::{Asked, Output};
-use crate::columns::row_of;
+use crate::columns::{is_in_table, row_of};
 use crate::counted::{Counted, found_in};
 use crate::findings::findings_text;
 use crate::names::named;
+use crate::numbers::{Numbers, Tally};
 use crate::print::{Made, named_table};
 use crate::table::row_bytes;
+use crate::told::{push_column, push_findings};
 use arrow_columns::SchemaColumn;
 use column_files::{FileFault, Form, open_end};
 use column_reports::{ColumnReport, FileReport, json_lines, report_budget, weighed_report};
@@ -22,6 +24,7 @@ pub(crate) fn made_of_end(
     form: Form,
     start: u64,
     end: &[u8],
+    tally: &mut Tally,
 ) -> Result<Made, FileFault>
     ensures { MakesOfEnd asked.now file.now form start end.now result }
 {
@@ -29,7 +32,7 @@ pub(crate) fn made_of_end(
     match open_end(alloc, form, start, end) {
         Ok(opened) => {
             let report = weighed_report(alloc, opened, asked.flags.infer, &asked.weights)?;
-            made_of(alloc, asked, file, report, limit)
+            made_of(alloc, asked, file, report, limit, tally)
         }
         Err(fault) => Err(fault),
     }
@@ -42,35 +45,55 @@ fn made_of(
     file: &str,
     report: FileReport<'_>,
     limit: u128,
+    tally: &mut Tally,
 ) -> Result<Made, FileFault>
     ensures { MakesOf asked.now file.now limit report.entry result }
 {
     let found = found_in(alloc, asked.wants.as_slice(), report.columns.as_slice())?;
     let summary = report.summary;
-    match text_of_report(alloc, asked, file, &report, limit) {
+    let numbers = numbers_of(&report);
+    match text_of_report(alloc, asked, file, &report, limit, tally) {
         Ok(text) => Ok(Made {
             text,
             columns: kept_columns(alloc, asked.flags.output(), report.columns)?,
-            counted: Counted { summary, found },
+            counted: Counted {
+                summary,
+                found,
+                numbers,
+            },
         }),
         Err(fault) => Err(fault),
     }
 }
 
-/// The text of a report that is printed first: lines of JSON, a table, or nothing.
+/// How many columns and findings a report has.
+fn numbers_of(report: &FileReport<'_>) -> Numbers {
+    let mut numbers = Numbers::new();
+    for said in &report.columns {
+        numbers.add_column(said);
+    }
+    numbers.add_findings(report.findings.as_slice());
+    numbers
+}
+
+/// The text of a report that is printed first: lines of JSON, a table, lines of findings, or nothing.
 fn text_of_report(
     alloc: Global,
     asked: &Asked,
     file: &str,
     report: &FileReport<'_>,
     limit: u128,
+    tally: &mut Tally,
 ) -> Result<String, FileFault>
     ensures { MakesText asked.now file.now limit report.now result }
 {
     match asked.flags.output() {
         Output::Json => json_lines(alloc, named(file), report, limit),
         Output::Table => table_of(alloc, asked, file, report, limit),
-        Output::Lines | Output::Ipc | Output::Nothing => Ok(String::new(alloc)),
+        Output::Errors | Output::Github | Output::Sarif => told_of(
+            alloc, asked, file, report, limit, tally,
+        ),
+        Output::Lines | Output::Ipc => Ok(String::new(alloc)),
     }
 }
 
@@ -103,14 +126,39 @@ fn table_of(
     let mut rows = Vec::new(alloc);
     let mut size = findings.len() as u128;
     for said in &report.columns {
-        let row = row_of(alloc, said)?;
-        size = size.saturating_add(row_bytes(&row) as u128);
-        rows.push(row)?;
+        if is_in_table(asked, said) {
+            let row = row_of(alloc, said)?;
+            size = size.saturating_add(row_bytes(&row) as u128);
+            rows.push(row)?;
+        }
         if size > limit {
             return Err(FileFault::ReportTooLarge);
         }
     }
-    let mut text = named_table(alloc, asked, file, rows.as_slice())?;
+    let mut text = named_table(alloc, asked, file, rows.as_slice(), !findings.is_empty())?;
     text.push_str(findings.as_str())?;
+    Ok(text)
+}
+
+/// The lines of all that is found and shown, where they have at most that many bytes.
+fn told_of(
+    alloc: Global,
+    asked: &Asked,
+    file: &str,
+    report: &FileReport<'_>,
+    limit: u128,
+    tally: &mut Tally,
+) -> Result<String, FileFault>
+    ensures { IfErr result IsPastTable }
+{
+    let mut text = String::new(alloc);
+    for said in &report.columns {
+        push_column(alloc, asked, file, said, tally, &mut text)?;
+        if text.len() as u128 > limit {
+            return Err(FileFault::ReportTooLarge);
+        }
+    }
+    let findings = report.findings.as_slice();
+    push_findings(alloc, asked, file, None, findings, tally, &mut text)?;
     Ok(text)
 }

@@ -282,18 +282,30 @@ fn say_file(said: &mut Said, read: &Result<FileColumns<'_>, SchemaError>) {
     }
 }
 
+/// Says what an element says beside its column.
+fn say_claim(said: &mut Said, element: &ElementClaim) {
+    let (words, is_known) = match element {
+        ElementClaim::Silent => ("silent", true),
+        ElementClaim::Given {
+            names_crs,
+            knows_edges,
+        } => (if *names_crs { "given CRS" } else { "given" }, *knows_edges),
+        ElementClaim::Beside {
+            metadata,
+            knows_edges,
+        } => (metadata.as_str(), *knows_edges),
+    };
+    said.push(words);
+    said.push(if is_known { "" } else { ", edges not known" });
+}
+
 /// Says what the elements of a file say beside its columns, or why there are none.
 fn say_elements(said: &mut Said, read: &Result<FileColumns<'_>, SchemaError>) {
     match read {
         Ok(read) => {
             for (at, element) in read.elements.iter().enumerate() {
                 said.push(if at > 0 { "; " } else { "" });
-                match element {
-                    ElementClaim::Silent => said.push("silent"),
-                    ElementClaim::Given { names_crs: false } => said.push("given"),
-                    ElementClaim::Given { names_crs: true } => said.push("given CRS"),
-                    ElementClaim::Beside(metadata) => said.push(metadata.as_str()),
-                }
+                say_claim(said, element);
             }
         }
         Err(error) => say_fault(said, error),

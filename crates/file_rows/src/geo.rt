@@ -62,10 +62,23 @@ fn asked(said: &mut Said, text: &str) -> (String, Vec<ElementClaim>) {
 
 /// What an element says, by the words behind `element`.
 fn claim_of(said: &mut Said, words: &str) -> ElementClaim {
+    let (words, knows_edges) = match words.strip_suffix(", edges not known") {
+        Some(words) => (words, false),
+        None => (words, true),
+    };
     match words {
-        "given" => ElementClaim::Given { names_crs: false },
-        "given CRS" => ElementClaim::Given { names_crs: true },
-        metadata => ElementClaim::Beside(said.owned(metadata)),
+        "given" => ElementClaim::Given {
+            names_crs: false,
+            knows_edges,
+        },
+        "given CRS" => ElementClaim::Given {
+            names_crs: true,
+            knows_edges,
+        },
+        metadata => ElementClaim::Beside {
+            metadata: said.owned(metadata),
+            knows_edges,
+        },
     }
 }
 

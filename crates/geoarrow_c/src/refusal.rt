@@ -1,6 +1,7 @@
 //! Why bytes are refused, as a line in the caller's buffer.
 ghost use Rattle.std.specs.Prelude.{◌≡◌, ◌⊎◌, None, IfOk, string_bytes};
 ghost use Rattle.arrow_values.specs.Texts.{text_of};
+ghost use Rattle.column_files.specs.Refusals.{told};
 ghost use Rattle.geoarrow_c.specs.Buffer.{Fills, Lacks, Makes};
 ghost use Rattle.geoarrow_c.specs.Refusals.{line_of, lacks_memory, lacks_memory_for_message};
 ghost use Rattle.geoarrow_c.specs.Refusals.{lacks_memory_for_columns, IsLineOfFile, IsLineOfSchema};
@@ -33,30 +34,30 @@ fn lacks_memory_for_columns(error: SchemaError) -> bool
         SchemaError::Footer(
             FooterError::NotParquet | FooterError::Encrypted | FooterError::Invalid(_, _),
         )
-        | SchemaError::Cut
+        | SchemaError::Length
         | SchemaError::Elements(_)
         | SchemaError::Budget => false,
     }
 }
 
 /// Whether memory is all that lacks for a file to be reported.
-fn lacks_memory(fault: FileFault) -> bool
-    ensures { result ≡ lacks_memory fault }
+fn lacks_memory(fault: &FileFault) -> bool
+    ensures { result ≡ lacks_memory fault.now }
 {
     match fault {
         FileFault::OutOfMemory => true,
-        FileFault::Ipc(error) => lacks_memory_for_message(error),
-        FileFault::Parquet(error) => lacks_memory_for_columns(error),
+        FileFault::Ipc(error) => lacks_memory_for_message(*error),
+        FileFault::Parquet(error) => lacks_memory_for_columns(*error),
         FileFault::NoField(_, _)
         | FileFault::Empty
-        | FileFault::Foreign(_)
+        | FileFault::Foreign(_, _)
         | FileFault::ReportTooLarge => false,
     }
 }
 
 /// The line of a fault, with its line feed.
-fn line_of(alloc: Global, file: Option<&str>, fault: &Fault) -> Result<String, AllocError>
-    ensures { IfOk result (λ line. string_bytes line ≡ line_of (text_of file.entry) fault.now) }
+fn line_of(alloc: Global, file: Option<&str>, fault: &Fault<'_>) -> Result<String, AllocError>
+    ensures { IfOk result (λ line. string_bytes line ≡ line_of (text_of file.entry) (told fault.now)) }
 {
     let mut line = fault_line(alloc, file, fault)?;
     line.push_str("\n")?;
@@ -65,9 +66,15 @@ fn line_of(alloc: Global, file: Option<&str>, fault: &Fault) -> Result<String, A
 
 /// Writes the line of a fault to the front of a buffer, if it has room, and its length in either
 /// case. Returns the status. Out of memory it writes nothing.
-fn refuse(alloc: Global, file: Option<&str>, fault: &Fault, out: &mut [u8], len: &mut usize) -> u8
-    ensures refused { result ≡ 5 → Makes (λ line. line ≡ line_of (text_of file.entry) fault.now) len.new (λ line. Fills line out.old out.new) }
-    ensures short { result ≡ 1 → Makes (λ line. line ≡ line_of (text_of file.entry) fault.now) len.new (λ line. Lacks line out.old out.new) }
+fn refuse(
+    alloc: Global,
+    file: Option<&str>,
+    fault: &Fault<'_>,
+    out: &mut [u8],
+    len: &mut usize,
+) -> u8
+    ensures refused { result ≡ 5 → Makes (λ line. line ≡ line_of (text_of file.entry) (told fault.now)) len.new (λ line. Fills line out.old out.new) }
+    ensures short { result ≡ 1 → Makes (λ line. line ≡ line_of (text_of file.entry) (told fault.now)) len.new (λ line. Lacks line out.old out.new) }
     ensures unchanged { result ≡ 2 → (out.new ≡ out.old) × (len.new ≡ len.old) }
     ensures status { (result ≡ 1) ⊎ (result ≡ 2) ⊎ (result ≡ 5) }
 {
@@ -95,10 +102,10 @@ pub(crate) fn refuse_file(
     ensures unchanged { result ≡ 2 → (out.new ≡ out.old) × (len.new ≡ len.old) }
     ensures status { (result ≡ 1) ⊎ (result ≡ 2) ⊎ (result ≡ 5) }
 {
-    if lacks_memory(fault) {
+    if lacks_memory(&fault) {
         return MEMORY;
     }
-    refuse(alloc, file, &fault_of(form, fault), out, len)
+    refuse(alloc, file, &fault_of(form, &fault), out, len)
 }
 
 /// Writes the line that says why a schema is not written, as `refuse` does.

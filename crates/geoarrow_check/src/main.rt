@@ -3,7 +3,7 @@
 
 use check_options::{Said, asked_by};
 use column_files::{Form, ReadFault};
-use file_check::{Asked, check_file, check_source, refuse};
+use file_check::{Asked, Tally, begin_output, check_file, check_source, end_output, refuse};
 use std::io::{ErrorKind, Write};
 use std::process::ExitCode;
 use std::{env, fs, io};
@@ -12,26 +12,18 @@ use std::{env, fs, io};
 /// of the signal SIGPIPE.
 const UNREAD: u8 = 141;
 
-/// Reports a file on standard output; or says on standard error why it cannot be read. `-` is
-/// standard input. Returns the status.
-fn check(rt: &HostRuntime, file: &str, asked: &Asked) -> io::Result<u8> {
-    let (mut out, mut err) = (rt.stdout(), rt.stderr());
+/// Reports a file; or says why it cannot be read. `-` is standard input. Returns the status.
+fn check(rt: &HostRuntime, file: &str, asked: &Asked, tally: &mut Tally) -> io::Result<u8> {
+    let (alloc, mut out, mut err) = (rt.alloc(), rt.stdout(), rt.stderr());
     if file == "-" {
-        return check_source(rt.alloc(), asked, file, rt.stdin(), &mut out, &mut err);
+        return check_source(alloc, asked, file, rt.stdin(), tally, &mut out, &mut err);
     }
     match fs::File::open(rt, file) {
-        Ok(source) => check_file(rt.alloc(), asked, file, source, &mut out, &mut err),
+        Ok(source) => check_file(alloc, asked, file, source, tally, &mut out, &mut err),
         Err(error) => {
             let fault = ReadFault::Input(error);
-            refuse(
-                rt.alloc(),
-                asked,
-                file,
-                Form::Lines,
-                fault,
-                &mut out,
-                &mut err,
-            )
+            let form = Form::Lines;
+            refuse(alloc, asked, file, form, fault, tally, &mut out, &mut err)
         }
     }
 }
@@ -48,9 +40,12 @@ fn run(rt: &HostRuntime) -> io::Result<u8> {
 /// Reports the files. Returns the status.
 fn check_all(rt: &HostRuntime, asked: &Asked) -> io::Result<u8> {
     let mut status = 0;
+    let mut tally = Tally::new(rt.alloc());
+    begin_output(asked, &mut rt.stdout())?;
     for file in &asked.files {
-        status = check(rt, file.as_str(), asked)?.max(status);
+        status = check(rt, file.as_str(), asked, &mut tally)?.max(status);
     }
+    end_output(rt.alloc(), asked, &tally, &mut rt.stdout())?;
     Ok(status)
 }
 

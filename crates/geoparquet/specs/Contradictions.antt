@@ -14,7 +14,7 @@ use Rattle.geoparquet.specs.Findings.{Finding}
 use Rattle.geoparquet.specs.Pairs.{text_findings}
 use Rattle.geoparquet.specs.Sources.{Element, silent, gives, beside}
 use Rattle.geoparquet.specs.Rules.{found_at, part_place, items_findings, unless}
-use Rattle.geoparquet.specs.MemberRules.{encoding_of, is_edges_value}
+use Rattle.geoparquet.specs.MemberRules.{encoding_of, is_edges, is_edges_value}
 use Rattle.geoparquet.specs.StrictLayouts.{layout_of}
 use Rattle.geoparquet.specs.TypeNames.{type_text}
 use Rattle.geoparquet.specs.TypeRules.{types_in, type_of, is_text}
@@ -24,6 +24,7 @@ use Rattle.geoparquet.specs.declared.layout.Layout.TheVariants.{Binary, Native}
 use Rattle.geoparquet.specs.declared.code.GeoCode.{GeoCode}
 use Rattle.geoparquet.specs.declared.code.GeoCode.TheVariants.{Layout as NoLayout, TypesContradict, EncodingContradicts, EdgesContradict}
 use Rattle.geoparquet.specs.declared.finding.Version.{Version}
+use Rattle.geoparquet.specs.declared.finding.Version.TheVariants.{V2}
 
 -- ---- the layout
 
@@ -99,15 +100,15 @@ named_encoding (Some c) = option_and_then own_encoding (name_on c)
 abbrev pub element_encoding : Option Element → Option Text
 element_encoding None = None
 element_encoding (Some silent) = None
-element_encoding (Some (gives names_crs)) = Some (codes "WKB")
-element_encoding (Some (beside s)) = Some (codes "WKB")
+element_encoding (Some (gives names_crs knows_edges)) = Some (codes "WKB")
+element_encoding (Some (beside s knows_edges)) = Some (codes "WKB")
 
 -- the encoding that a field says: none where its column has its name from the element
 abbrev pub field_encoding : Option Element → Option ColumnTree → Option Text
 field_encoding None c = named_encoding c
 field_encoding (Some silent) c = named_encoding c
-field_encoding (Some (gives names_crs)) c = None
-field_encoding (Some (beside s)) c = named_encoding c
+field_encoding (Some (gives names_crs knows_edges)) c = None
+field_encoding (Some (beside s knows_edges)) c = named_encoding c
 
 -- the encoding that a member says, where the column has the layout of it
 abbrev pub layout_encoding : Version → Option ColumnTree → Json → Option Text
@@ -132,20 +133,28 @@ edges_or_planar (Some j) = as_str j
 abbrev pub said_edges : Version → Option Json → Option Text
 said_edges version found = if is_edges_value version found then edges_or_planar found else None
 
--- the extension metadata of a column, as JSON; null where there are none
+-- the extension metadata of a column under an extension name that says an encoding; those under another name, or under none, say nothing
+abbrev pub geo_metadata : ColumnTree → Option Text
+geo_metadata c = if is_some (named_encoding (Some c)) then metadata_on c else None
+
+-- as JSON; null where there are none
 abbrev pub metadata_value : Option Text → Data
 metadata_value None = own.null
 metadata_value (Some s) = geo_value s
 
 abbrev pub own_metadata : Option ColumnTree → Data
 own_metadata None = own.null
-own_metadata (Some c) = metadata_value (metadata_on c)
+own_metadata (Some c) = metadata_value (geo_metadata c)
+
+-- a text is the edges that it names, where it is one that GeoArrow has, which version 2 has too; of another `UnknownEdges` is found, and it says nothing
+abbrev pub known_edges : Text → Option Text
+known_edges s = if is_edges V2 s then Some s else None
 
 -- the edges that extension metadata say, where they are an object: the text at `edges`, and planar where there are none
 abbrev pub edges_at : Option Data → Option Text
 edges_at None = Some (codes "planar")
 edges_at (Some own.null) = Some (codes "planar")
-edges_at (Some (own.string s)) = Some s
+edges_at (Some (own.string s)) = known_edges s
 edges_at (Some d) = None
 
 abbrev pub own_edges : Data → Option Text
@@ -156,8 +165,8 @@ own_edges d = None
 abbrev pub element_metadata : Option Element → Option ColumnTree → Data
 element_metadata None c = own.null
 element_metadata (Some silent) c = own.null
-element_metadata (Some (gives names_crs)) c = own_metadata c
-element_metadata (Some (beside s)) c = geo_value s
+element_metadata (Some (gives names_crs knows_edges)) c = own_metadata c
+element_metadata (Some (beside s knows_edges)) c = geo_value s
 
 -- the edges in the metadata of an element: planar where there are none
 abbrev pub edges_in : Data → Option Text
@@ -165,19 +174,23 @@ edges_in own.null = Some (codes "planar")
 edges_in (own.object ms) = own_edges (own.object ms)
 edges_in d = None
 
--- the edges that an element says, if it is of a geometry type
+-- the edges that an element says, if it is of a geometry type; those of an algorithm that is not known say nothing
+abbrev pub edges_if : Bool → Data → Option Text
+edges_if true d = edges_in d
+edges_if false d = None
+
 abbrev pub element_edges : Option Element → Data → Option Text
 element_edges None d = None
 element_edges (Some silent) d = None
-element_edges (Some (gives names_crs)) d = edges_in d
-element_edges (Some (beside s)) d = edges_in d
+element_edges (Some (gives names_crs knows_edges)) d = edges_if knows_edges d
+element_edges (Some (beside s knows_edges)) d = edges_if knows_edges d
 
 -- the edges that a field says: none where its column has its metadata from the element
 abbrev pub field_edges : Option Element → Data → Option Text
 field_edges None d = own_edges d
 field_edges (Some silent) d = own_edges d
-field_edges (Some (gives names_crs)) d = None
-field_edges (Some (beside s)) d = own_edges d
+field_edges (Some (gives names_crs knows_edges)) d = None
+field_edges (Some (beside s knows_edges)) d = own_edges d
 
 -- two of the element, the field and `edges` say two
 abbrev pub edges_claims_findings : Text → Option Json → Option ColumnTree → Option Element → Option Text → List Finding

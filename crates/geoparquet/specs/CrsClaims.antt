@@ -1,13 +1,14 @@
 -- What the element, the field and `crs` say of the CRS (docs/FORMAT.md, 5.1 and 5.3).
-use Rattle.std.specs.Prelude.{Bool, true, false, List, [], codes, bytes_eq, Option, None, Some, option_and_then, option_map, if◌then◌else◌}
+use Rattle.std.specs.Prelude.{◌||◌, Bool, true, false, List, [], codes, bytes_eq, Option, None, Some, option_and_then, option_map, if◌then◌else◌}
 use Rattle.json.specs.Json.{Json, null, string, object}
 use Rattle.json.specs.Find.{get, as_str}
 use Rattle.arrow_values.specs.Tree.{Text}
-use Rattle.arrow_columns.specs.Column.{ColumnTree, metadata_on}
+use Rattle.arrow_columns.specs.Column.{ColumnTree}
 use Rattle.crs_identity.specs.Forms.{Said, unknown, value, srid, json_in}
 use Rattle.crs_identity.specs.Verdicts.{Claimed, crs_verdict}
 use Rattle.crs_identity.specs.declared.verdict.Verdict.{Verdict}
 use Rattle.crs_identity.specs.declared.verdict.Verdict.TheVariants.{Agree, Contradict, NotCompared}
+use Rattle.geoparquet.specs.Contradictions.{geo_metadata}
 use Rattle.geoparquet.specs.Findings.{Finding, shown_value}
 use Rattle.geoparquet.specs.Identifiers.{default_identifier}
 use Rattle.geoparquet.specs.Malformed.{is_malformed, is_projjson}
@@ -48,10 +49,10 @@ said_crs version (Some (object ms)) = object_crs version (object ms)
 said_crs version (Some (string s)) = text_crs version (string s)
 said_crs version (Some j) = None
 
--- the extension metadata of a column, as JSON
+-- the extension metadata of a column, as JSON: under an extension name that says an encoding
 abbrev pub own_json : Option ColumnTree → Option Json
 own_json None = None
-own_json (Some c) = option_and_then json_in (metadata_on c)
+own_json (Some c) = option_and_then json_in (geo_metadata c)
 
 -- whether `crs_type` says that the CRS is an opaque number
 abbrev pub is_srid : Option Text → Bool
@@ -102,15 +103,20 @@ own_crs_in (Some j) = whole_crs j
 abbrev pub element_json : Option Element → Option ColumnTree → Option Json
 element_json None c = None
 element_json (Some silent) c = None
-element_json (Some (gives names_crs)) c = own_json c
-element_json (Some (beside s)) c = json_in s
+element_json (Some (gives names_crs knows_edges)) c = own_json c
+element_json (Some (beside s knows_edges)) c = json_in s
 
 -- those of a field: none where its column has them from the element
 abbrev pub field_json : Option Element → Option ColumnTree → Option Json
 field_json None c = own_json c
 field_json (Some silent) c = own_json c
-field_json (Some (gives names_crs)) c = None
-field_json (Some (beside s)) c = own_json c
+field_json (Some (gives names_crs knows_edges)) c = None
+field_json (Some (beside s knows_edges)) c = own_json c
+
+-- whether an element denotes null: it names a key that has no PROJJSON, of which `CrsKeyMissing` is found (docs/FORMAT.md, 4.6)
+abbrev pub is_null : Option Json → Bool
+is_null (Some null) = true
+is_null found = false
 
 -- the CRS that an element says, if it is of a geometry type: the default where it names none, and nothing where it is broken
 abbrev pub or_default : Option Claimed → Option Claimed
@@ -119,14 +125,14 @@ or_default (Some c) = Some c
 
 abbrev pub named_crs : Option Json → Option Claimed
 named_crs None = Some default_claim
-named_crs (Some j) = if is_broken j then None else or_default (own_crs j)
+named_crs (Some j) = if is_null (get (codes "crs") j) || is_broken j then None else or_default (own_crs j)
 
 abbrev pub element_crs : Option Element → Option Json → Option Claimed
 element_crs None own = None
 element_crs (Some silent) own = None
-element_crs (Some (gives false)) own = Some default_claim
-element_crs (Some (gives true)) own = named_crs own
-element_crs (Some (beside s)) own = named_crs own
+element_crs (Some (gives false knows_edges)) own = Some default_claim
+element_crs (Some (gives true knows_edges)) own = named_crs own
+element_crs (Some (beside s knows_edges)) own = named_crs own
 
 -- ---- findings
 

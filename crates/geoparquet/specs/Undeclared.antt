@@ -2,7 +2,7 @@
 use Rattle.std.specs.Prelude.{◌&&◌, ◌||◌, Bool, true, false, not, List, [], codes, bytes_eq, Option, None, Some, is_some, flat_map, option_and_then}
 use Rattle.std.specs.List.{list_any}
 use Rattle.json.specs.Json.{Json, string}
-use Rattle.json.specs.Find.{get, at, as_str}
+use Rattle.parquet_columns.specs.GeoNames.{covers}
 use Rattle.arrow_values.specs.Tree.{Text}
 use Rattle.arrow_columns.specs.Column.{ColumnTree, name_on}
 use Rattle.geoparquet.specs.Findings.{Finding}
@@ -19,23 +19,6 @@ is_geometry_name s = is_some (own_encoding s) && not (bytes_eq s (codes "geoarro
 abbrev pub is_geometry : Option Text → Bool
 is_geometry None = false
 is_geometry (Some s) = is_geometry_name s
-
--- the path of a bound begins with the name of the column
-abbrev pub is_name : Text → Option Text → Bool
-is_name name None = false
-is_name name (Some s) = bytes_eq s name
-
-abbrev pub is_bound_in : Text → Json → Text → Bool
-is_bound_in name bbox bound = is_name name (option_and_then as_str (option_and_then (at 0) (get bound bbox)))
-
-abbrev pub is_box_in : Text → Option Json → Bool
-is_box_in name None = false
-is_box_in name (Some bbox) =
-    is_bound_in name bbox (codes "xmin") || is_bound_in name bbox (codes "ymin") || is_bound_in name bbox (codes "xmax")
-    || is_bound_in name bbox (codes "ymax") || is_bound_in name bbox (codes "zmin") || is_bound_in name bbox (codes "zmax")
-
-abbrev pub covers : Text → Json → Bool
-covers name j = is_box_in name (option_and_then (get (codes "bbox")) (get (codes "covering") j))
 
 -- a path of some covering names the column
 abbrev pub is_covered : Text → List (Text × Json) → Bool

@@ -17,10 +17,11 @@ ghost use Rattle.geoparquet.specs.BoxRules.{takes_eight, is_size, is_number, box
 use crate::code::GeoCode;
 use crate::counting::counts_projected;
 use crate::finding::{GeoFinding, Version};
-use crate::place::{add_item, finding_at, item_place, part_finding, part_place};
+use crate::place::{add_item, finding_at, part_finding, part_place};
 use crate::types::{items_in, type_of, types_in};
 use crate::version::is_judged;
 use arrow_columns::SchemaColumn;
+use column_check::item_place;
 use geoarrow_layout::Dimension;
 use json::Value;
 use parquet_columns::ElementClaim;

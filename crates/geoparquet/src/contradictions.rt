@@ -10,14 +10,14 @@ ghost use Rattle.geoparquet.specs.Findings.{finding};
 ghost use Rattle.std.specs.List.{All};
 ghost use Rattle.geoparquet.specs.Rules.{item_finding, items_findings, unless};
 ghost use Rattle.geoparquet.specs.TypeRules.{is_text};
-ghost use Rattle.geoparquet.specs.Contradictions.{layout_in, stored_layout, encoding_finding, encoding_layout_findings, layout_findings, single_of, goes_with, types_contradict_findings, own_encoding, named_encoding, element_encoding, field_encoding, layout_encoding, encodings_findings, encoding_contradicts_findings, said_edges, own_metadata, edges_at, own_edges, element_metadata, edges_in, element_edges, field_edges, edges_claims_findings, edges_contradict_findings};
+ghost use Rattle.geoparquet.specs.Contradictions.{layout_in, stored_layout, encoding_finding, encoding_layout_findings, layout_findings, single_of, goes_with, types_contradict_findings, own_encoding, named_encoding, element_encoding, field_encoding, layout_encoding, encodings_findings, encoding_contradicts_findings, said_edges, geo_metadata, own_metadata, known_edges, edges_at, own_edges, element_metadata, edges_in, edges_if, element_edges, field_edges, edges_claims_findings, edges_contradict_findings};
 ghost use Rattle.geoparquet.specs.Sources.{element_view};
 
 use crate::adding::add_part;
 use crate::code::GeoCode;
 use crate::finding::{GeoFinding, Version};
 use crate::layout::{Layout, layout_of};
-use crate::members::{encoding_of, is_edges_value};
+use crate::members::{encoding_of, is_edges, is_edges_value};
 use crate::pairs::add_texts;
 use crate::place::{item_finding, part_place};
 use crate::types::{type_of, type_text, types_in};
@@ -235,7 +235,7 @@ pub(crate) fn element_encoding(element: Option<&ElementClaim>) -> Option<&'stati
     match element {
         ElementClaim::Silent => None,
         ElementClaim::Given { .. } => Some("WKB"),
-        ElementClaim::Beside(_) => Some("WKB"),
+        ElementClaim::Beside { .. } => Some("WKB"),
     }
 }
 
@@ -252,7 +252,7 @@ pub(crate) fn field_encoding(
     match element {
         ElementClaim::Silent => named_encoding(column),
         ElementClaim::Given { .. } => None,
-        ElementClaim::Beside(_) => named_encoding(column),
+        ElementClaim::Beside { .. } => named_encoding(column),
     }
 }
 
@@ -333,6 +333,17 @@ pub(crate) fn said_edges<'a>(version: Version, found: Option<&Value<'a>>) -> Opt
     }
 }
 
+/// Returns the extension metadata of a column under an extension name that says an encoding.
+pub(crate) fn geo_metadata(column: &SchemaColumn) -> Option<&str>
+    ensures { text_of result ≡ geo_metadata (column_tree column.now) }
+{
+    if named_encoding(Some(column)).is_some() {
+        column.extension_type_metadata()
+    } else {
+        None
+    }
+}
+
 /// Returns the extension metadata of a column, as JSON; null where there are none. Errs only when out
 /// of memory.
 pub(crate) fn own_metadata(
@@ -344,9 +355,20 @@ pub(crate) fn own_metadata(
     let Some(column) = column else {
         return Ok(serde_json::Value::Null);
     };
-    match column.extension_type_metadata() {
+    match geo_metadata(column) {
         Some(text) => geo_value(alloc, text),
         None => Ok(serde_json::Value::Null),
+    }
+}
+
+/// Returns the edges that a text names, where GeoArrow has them.
+fn known_edges(text: &str) -> Option<&str>
+    ensures { text_of result ≡ known_edges text.now }
+{
+    if is_edges(Version::V2, text) {
+        Some(text)
+    } else {
+        None
     }
 }
 
@@ -359,7 +381,7 @@ fn edges_at(found: Option<&serde_json::Value>) -> Option<&str>
     };
     match found {
         serde_json::Value::Null => Some("planar"),
-        serde_json::Value::String(text) => Some(text.as_str()),
+        serde_json::Value::String(text) => known_edges(text.as_str()),
         _ => None,
     }
 }
@@ -389,7 +411,7 @@ pub(crate) fn element_metadata(
     match element {
         ElementClaim::Silent => Ok(serde_json::Value::Null),
         ElementClaim::Given { .. } => own_metadata(alloc, column),
-        ElementClaim::Beside(text) => geo_value(alloc, text.as_str()),
+        ElementClaim::Beside { metadata, .. } => geo_value(alloc, metadata.as_str()),
     }
 }
 
@@ -401,6 +423,17 @@ fn edges_in(metadata: &serde_json::Value) -> Option<&str>
         serde_json::Value::Null => edges_at(None),
         serde_json::Value::Object(_) => own_edges(metadata),
         _ => None,
+    }
+}
+
+/// Returns the edges in the metadata of an element, where they are known.
+fn edges_if(knows_edges: bool, metadata: &serde_json::Value) -> Option<&str>
+    ensures { text_of result ≡ edges_if knows_edges (view metadata.now) }
+{
+    if knows_edges {
+        edges_in(metadata)
+    } else {
+        None
     }
 }
 
@@ -416,8 +449,8 @@ pub(crate) fn element_edges<'v>(
     };
     match element {
         ElementClaim::Silent => None,
-        ElementClaim::Given { .. } => edges_in(metadata),
-        ElementClaim::Beside(_) => edges_in(metadata),
+        ElementClaim::Given { knows_edges, .. } => edges_if(*knows_edges, metadata),
+        ElementClaim::Beside { knows_edges, .. } => edges_if(*knows_edges, metadata),
     }
 }
 
@@ -434,7 +467,7 @@ pub(crate) fn field_edges<'v>(
     match element {
         ElementClaim::Silent => own_edges(metadata),
         ElementClaim::Given { .. } => None,
-        ElementClaim::Beside(_) => own_edges(metadata),
+        ElementClaim::Beside { .. } => own_edges(metadata),
     }
 }
 

@@ -10,17 +10,18 @@ ghost use Rattle.crs_identity.specs.Forms.{json_in, said};
 ghost use Rattle.crs_identity.specs.Verdicts.{claim};
 ghost use Rattle.geoparquet.specs.Identifiers.{default_identifier};
 ghost use Rattle.geoparquet.specs.Findings.{finding};
-ghost use Rattle.geoparquet.specs.CrsClaims.{own_json, is_srid, typed_crs, crs_under, is_projjson_type, judged_in, is_broken_by, is_broken, own_crs, own_crs_in, named_crs, absent_crs, text_crs, projjson_crs, object_crs, said_crs, claimed, default_claim, element_json, field_json, or_default, element_crs, crs_at, own_shown, claim_shown, pair_verdict, is_contradict, is_not_compared, verdict_findings, verdicts_findings, three_findings, claimed_findings, crs_json_findings, crs_claims_findings, crs_contradicts_findings};
+ghost use Rattle.geoparquet.specs.CrsClaims.{own_json, is_srid, typed_crs, crs_under, is_projjson_type, judged_in, is_broken_by, is_broken, own_crs, own_crs_in, named_crs, absent_crs, text_crs, projjson_crs, object_crs, said_crs, claimed, default_claim, element_json, field_json, is_null, or_default, element_crs, crs_at, own_shown, claim_shown, pair_verdict, is_contradict, is_not_compared, verdict_findings, verdicts_findings, three_findings, claimed_findings, crs_json_findings, crs_claims_findings, crs_contradicts_findings};
 ghost use Rattle.geoparquet.specs.Malformed.{is_malformed};
 ghost use Rattle.geoparquet.specs.Sources.{element_view};
 
 use crate::code::GeoCode;
+use crate::contradictions::geo_metadata;
 use crate::finding::{GeoFinding, Version};
 use crate::malformed::{is_malformed, is_projjson};
 use crate::pairs::{Pair, add_pair, first_pair};
-use crate::place::shown_value;
 use crate::version::is_judged;
 use arrow_columns::SchemaColumn;
+use column_check::shown_value;
 use crs_identity::{Claim, Crs, Verdict, crs_verdict};
 use json::{Scratch, Value};
 use parquet_columns::ElementClaim;
@@ -58,7 +59,7 @@ fn own_json<'t>(
     let Some(column) = column else {
         return Ok(None);
     };
-    let Some(text) = column.extension_type_metadata() else {
+    let Some(text) = geo_metadata(column) else {
         return Ok(None);
     };
     json_in(alloc, text, scratch)
@@ -290,7 +291,7 @@ pub(crate) fn element_json<'t>(
     match element {
         ElementClaim::Silent => Ok(None),
         ElementClaim::Given { .. } => own_json(alloc, column, scratch),
-        ElementClaim::Beside(text) => json_in(alloc, text.as_str(), scratch),
+        ElementClaim::Beside { metadata, .. } => json_in(alloc, metadata.as_str(), scratch),
     }
 }
 
@@ -311,7 +312,7 @@ pub(crate) fn field_json<'t>(
     match element {
         ElementClaim::Silent => own_json(alloc, column, scratch),
         ElementClaim::Given { .. } => Ok(None),
-        ElementClaim::Beside(_) => own_json(alloc, column, scratch),
+        ElementClaim::Beside { .. } => own_json(alloc, column, scratch),
     }
 }
 
@@ -324,6 +325,13 @@ fn or_default<'v, 'a>(said: Option<Claim<'v, 'a>>, default: &'v Value<'a>) -> Op
         Some(said) => Some(said),
         None => Some(default_claim(default)),
     }
+}
+
+/// Whether a value is null.
+fn is_null(found: Option<&Value<'_>>) -> bool
+    ensures { result ≡ is_null (option_map (λ v. value_view v.now) found.entry) }
+{
+    matches!(found, Some(Value::Null))
 }
 
 /// Returns the CRS that an element of a geometry type says by its metadata, and the default where they
@@ -339,6 +347,9 @@ fn named_crs<'v, 'a>(
     let Some(own) = own else {
         return Ok(Some(default_claim(default)));
     };
+    if is_null(own.get("crs")) {
+        return Ok(None);
+    }
     if is_broken(alloc, own)? {
         return Ok(None);
     }
@@ -360,9 +371,14 @@ pub(crate) fn element_crs<'v, 'a>(
     };
     match element {
         ElementClaim::Silent => Ok(None),
-        ElementClaim::Given { names_crs: true } => named_crs(alloc, own, default),
-        ElementClaim::Given { names_crs: false } => Ok(Some(default_claim(default))),
-        ElementClaim::Beside(_) => named_crs(alloc, own, default),
+        ElementClaim::Given { names_crs, .. } => {
+            if *names_crs {
+                named_crs(alloc, own, default)
+            } else {
+                Ok(Some(default_claim(default)))
+            }
+        }
+        ElementClaim::Beside { .. } => named_crs(alloc, own, default),
     }
 }
 

@@ -62,4 +62,5 @@ pub use inspect::{GeoAnswer, inspect_geo};
 pub use member_facts::MemberFacts;
 pub use source::GeoSource;
 pub use text_facts::{EdgesFact, EncodingFact};
+pub use types::type_text;
 pub use values::{geo_value, member_of_column, text_in};

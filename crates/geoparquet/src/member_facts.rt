@@ -23,7 +23,7 @@ pub struct MemberFacts {
     pub bbox: Option<JsonText>,
     /// The epoch of their coordinates.
     pub epoch: Option<JsonText>,
-    /// Their types, which are some.
+    /// Their types, which are some: not those that its field says.
     pub geometry_types: Option<JsonText>,
     /// The orientation of their rings.
     pub orientation: Option<JsonText>,

@@ -178,7 +178,7 @@ pub(crate) fn is_edges_value(version: Version, found: Option<&Value<'_>>) -> boo
 }
 
 /// Whether a text is one for edges of the version.
-fn is_edges(version: Version, text: &str) -> bool
+pub(crate) fn is_edges(version: Version, text: &str) -> bool
     ensures { result ≡ is_edges version text.now }
 {
     text == "planar" || text == "spherical" || has_algorithms(version) && is_algorithm(text)

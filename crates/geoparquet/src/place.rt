@@ -1,36 +1,16 @@
 //! Places in the metadata, what stands there, and findings of it.
-ghost use Rattle.std.specs.Prelude.{◌≡◌, ◌++◌, IfOk, IfSome, OnOk, Some, None, codes, flat_map, length, map, option_map, string_bytes, take};
-ghost use Rattle.std.specs.Str.{chars, encode_utf8_all};
+ghost use Rattle.std.specs.Prelude.{◌≡◌, ◌++◌, IfOk, IfSome, OnOk, map, option_map, string_bytes};
 ghost use Rattle.json.specs.Value.{value_view};
 ghost use Rattle.arrow_values.specs.Texts.{text_of};
 ghost use Rattle.value_tokens.specs.Values.{IsReadable};
-ghost use Rattle.geoparquet.specs.Findings.{finding, escaped_char, escaped, member_place, item_place, shown, shown_value};
+ghost use Rattle.geoparquet.specs.Findings.{finding, shown_value};
 ghost use Rattle.geoparquet.specs.Rules.{column_place, part_place, found_at, part_finding, item_finding, unless};
 
 use crate::code::GeoCode;
 use crate::finding::GeoFinding;
+use column_check::{item_place, member_place, shown_value};
 use json::Value;
 use std::alloc::{AllocError, Global};
-use value_tokens::JsonText;
-
-/// How many characters of a value are shown.
-const SHOWN: usize = 120;
-
-/// Returns the place of the member with a key of what stands at a place (RFC 6901). Errs only when
-/// out of memory.
-pub(crate) fn member_place(alloc: Global, place: &str, key: &str) -> Result<String, AllocError>
-    ensures { IfOk result (λ made. string_bytes made ≡ member_place place.now key.now) }
-{
-    let key = escaped(alloc, key)?;
-    format!(in alloc; "{place}/{key}")
-}
-
-/// Returns the place of an item of what stands at a place (RFC 6901). Errs only when out of memory.
-pub(crate) fn item_place(alloc: Global, place: &str, index: usize) -> Result<String, AllocError>
-    ensures { IfOk result (λ made. string_bytes made ≡ item_place place.now index) }
-{
-    format!(in alloc; "{place}/{index}")
-}
 
 /// Returns the place of the member of `columns` with a key. Errs only when out of memory.
 pub(crate) fn column_place(alloc: Global, key: &str) -> Result<String, AllocError>
@@ -46,85 +26,6 @@ pub(crate) fn part_place(alloc: Global, key: &str, name: &str) -> Result<String,
 {
     let column = column_place(alloc, key)?;
     member_place(alloc, column.as_str(), name)
-}
-
-/// A key as it stands in a pointer: `~` is written `~0`, and `/` is written `~1`.
-fn escaped(alloc: Global, key: &str) -> Result<String, AllocError>
-    ensures { IfOk result (λ made. string_bytes made ≡ escaped key.now) }
-{
-    let characters = characters_of(alloc, key)?;
-    escaped_text(alloc, characters.as_slice())
-}
-
-/// The characters of a text.
-fn characters_of(alloc: Global, text: &str) -> Result<Vec<char>, AllocError>
-    ensures { IfOk result (λ made. made.items ≡ chars text.now) }
-{
-    let mut characters = Vec::with_capacity(alloc, text.len())?;
-    characters.extend(text.chars())?;
-    Ok(characters)
-}
-
-/// The text of a key with those characters, as it stands in a pointer.
-fn escaped_text(alloc: Global, characters: &[char]) -> Result<String, AllocError>
-    ensures { IfOk result (λ made. string_bytes made ≡ flat_map escaped_char characters.now) }
-{
-    let mut text = String::with_capacity(alloc, characters.len())?;
-    for character in characters {
-        push_escaped(&mut text, *character)?;
-    }
-    Ok(text)
-}
-
-/// Adds a character of a key as it stands in a pointer.
-fn push_escaped(text: &mut String, character: char) -> Result<(), AllocError>
-    ensures { OnOk result (string_bytes text.new ≡ string_bytes text.old ++ escaped_char character) }
-{
-    if character == '~' {
-        text.push_str("~0")
-    } else if character == '/' {
-        text.push_str("~1")
-    } else {
-        text.push(character)
-    }
-}
-
-/// Returns what stands at a place as a finding shows it: JSON without blanks, at most 120 characters
-/// of it, and `..` behind them where there are more. Errs only when out of memory.
-pub(crate) fn shown_value(alloc: Global, value: &Value<'_>) -> Result<String, AllocError>
-    requires { IsReadable (value_view value.now) }
-    ensures { IfOk result (λ made. string_bytes made ≡ shown_value (value_view value.now)) }
-{
-    let text = JsonText::of(alloc, value)?;
-    shown(alloc, text.as_str())
-}
-
-/// Returns a text as a finding shows it: at most 120 characters, and `..` behind them where there
-/// are more. Errs only when out of memory.
-pub(crate) fn shown(alloc: Global, text: &str) -> Result<String, AllocError>
-    ensures { IfOk result (λ made. string_bytes made ≡ shown text.now) }
-{
-    if size(text) <= SHOWN {
-        return String::from_str(alloc, text);
-    }
-    let mut first = first_of(alloc, text)?;
-    first.push_str("..")?;
-    Ok(first)
-}
-
-/// How many characters a text has.
-#[tactic(auto, using(std::proofs::lemmas::Str::chars_from_encodes))]
-fn size(text: &str) -> usize
-    ensures { result ≡ length (chars text.now) }
-{
-    text.chars().count()
-}
-
-/// The characters of a text that are shown.
-fn first_of(alloc: Global, text: &str) -> Result<String, AllocError>
-    ensures { IfOk result (λ first. string_bytes first ≡ encode_utf8_all (take 120 (chars text.now))) }
-{
-    text.chars().take(SHOWN).collect(alloc)
 }
 
 /// Returns a copy of a text that may be missing. Errs only when out of memory.

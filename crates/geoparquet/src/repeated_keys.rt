@@ -11,8 +11,9 @@ ghost use Rattle.geoparquet.specs.RepeatedKeys.{step_text, pointer, column_on, v
 use crate::code::GeoCode;
 use crate::finding::GeoFinding;
 use crate::ordered::ordered_members;
-use crate::place::{copied, item_place, member_place};
+use crate::place::copied;
 use crate::same_values::{Held, are_equal};
+use column_check::{item_place, member_place};
 use json::Value;
 use parquet_columns::values_text;
 use std::alloc::{AllocError, Global};

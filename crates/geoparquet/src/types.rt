@@ -22,7 +22,11 @@ use std::collections::BTreeSet;
 use value_tokens::member_of;
 
 /// Returns the name of the type of a kind in a dimension (GeoParquet, "geometry_types").
-pub(crate) fn type_text(kind: NativeKind, dimension: Dimension) -> &'static str
+///
+/// ```rust
+/// assert_eq!(rt; type_text(NativeKind::Point, Dimension::XYZ), "Point Z");
+/// ```
+pub fn type_text(kind: NativeKind, dimension: Dimension) -> &'static str
     ensures { result.now ≡ type_text kind dimension }
 {
     match (kind, dimension) {

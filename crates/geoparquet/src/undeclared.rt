@@ -1,11 +1,10 @@
 //! Columns that hold geometries, and have no member of `columns`.
 ghost use Rattle.std.specs.Prelude.{◌≡◌, ◌++◌, OnOk, map, option_and_then, option_map};
-ghost use Rattle.json.specs.Find.{as_str, at};
 ghost use Rattle.json.specs.Value.{value_view};
 ghost use Rattle.arrow_values.specs.Texts.{text_of};
 ghost use Rattle.geoparquet.specs.Findings.{finding};
 ghost use Rattle.geoparquet.specs.Ordered.{members_entries};
-ghost use Rattle.geoparquet.specs.Undeclared.{is_geometry_name, is_geometry, is_name, is_bound_in, is_box_in, covers, is_covered, is_declared, column_undeclared_findings, undeclared_findings, is_bare, no_metadata_findings};
+ghost use Rattle.geoparquet.specs.Undeclared.{is_geometry_name, is_geometry, is_covered, is_declared, column_undeclared_findings, undeclared_findings, is_bare, no_metadata_findings};
 ghost use Rattle.geoparquet.specs.Sources.{sourced};
 ghost use Rattle.std.specs.List.{list_any};
 
@@ -16,6 +15,7 @@ use crate::finding::GeoFinding;
 use crate::ordered::{ByKey, has_member};
 use crate::sources::Sourced;
 use json::Value;
+use parquet_columns::covers;
 use std::alloc::{AllocError, Global};
 
 /// Whether an extension name is that of geometries.
@@ -34,55 +34,6 @@ fn is_geometry(name: Option<&str>) -> bool
 {
     match name {
         Some(name) => is_geometry_name(name),
-        None => false,
-    }
-}
-
-/// Returns the text that a path begins with.
-fn first_text<'a>(path: Option<&Value<'a>>) -> Option<&'a str>
-    ensures { text_of result ≡ option_and_then as_str (option_and_then (at 0) (option_map (λ v. value_view v.now) path.entry)) }
-{
-    path?.at(0)?.as_str()
-}
-
-/// Whether there is a text, and it is that name.
-fn is_name(name: &str, text: Option<&str>) -> bool
-    ensures { result ≡ is_name name.now (text_of text.entry) }
-{
-    match text {
-        Some(text) => text == name,
-        None => false,
-    }
-}
-
-/// Whether the path of a bound begins with the name of a column.
-fn is_bound_in(name: &str, bbox: &Value<'_>, bound: &str) -> bool
-    ensures { result ≡ is_bound_in name.now (value_view bbox.now) bound.now }
-{
-    is_name(name, first_text(bbox.get(bound)))
-}
-
-/// Whether the path of some bound names a column.
-fn is_box_in(name: &str, bbox: Option<&Value<'_>>) -> bool
-    ensures { result ≡ is_box_in name.now (option_map (λ v. value_view v.now) bbox.entry) }
-{
-    let Some(bbox) = bbox else {
-        return false;
-    };
-    is_bound_in(name, bbox, "xmin")
-        || is_bound_in(name, bbox, "ymin")
-        || is_bound_in(name, bbox, "xmax")
-        || is_bound_in(name, bbox, "ymax")
-        || is_bound_in(name, bbox, "zmin")
-        || is_bound_in(name, bbox, "zmax")
-}
-
-/// Whether a path of the covering of a member names a column.
-fn covers(name: &str, member: &Value<'_>) -> bool
-    ensures { result ≡ covers name.now (value_view member.now) }
-{
-    match member.get("covering") {
-        Some(covering) => is_box_in(name, covering.get("bbox")),
         None => false,
     }
 }

@@ -8,11 +8,13 @@ mod Resolving
 mod Jsons
 mod Kept
 mod Laters
+mod Opening
 mod Maps
 mod Named
 mod Names
 mod Parts
 mod Placed
+mod Reading
 mod Repeating
 mod Spending
 mod Steps

@@ -1,5 +1,5 @@
 -- The text that bytes are.
-use Rattle.std.proofs.Common.{◌≡◌, List, ℕ, Bool, true, false, Option, Some, None, if◌then◌else◌, refl}
+use Rattle.std.proofs.Common.{◌≡◌, List, ℕ, Bool, true, false, Some, None, if◌then◌else◌, refl}
 use Rattle.std.specs.Str.{is_utf8, IsUtf8}
 use Rattle.std.proofs.lemmas.Str.{IsUtf8-from_is_utf8, is_utf8-from_IsUtf8}
 use Rattle.parquet_footer.specs.Spelled.{Spelled}

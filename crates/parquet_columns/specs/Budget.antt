@@ -12,4 +12,7 @@ size_of (Some text) = length text
 
 -- what is wrong with a file of which more would be made
 abbrev pub too_large : Text
-too_large = codes "the report would have more than 1048576 bytes and 32 for each byte read"
+too_large = codes "a larger report"
+
+abbrev pub within_budget : Text
+within_budget = codes "a report of at most 1048576 bytes and 32 for each byte read"

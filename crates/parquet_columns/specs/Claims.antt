@@ -1,5 +1,5 @@
 -- What the geometry types of elements say beside columns (docs/FORMAT.md, 4.6).
-use Rattle.std.specs.Prelude.{ℕ, ◌+◌, Bool, List, [], ◌∷◌, length, codes, Option, None, Some, is_some, string_bytes, if◌then◌else◌}
+use Rattle.std.specs.Prelude.{ℕ, ◌+◌, Bool, true, false, List, [], ◌∷◌, length, codes, Option, None, Some, is_some, string_bytes, if◌then◌else◌}
 use Rattle.arrow_values.specs.Tree.{Text}
 use Rattle.arrow_columns.specs.Column.{ColumnTree, name_on}
 use Rattle.geoarrow_meta.specs.declared.edges.Edges.{Edges}
@@ -7,22 +7,23 @@ use Rattle.geoarrow_meta.specs.declared.edges.Edges.TheVariants.{Andoyer, Karney
 use Rattle.parquet_footer.specs.Element.{Element}
 use Rattle.parquet_footer.specs.Footer.{Pairing}
 use Rattle.parquet_columns.specs.Budget.{size_of}
+use Rattle.parquet_columns.specs.Reserved.{is_reserved}
 use Rattle.parquet_columns.specs.Unreadable.{is_unreadable}
 use Rattle.parquet_columns.specs.Geometry.{GeometrySays, geometry_of, crs_in, text_with, given}
 use Rattle.parquet_columns.specs.declared.claim.ElementClaim.{ElementClaim}
 use Rattle.parquet_columns.specs.declared.claim.ElementClaim.TheVariants.{Silent, Given, Beside}
 
--- nothing; that the column has its extension from the element, and whether the type names a CRS; or the extension metadata that the type denotes beside
--- the column's own
+-- nothing; that the column has its extension from the element, whether the type names a CRS, and whether its edges are known; or the extension metadata that
+-- the type denotes beside the column's own, and whether its edges are known
 pub data Claim : Type 0 where
   silent : Claim
-  gives : Bool → Claim
-  beside : Text → Claim
+  gives : Bool → Bool → Claim
+  beside : Text → Bool → Claim
 
 abbrev pub claim : ElementClaim → Claim
 claim Silent = silent
-claim (Given names_crs) = gives names_crs
-claim (Beside text) = beside (string_bytes text)
+claim (Given names_crs knows_edges) = gives names_crs knows_edges
+claim (Beside text knows_edges) = beside (string_bytes text) knows_edges
 
 -- extension metadata without a CRS
 abbrev pub edges_alone : Option Edges → Text
@@ -38,15 +39,15 @@ abbrev pub own_text : List Pairing → Option Text → Option Edges → Text
 own_text pairs None edges = edges_alone edges
 own_text pairs (Some crs) edges = text_with (crs_in pairs (Some crs)) edges
 
--- what a geometry type says beside a column that is read, by the column's extension name
-abbrev pub claim_by : List Pairing → Option Text → Option GeometrySays → Claim
-claim_by pairs name None = silent
-claim_by pairs None (Some g) = gives (is_some g.crs)
-claim_by pairs (Some name) (Some g) = beside (own_text pairs g.crs g.edges)
+-- what a geometry type says beside a column that is read, by whether the column has an extension name that GeoArrow or OGC would have to give
+abbrev pub claim_by : List Pairing → Bool → Option GeometrySays → Claim
+claim_by pairs own None = silent
+claim_by pairs false (Some g) = gives (is_some g.crs) g.knows_edges
+claim_by pairs true (Some g) = beside (own_text pairs g.crs g.edges) g.knows_edges
 
 abbrev pub claim_of : List Pairing → Option Element → ColumnTree → Claim
 claim_of pairs None c = silent
-claim_of pairs (Some e) c = if is_unreadable c.data_type then silent else claim_by pairs (name_on c) (geometry_of e)
+claim_of pairs (Some e) c = if is_unreadable c.data_type then silent else claim_by pairs (is_reserved (name_on c)) (geometry_of e)
 
 -- for each column that of the element at its place
 abbrev pub claims : List Pairing → List Element → List ColumnTree → List Claim
@@ -57,8 +58,8 @@ claims pairs (e ∷ es) (c ∷ cs) = claim_of pairs (Some e) c ∷ claims pairs 
 -- how many bytes the extension metadata have that are made of an element for its column, and of all together
 abbrev pub claim_size : Claim → ℕ
 claim_size silent = 0
-claim_size (gives names_crs) = 0
-claim_size (beside text) = length text
+claim_size (gives names_crs knows_edges) = 0
+claim_size (beside text knows_edges) = length text
 
 abbrev pub made_size : List Pairing → Option Element → ColumnTree → ℕ
 made_size pairs e c = size_of (given pairs e c) + claim_size (claim_of pairs e c)

@@ -2,9 +2,9 @@
 use Rattle.std.specs.Prelude.{codes}
 use Rattle.arrow_values.specs.Tree.{Text}
 use Rattle.parquet_footer.specs.declared.code.Severity.{Severity}
-use Rattle.parquet_footer.specs.declared.code.Severity.TheVariants.{Error, Warning}
+use Rattle.parquet_footer.specs.declared.code.Severity.TheVariants.{Error, Warning, Note}
 use Rattle.parquet_columns.specs.declared.code.FileCode.{FileCode}
-use Rattle.parquet_columns.specs.declared.code.FileCode.TheVariants.{ArrowSchemaUnreadable, ArrowSchemaNames, ArrowSchemaContradicts, GeoNotInFooter, ElementInvalid, EmptyGroup, LogicalTypeInvalid, UnknownAlgorithm, CrsKeyMissing, NestedGeometry, NoGeoMetadata, RepeatedKey}
+use Rattle.parquet_columns.specs.declared.code.FileCode.TheVariants.{ArrowSchemaUnreadable, ArrowSchemaNames, ArrowSchemaContradicts, GeoNotInFooter, ElementInvalid, EmptyGroup, LogicalTypeInvalid, UnknownAlgorithm, CrsKeyMissing, NestedGeometry, NoGeoMetadata, RepeatedKey, ByteOrderMark}
 use Rattle.parquet_columns.specs.declared.code.FilePart.{FilePart}
 use Rattle.parquet_columns.specs.declared.code.FilePart.TheVariants.{Footer, StoredText, StoredMessage, Elements, Field, File}
 
@@ -21,6 +21,7 @@ code_of CrsKeyMissing = codes "CrsKeyMissing"
 code_of NestedGeometry = codes "NestedGeometry"
 code_of NoGeoMetadata = codes "NoGeoMetadata"
 code_of RepeatedKey = codes "RepeatedKey"
+code_of ByteOrderMark = codes "ByteOrderMark"
 
 abbrev pub severity_of : FileCode → Severity
 severity_of ArrowSchemaUnreadable = Error
@@ -35,6 +36,7 @@ severity_of CrsKeyMissing = Error
 severity_of NestedGeometry = Warning
 severity_of NoGeoMetadata = Warning
 severity_of RepeatedKey = Warning
+severity_of ByteOrderMark = Note
 
 -- when a code is found
 abbrev pub rule_of : FileCode → Text
@@ -50,6 +52,7 @@ rule_of CrsKeyMissing = codes "the CRS of a geometry type is projjson:KEY, and K
 rule_of NestedGeometry = codes "an element below a column, or one that is REPEATED, is GEOMETRY or GEOGRAPHY"
 rule_of NoGeoMetadata = codes "a key is geo but for the case of its letters, and geo has no value"
 rule_of RepeatedKey = codes "geo, ARROW:schema or an extension key of a field stands several times with a value"
+rule_of ByteOrderMark = codes "lines begin with a byte order mark"
 
 -- what is expected where a code is found
 abbrev pub expected_of : FileCode → Text
@@ -65,6 +68,7 @@ expected_of CrsKeyMissing = codes "a key whose value is PROJJSON"
 expected_of NestedGeometry = codes "a column at the root that is not REPEATED"
 expected_of NoGeoMetadata = codes "geo"
 expected_of RepeatedKey = codes "one value of the key"
+expected_of ByteOrderMark = codes "lines without one"
 
 -- what helps
 abbrev pub help_of : FileCode → Text
@@ -75,11 +79,12 @@ help_of GeoNotInFooter = codes "Readers of GeoParquet look in the footer; it is 
 help_of ElementInvalid = codes "The column is not read, the others are."
 help_of EmptyGroup = codes "It is a struct of no fields."
 help_of LogicalTypeInvalid = codes "Other readers refuse the file; the type is ignored here."
-help_of UnknownAlgorithm = codes "The edges are not known; they are taken as spherical."
-help_of CrsKeyMissing = codes "The text is kept as the CRS, and no reader knows it."
+help_of UnknownAlgorithm = codes "The edges are not known, and the element says none."
+help_of CrsKeyMissing = codes "The CRS is not known, and the element says none."
 help_of NestedGeometry = codes "GeoParquet takes columns at the root alone."
 help_of NoGeoMetadata = codes "Readers of GeoParquet look for geo in small letters; it is not used here."
 help_of RepeatedKey = codes "The last counts here; other readers take the first."
+help_of ByteOrderMark = codes "It is passed over."
 
 -- where a finding is, as reports have it
 abbrev pub part_text : FilePart → Text

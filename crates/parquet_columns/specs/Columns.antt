@@ -109,9 +109,10 @@ abbrev pub root_count : Option ℕ → Result ℕ ElementFault
 root_count None = breaks Root 0
 root_count (Some n) = Ok n
 
--- the rule that is broken in the column of a name
+-- the rule that is broken in a column, which has a name, and whose element has that place
 pub record FaultTree : Type 0 where
   pub column : Text
+  pub at : ℕ
   pub fault : ElementFault
 
 -- the columns of a schema, and the rules that are broken in them
@@ -120,7 +121,7 @@ pub record ColumnTrees : Type 0 where
   pub faults : List FaultTree
 
 abbrev pub fault_tree : ColumnFault → FaultTree
-fault_tree f = record { column = string_bytes f.column; fault = f.fault }
+fault_tree f = record { column = string_bytes f.column; at = f.at; fault = f.fault }
 
 abbrev pub column_trees : ElementColumns → ColumnTrees
 column_trees made = record { columns = map column_tree made.columns.items; faults = map fault_tree made.faults.items }
@@ -130,15 +131,15 @@ abbrev pub read_column : Text → Result (NodeTree × ℕ) ElementFault → Colu
 read_column name (Ok n) = column_of n.0
 read_column name (Err fault) = unreadable_column name
 
-abbrev pub read_fault : Text → Result (NodeTree × ℕ) ElementFault → List FaultTree
-read_fault name (Ok n) = []
-read_fault name (Err fault) = record { column = utf8_lossy name; fault = fault } ∷ []
+abbrev pub read_fault : Child → Result (NodeTree × ℕ) ElementFault → List FaultTree
+read_fault c (Ok n) = []
+read_fault c (Err fault) = record { column = utf8_lossy c.name; at = c.at; fault = fault } ∷ []
 
 abbrev pub column_at : List Element → Child → ColumnTree
 column_at es c = read_column c.name (node_at 64 es c.at)
 
 abbrev pub faults_at : List Element → Child → List FaultTree
-faults_at es c = read_fault c.name (node_at 64 es c.at)
+faults_at es c = read_fault c (node_at 64 es c.at)
 
 abbrev pub columns_at : List Element → List Child → ColumnTrees
 columns_at es cs = record { columns = map (column_at es) cs; faults = flat_map (faults_at es) cs }

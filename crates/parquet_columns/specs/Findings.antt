@@ -1,5 +1,5 @@
 -- What is found in the footer of a Parquet file whose columns are read (docs/FORMAT.md, 4.5).
-use Rattle.std.specs.Prelude.{◌≡◌, ℕ, ◌&&◌, nat_lt, Bool, true, List, [], ◌∷◌, ◌++◌, length, map, flat_map, codes, Option, Some, None, option_map, string_bytes, if◌then◌else◌}
+use Rattle.std.specs.Prelude.{ℕ, ◌&&◌, nat_lt, Bool, true, List, [], ◌∷◌, ◌++◌, length, map, flat_map, codes, Option, Some, None, option_map, string_bytes, if◌then◌else◌}
 use Rattle.std.specs.Fmt.{decimal}
 use Rattle.std.specs.Str.{bytes_eq}
 use Rattle.base64.specs.declared.decode.DecodeError.{DecodeError}

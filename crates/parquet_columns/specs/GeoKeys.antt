@@ -1,5 +1,5 @@
 -- A key that is `geo` but for the case of its letters (docs/FORMAT.md, 4.5).
-use Rattle.std.specs.Prelude.{Bool, not, ◌&&◌, List, [], ◌∷◌, map, Option, None, Some, is_some, find}
+use Rattle.std.specs.Prelude.{Bool, ◌&&◌, List, [], ◌∷◌, map, Option, None, Some, is_some, find}
 use Rattle.std.specs.Char.{to_ascii_lowercase}
 use Rattle.std.specs.Str.{bytes_eq}
 use Rattle.std.specs.Str.Lossy.{utf8_lossy}

@@ -1,13 +1,19 @@
 -- Which extension metadata the geometry types of Parquet denote (Parquet, "Geospatial Definitions").
 use Rattle.std.specs.Prelude.{ℕ, zero, suc, ◌+◌, ◌==◌, ◌&&◌, nat_lt, Bool, true, false, not, List, [], ◌∷◌, length, codes, Option, None, Some, option_map, unwrap_or, if◌then◌else◌}
-use Rattle.std.specs.List.{position_or_len, before_first, after_first}
+use Rattle.std.specs.Char.{is_ascii_digit}
+use Rattle.std.specs.List.{list_all, position_or_len, before_first, after_first}
 use Rattle.std.specs.Str.{bytes_eq}
-use Rattle.json.specs.Token.{Token, string}
+use Rattle.json.specs.Json as json
+use Rattle.json.specs.Token.{Token, string, null}
 use Rattle.json.specs.Lex.{tokens}
 use Rattle.json.specs.Print.{print}
 use Rattle.arrow_values.specs.Tree.{Text}
 use Rattle.arrow_values.specs.Texts.{set_extension}
 use Rattle.arrow_columns.specs.Column.{ColumnTree, name_on}
+use Rattle.crs_identity.specs.FormNames.{form_name}
+use Rattle.crs_identity.specs.Forms.{form_of_value}
+use Rattle.crs_identity.specs.declared.names.FormName.{FormName}
+use Rattle.crs_identity.specs.declared.names.FormName.TheVariants.{Code}
 use Rattle.geoarrow_meta.specs.declared.edges.Edges.{Edges}
 use Rattle.geoarrow_meta.specs.declared.edges.Edges.TheVariants as edges
 use Rattle.geoarrow_meta.specs.declared.crs.crs_type.CrsType.{CrsType}
@@ -24,6 +30,7 @@ use Rattle.parquet_footer.specs.Element.{Element}
 use Rattle.parquet_footer.specs.Footer.{Pairing}
 use Rattle.parquet_footer.specs.Logical.{Logical, geometry, geography}
 use Rattle.parquet_columns.specs.Keys.{text_at}
+use Rattle.parquet_columns.specs.Reserved.{is_reserved}
 use Rattle.parquet_columns.specs.Unreadable.{is_unreadable}
 
 -- a CRS by the tokens that it is written with, and its type
@@ -45,18 +52,36 @@ is_colon b = b == 58
 abbrev pub colon_parts : Text → Option (Text × Text)
 colon_parts s = if nat_lt (position_or_len is_colon s) (length s) then Some (before_first is_colon s, after_first is_colon s) else None
 
--- projjson:KEY is the value of the key, where that is PROJJSON
-abbrev pub keyed_crs : Text → Option Text → TypedCrs
-keyed_crs s None = text_crs s None
-keyed_crs s (Some value) = json_or value (text_crs s None)
+-- projjson:KEY is the value of the key, where that is PROJJSON; where it is none, of which `CrsKeyMissing` is found, null, which says no CRS
+abbrev pub no_crs : TypedCrs
+no_crs = record { tokens = null ∷ []; crs_type = None }
+
+abbrev pub keyed_crs : Option Text → TypedCrs
+keyed_crs None = no_crs
+keyed_crs (Some value) = json_or value no_crs
+
+-- srid:NUMBER, where that is one digit or more; another text behind `srid:` is of no type
+abbrev pub are_digits : Text → Bool
+are_digits s = nat_lt 0 (length s) && list_all is_ascii_digit s
+
+abbrev pub srid_crs : Text → Text → TypedCrs
+srid_crs s number = if are_digits number then text_crs number (Some Srid) else text_crs s None
+
+-- the type of any other text, by its form (docs/FORMAT.md, 5.3): that of a code, and no other has one
+abbrev pub type_of_form : FormName → Option CrsType
+type_of_form Code = Some AuthorityCode
+type_of_form form = None
+
+abbrev pub code_type : Text → Option CrsType
+code_type s = type_of_form (form_name (form_of_value (json.string s)))
 
 -- srid:NUMBER, projjson:KEY and AUTHORITY:CODE; any other text is of no type
 abbrev pub coded_crs : List Pairing → Text → Option (Text × Text) → TypedCrs
 coded_crs pairs s None = text_crs s None
 coded_crs pairs s (Some p) =
-    if bytes_eq p.0 (codes "srid") then text_crs p.1 (Some Srid) else
-    if bytes_eq p.0 (codes "projjson") then keyed_crs s (text_at p.1 pairs) else
-    text_crs s (Some AuthorityCode)
+    if bytes_eq p.0 (codes "srid") then srid_crs s p.1 else
+    if bytes_eq p.0 (codes "projjson") then keyed_crs (text_at p.1 pairs) else
+    text_crs s (code_type s)
 
 -- the CRS that is denoted: the format's default where none is named; a text that is PROJJSON itself; or one of those
 abbrev pub crs_in : List Pairing → Option Text → TypedCrs
@@ -73,18 +98,29 @@ edges_of (Some Andoyer) = edges.Andoyer
 edges_of (Some Karney) = edges.Karney
 edges_of (Some (Unknown number)) = edges.Spherical
 
+-- whether the algorithm of a GEOGRAPHY is known, if it has one; of one that is not `UnknownAlgorithm` is found, and the edges are not said
+abbrev pub is_known : Option Algorithm → Bool
+is_known None = true
+is_known (Some Spherical) = true
+is_known (Some Vincenty) = true
+is_known (Some Thomas) = true
+is_known (Some Andoyer) = true
+is_known (Some Karney) = true
+is_known (Some (Unknown number)) = false
+
 -- the text of the metadata with that CRS and those edges
 abbrev pub text_with : TypedCrs → Option Edges → Text
 text_with crs e = print (metadata_tokens crs.tokens crs.crs_type e)
 
--- what a geometry type says: the CRS that it names, and of a GEOGRAPHY the edges
+-- what a geometry type says: the CRS that it names, and of a GEOGRAPHY the edges; and whether its edges are known
 pub record GeometrySays : Type 0 where
   pub crs : Option Text
   pub edges : Option Edges
+  pub knows_edges : Bool
 
 abbrev pub geometry_type : Option Logical → Option GeometrySays
-geometry_type (Some (geometry crs)) = Some (record { crs = crs; edges = None })
-geometry_type (Some (geography crs algorithm)) = Some (record { crs = crs; edges = Some (edges_of algorithm) })
+geometry_type (Some (geometry crs)) = Some (record { crs = crs; edges = None; knows_edges = true })
+geometry_type (Some (geography crs algorithm)) = Some (record { crs = crs; edges = Some (edges_of algorithm); knows_edges = is_known algorithm })
 geometry_type _ = None
 
 -- whether an element is a leaf of BYTE_ARRAY, and not repeated
@@ -110,14 +146,15 @@ denoted pairs g = text_with (crs_in pairs g.crs) g.edges
 abbrev pub extension_text : List Pairing → Element → Option Text
 extension_text pairs e = option_map (denoted pairs) (geometry_of e)
 
--- the extension metadata that a column is given: those that its element denotes, if it is read and has no extension name
-abbrev pub given_by : Option Text → Option Text → Option Text
-given_by None text = text
-given_by (Some name) text = None
+-- the extension metadata that a column is given: those that its element denotes, if it is read and has no extension name that GeoArrow or OGC would have
+-- to give
+abbrev pub given_by : Bool → Option Text → Option Text
+given_by true text = None
+given_by false text = text
 
 abbrev pub given : List Pairing → Option Element → ColumnTree → Option Text
 given pairs None c = None
-given pairs (Some e) c = if is_unreadable c.data_type then None else given_by (name_on c) (extension_text pairs e)
+given pairs (Some e) c = if is_unreadable c.data_type then None else given_by (is_reserved (name_on c)) (extension_text pairs e)
 
 -- with extension metadata that it is given, a column has the name of well-known binary
 abbrev pub marked_by : Option Text → ColumnTree → ColumnTree

@@ -1,5 +1,5 @@
 -- The values of keys in the metadata of a file.
-use Rattle.std.specs.Prelude.{List, [], ◌∷◌, Option, Some, None, option_map, codes, if◌then◌else◌}
+use Rattle.std.specs.Prelude.{List, [], ◌∷◌, Option, Some, None, codes, if◌then◌else◌}
 use Rattle.std.specs.Str.{is_utf8, bytes_eq}
 use Rattle.std.proofs.Common.{◌≡◌, refl}
 use Rattle.arrow_values.specs.Tree.{Text}

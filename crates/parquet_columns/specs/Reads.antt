@@ -1,10 +1,11 @@
 -- Which columns a footer denotes, and a file, and what is found in it; or why they denote none.
-use Rattle.std.specs.Prelude.{◌≡◌, ℕ, ◌+◌, ◌-◌, ◌≤◌, ◌<◌, List, [], ◌∷◌, ◌++◌, length, take, drop, map, Option, Some, None, Result, Ok, Err, ⊤, nat_lt, if◌then◌else◌}
+use Rattle.std.specs.Prelude.{◌≡◌, ℕ, Bool, ◌+◌, ◌-◌, ◌≤◌, ◌<◌, List, [], ◌∷◌, ◌++◌, length, take, drop, map, Option, Some, None, Result, Ok, Err, ⊤, ◌||◌, ◌==◌, nat_lt, if◌then◌else◌}
 use Rattle.std.specs.Borrow.{Bor}
 use Rattle.arrow_values.specs.Tree.{Text, Metadata}
 use Rattle.arrow_values.specs.Texts.{text_of, text_at}
 use Rattle.arrow_values.specs.View.{texts_of}
 use Rattle.arrow_columns.specs.Column.{ColumnTree, column_tree}
+use Rattle.json.specs.Json.{Json}
 use Rattle.parquet_footer.specs.Spelled.{Spelled}
 use Rattle.parquet_footer.specs.Element.{Element}
 use Rattle.parquet_footer.specs.Footer.{Contents, Pairing, footer_at}
@@ -23,7 +24,8 @@ use Rattle.parquet_columns.specs.Geometry.{root_children, marked_columns}
 use Rattle.parquet_columns.specs.Claims.{Claim, claim, claims, made_bytes}
 use Rattle.parquet_columns.specs.Findings.{Finding, finding, of_file, first_other, other_names, unreadable, geo_key, repeated_keys}
 use Rattle.parquet_columns.specs.GeoKeys.{other_geo_findings}
-use Rattle.parquet_columns.specs.Resolved.{resolved_from, resolved_columns, resolved_findings}
+use Rattle.parquet_columns.specs.Resolved.{Resolution, resolved_from, resolved_columns, resolved_findings, resolved_refuted}
+use Rattle.parquet_columns.specs.GeoNames.{json_of, geo_text}
 use Rattle.parquet_columns.specs.Elements.{findings_below}
 use Rattle.parquet_columns.specs.declared.code.FileCode.TheVariants.{GeoNotInFooter}
 use Rattle.parquet_columns.specs.declared.code.FilePart.TheVariants.{StoredMessage}
@@ -33,7 +35,7 @@ use Rattle.parquet_columns.specs.declared.stored.Stored.TheVariants.{Schema, Unr
 use Rattle.parquet_columns.specs.declared.footer.FooterColumns.{FooterColumns}
 use Rattle.parquet_columns.specs.declared.footer.Unmarked.{Unmarked}
 use Rattle.parquet_columns.specs.declared.error.SchemaError.{SchemaError}
-use Rattle.parquet_columns.specs.declared.error.SchemaError.TheVariants.{Footer, Cut, Elements, Budget, OutOfMemory}
+use Rattle.parquet_columns.specs.declared.error.SchemaError.TheVariants.{Footer, Length, Elements, Budget, OutOfMemory}
 
 -- what is made of the elements: their columns, or why their tree has no shape
 abbrev pub IsBuilt : Result ColumnTrees elements.ElementFault → Result ElementColumns SchemaError → Type 0
@@ -42,22 +44,32 @@ IsBuilt there (Err (Elements fault)) = there ≡ Err fault
 IsBuilt there (Err OutOfMemory) = ⊤
 IsBuilt there (Err _) = ⊥
 
--- columns, what the elements say beside them, and what is found
+-- columns, what the elements say beside them, of stored columns whether the elements refute their names, and what is found
 pub record Read : Type 0 where
   pub columns : List ColumnTree
   pub elements : List Claim
+  pub refuted : List Bool
   pub findings : List Finding
 
 abbrev pub read_of : FooterColumns → Read
-read_of r = record { columns = map column_tree r.columns.items; elements = map claim r.elements.items; findings = map finding r.findings.items }
+read_of r = record { columns = map column_tree r.columns.items; elements = map claim r.elements.items; refuted = r.refuted.items; findings = map finding r.findings.items }
 
 -- columns before the geometry types of their elements are looked at, and what is found
 pub record Choice : Type 0 where
   pub columns : List ColumnTree
   pub findings : List Finding
+  pub refuted : List Bool
 
 abbrev pub choice : Unmarked → Choice
-choice r = record { columns = map column_tree r.columns.items; findings = map finding r.findings.items }
+choice r = record { columns = map column_tree r.columns.items; findings = map finding r.findings.items; refuted = r.refuted.items }
+
+-- columns of elements, and what is found
+abbrev pub unresolved : List ColumnTree → List Finding → Choice
+unresolved cs fs = record { columns = cs; findings = fs; refuted = [] }
+
+-- stored columns by their elements, with what was found of them before
+abbrev pub with_found : List Resolution → List Finding → Choice
+with_found rs found = record { columns = resolved_columns rs; findings = resolved_findings rs ++ found; refuted = resolved_refuted rs }
 
 -- two names, without where they lie
 abbrev pub names_seen : Option (Bor Text) × Option (Bor Text) → Option Text × Option Text
@@ -65,9 +77,9 @@ names_seen p = (text_of p.0, text_of p.1)
 
 -- the columns of a stored schema, each as far as it fits its element, if their names are those of the elements' columns, with what was found of them before;
 -- else these
-abbrev pub by_names : Option (Option Text × Option Text) → List Element → List ColumnTree → List Finding → List ColumnTree → Choice
-by_names None es stored found cs = record { columns = resolved_columns (resolved_from 0 es cs stored); findings = resolved_findings (resolved_from 0 es cs stored) ++ found }
-by_names (Some names) es stored found cs = record { columns = cs; findings = other_names names ∷ [] }
+abbrev pub by_names : Option (Option Text × Option Text) → Option Json → List Element → List ColumnTree → List Finding → List ColumnTree → Choice
+by_names None geo es stored found cs = with_found (resolved_from geo 0 es cs stored) found
+by_names (Some names) geo es stored found cs = unresolved cs (other_names names ∷ [])
 
 -- the key geo in the metadata of a stored schema, which has no value in the footer
 abbrev pub geo_by : Option Text → Option Spelled → List Finding
@@ -79,15 +91,15 @@ abbrev pub geo_beside : Metadata → List Pairing → List Finding
 geo_beside m pairs = geo_by (text_at geo_key m) (value_of geo_key pairs)
 
 abbrev pub and_found : Choice → List Finding → Choice
-and_found read fs = record { columns = read.columns; findings = read.findings ++ fs }
+and_found read fs = record { columns = read.columns; findings = read.findings ++ fs; refuted = read.refuted }
 
 -- by what is stored, beside the columns of the elements
 abbrev pub chosen : Contents → Option Stored → List ColumnTree → Choice
-chosen c None cs = record { columns = cs; findings = [] }
+chosen c None cs = unresolved cs []
 chosen c (Some (Schema s found)) cs = and_found
-    (by_names (first_other (map column_tree s.columns.items) cs) (root_children c.schema) (map column_tree s.columns.items) (map finding found.items) cs)
+    (by_names (first_other (map column_tree s.columns.items) cs) (json_of (geo_text c.key_value_metadata)) (root_children c.schema) (map column_tree s.columns.items) (map finding found.items) cs)
     (geo_beside (texts_of s.metadata.entries) c.key_value_metadata)
-chosen c (Some (Unreadable fault)) cs = record { columns = cs; findings = unreadable fault ∷ [] }
+chosen c (Some (Unreadable fault)) cs = unresolved cs (unreadable fault ∷ [])
 
 -- how many bytes the extension metadata have that are made of geometry types, those that the columns are given and those beside their own
 abbrev pub made_of : Contents → List ColumnTree → ℕ
@@ -102,6 +114,7 @@ abbrev pub read_with : Contents → List FaultTree → Choice → Read
 read_with c faults read = record {
   columns = marked_columns c.key_value_metadata (root_children c.schema) read.columns;
   elements = claims c.key_value_metadata (root_children c.schema) read.columns;
+  refuted = read.refuted;
   findings = read.findings ++ found_with c faults;
 }
 
@@ -126,7 +139,7 @@ IsFooterRead n c r = (made : ColumnTrees) × (columns_of c.schema ≡ Ok made) �
 -- the footer at the end of a file: its length and the magic stand behind it, in eight bytes
 abbrev pub footer_before : List ℕ → Result ℕ FooterError → Result (List ℕ) SchemaError
 footer_before front (Err error) = Err (Footer error)
-footer_before front (Ok size) = if nat_lt (length front) size then Err Cut else Ok (drop (length front - size) front)
+footer_before front (Ok size) = if (size == 0) || nat_lt (length front) size then Err Length else Ok (drop (length front - size) front)
 
 unfoldable pub footer_in : List ℕ → Result (List ℕ) SchemaError
 footer_in bytes =

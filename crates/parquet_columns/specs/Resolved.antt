@@ -1,5 +1,5 @@
 -- Columns of a stored schema, by the elements at their places (docs/FORMAT.md, 4.5).
-use Rattle.std.specs.Prelude.{ℕ, suc, Bool, true, false, ◌&&◌, ◌||◌, nat_eq, List, [], ◌∷◌, map, flat_map, codes, Option, Some, None, if◌then◌else◌}
+use Rattle.std.specs.Prelude.{ℕ, suc, ◌+◌, not, Bool, true, false, ◌||◌, nat_eq, List, [], ◌∷◌, map, flat_map, codes, Option, Some, None, if◌then◌else◌}
 use Rattle.std.specs.List.{slice_get, starts_with}
 use Rattle.std.specs.Str.{bytes_eq}
 use Rattle.arrow_values.specs.Tree.{Text}
@@ -10,10 +10,13 @@ use Rattle.parquet_footer.specs.Element.{Element}
 use Rattle.parquet_columns.specs.declared.code.FileCode.TheVariants.{ArrowSchemaContradicts}
 use Rattle.parquet_columns.specs.declared.code.FilePart.TheVariants.{StoredMessage}
 use Rattle.parquet_columns.specs.Findings.{Finding}
+use Rattle.json.specs.Json.{Json}
+use Rattle.parquet_columns.specs.GeoNames.{is_named}
 use Rattle.parquet_columns.specs.Fits.{type_fits}
 use Rattle.parquet_columns.specs.Unreadable.{is_unreadable}
 
--- a column may hold geometries: its element is of a geometry type, or its field has an extension name of GeoArrow or an old one
+-- a column may hold geometries, or their boxes: its element is of a geometry type, its field has an extension name of GeoArrow or an old one, or the
+-- metadata at `geo` name it
 abbrev pub is_geometry_type : Option Logical → Bool
 is_geometry_type None = false
 is_geometry_type (Some (geometry crs)) = true
@@ -31,8 +34,8 @@ abbrev pub is_geo_name : Option Text → Bool
 is_geo_name None = false
 is_geo_name (Some name) = starts_with nat_eq name (codes "geoarrow.") || bytes_eq name (codes "ogc.wkb") || bytes_eq name (codes "ogc.wkt")
 
-abbrev pub may_hold : Option Element → ColumnTree → Bool
-may_hold e s = is_geometry e || is_geo_name (name_on s)
+abbrev pub may_hold : Option Json → Option Element → ColumnTree → Bool
+may_hold geo e s = (is_geometry e || is_geo_name (name_on s)) || is_named s.name geo
 
 -- a stored column that does not fit its element is the column of the element, and that is found
 abbrev pub bare : ColumnTree → ColumnTree
@@ -48,28 +51,51 @@ contradiction c s = record {
   wanted = Some (type_text c.data_type);
 }
 
-abbrev pub resolve_by : Bool → ColumnTree → ColumnTree → ColumnTree × Option Finding
-resolve_by true c s = (s, None)
-resolve_by false c s = (bare c, Some (contradiction c s))
+-- a stored column by its element: the column, what is found, and whether the element refutes a name of GeoArrow
+pub record Resolution : Type 0 where
+  pub column : ColumnTree
+  pub found : Option Finding
+  pub refuted : Bool
+
+abbrev pub as_it_is : ColumnTree → Resolution
+as_it_is c = record { column = c; found = None; refuted = false }
+
+abbrev pub resolve_by : Bool → Bool → ColumnTree → ColumnTree → Resolution
+resolve_by true held c s = as_it_is s
+resolve_by false true c s = record { column = bare c; found = Some (contradiction c s); refuted = is_geo_name (name_on s) }
+resolve_by false false c s = as_it_is s
 
 -- one whose element's column is not read stays so
-abbrev pub resolve : Option Element → Option ColumnTree → ColumnTree → ColumnTree × Option Finding
-resolve e None s = (s, None)
-resolve e (Some c) s =
-    if is_unreadable c.data_type then (bare c, None) else
-    if may_hold e s then resolve_by (type_fits c.data_type s.data_type) c s else (s, None)
+abbrev pub resolve : Option Json → Option Element → Option ColumnTree → ColumnTree → Resolution
+resolve geo e None s = as_it_is s
+resolve geo e (Some c) s =
+    if is_unreadable c.data_type then as_it_is (bare c) else resolve_by (type_fits c.data_type s.data_type) (may_hold geo e s) c s
 
 -- each stored column by the element and the element's column at its place
-abbrev pub resolved_from : ℕ → List Element → List ColumnTree → List ColumnTree → List (ColumnTree × Option Finding)
-resolved_from k es cs [] = []
-resolved_from k es cs (s ∷ ss) = resolve (slice_get es k) (slice_get cs k) s ∷ resolved_from (suc k) es cs ss
+abbrev pub resolved_from : Option Json → ℕ → List Element → List ColumnTree → List ColumnTree → List Resolution
+resolved_from geo k es cs [] = []
+resolved_from geo k es cs (s ∷ ss) = resolve geo (slice_get es k) (slice_get cs k) s ∷ resolved_from geo (suc k) es cs ss
 
 abbrev pub listed : Option Finding → List Finding
 listed None = []
 listed (Some f) = f ∷ []
 
-abbrev pub resolved_columns : List (ColumnTree × Option Finding) → List ColumnTree
-resolved_columns rs = map (λ r. r.0) rs
+abbrev pub resolved_columns : List Resolution → List ColumnTree
+resolved_columns rs = map (λ r. r.column) rs
 
-abbrev pub resolved_findings : List (ColumnTree × Option Finding) → List Finding
-resolved_findings rs = flat_map (λ r. listed r.1) rs
+abbrev pub resolved_findings : List Resolution → List Finding
+resolved_findings rs = flat_map (λ r. listed r.found) rs
+
+abbrev pub resolved_refuted : List Resolution → List Bool
+resolved_refuted rs = map (λ r. r.refuted) rs
+
+-- ---- for private contracts
+
+-- some stored column does not fit the element's column at its place
+abbrev pub is_misfit : Option ColumnTree → ColumnTree → Bool
+is_misfit None s = false
+is_misfit (Some c) s = not (type_fits c.data_type s.data_type)
+
+abbrev pub is_one_misfit : ℕ → List ColumnTree → List ColumnTree → Bool
+is_one_misfit k cs [] = false
+is_one_misfit k cs (s ∷ ss) = is_misfit (slice_get cs k) s || is_one_misfit (k + 1) cs ss

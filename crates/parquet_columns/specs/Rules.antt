@@ -1,23 +1,12 @@
--- The rules of the schema of a Parquet file (docs/FORMAT.md, 4.4): their codes, and what is wrong where one is broken.
+-- The rules of the schema of a Parquet file (docs/FORMAT.md, 4.4): what is wrong where one is broken, and what it asks.
 use Rattle.std.specs.Prelude.{codes}
 use Rattle.arrow_values.specs.Tree.{Text}
 use Rattle.parquet_columns.specs.declared.fault.SchemaRule.{SchemaRule}
 use Rattle.parquet_columns.specs.declared.fault.SchemaRule.TheVariants as rules
-use Rattle.parquet_columns.specs.Budget.{too_large}
+use Rattle.parquet_columns.specs.Budget.{too_large, within_budget}
 use Rattle.parquet_columns.specs.declared.error.SchemaError.{SchemaError}
 use Rattle.parquet_columns.specs.declared.error.SchemaError.TheVariants as errors
 use Rattle.parquet_footer.specs.Rules as footer
-
--- the code of a rule, as reports have it: a file that breaks one of the first two is refused, one that breaks another has a finding
-abbrev pub rule_code : SchemaRule → Text
-rule_code rules.Root = codes "SchemaRoot"
-rule_code rules.Children = codes "SchemaChildren"
-rule_code rules.Element = codes "ElementInvalid"
-rule_code rules.Repetition = codes "ElementInvalid"
-rule_code rules.Length = codes "ElementInvalid"
-rule_code rules.List = codes "ElementInvalid"
-rule_code rules.Map = codes "ElementInvalid"
-rule_code rules.Depth = codes "ElementInvalid"
 
 -- what is wrong where a rule is broken
 abbrev pub rule_message : SchemaRule → Text
@@ -41,17 +30,17 @@ rule_wanted rules.List = codes "one repeated element"
 rule_wanted rules.Map = codes "one repeated group"
 rule_wanted rules.Depth = codes "at most 64 levels"
 
--- the code of why a file has no columns, and what is wrong
-abbrev pub error_code : SchemaError → Text
-error_code (errors.Footer error) = footer.error_code error
-error_code errors.Cut = codes "FooterCut"
-error_code (errors.Elements fault) = rule_code fault.rule
-error_code errors.Budget = codes "ReportTooLarge"
-error_code errors.OutOfMemory = codes "OutOfMemory"
-
+-- why a file has no columns: what is wrong, and what is asked
 abbrev pub error_message : SchemaError → Text
 error_message (errors.Footer error) = footer.error_message error
-error_message errors.Cut = codes "the footer is larger than the file"
+error_message errors.Length = codes "a footer of no bytes, or of more than stand before its size"
 error_message (errors.Elements fault) = rule_message fault.rule
 error_message errors.Budget = too_large
 error_message errors.OutOfMemory = codes "out of memory"
+
+abbrev pub error_wanted : SchemaError → Text
+error_wanted (errors.Footer error) = footer.error_wanted error
+error_wanted errors.Length = codes "a footer before its size"
+error_wanted (errors.Elements fault) = rule_wanted fault.rule
+error_wanted errors.Budget = within_budget
+error_wanted errors.OutOfMemory = codes "more memory"

@@ -1,5 +1,5 @@
 -- How the values of a logical or converted type are stored (docs/FORMAT.md, 4.5).
-use Rattle.std.specs.Prelude.{ℕ, Bool, true, false, ◌&&◌, ◌==◌, nat_lt, codes, Option, Some, None, is_some, unwrap_or, if◌then◌else◌}
+use Rattle.std.specs.Prelude.{ℕ, Bool, true, false, ◌&&◌, ◌==◌, nat_lt, codes, Option, Some, None, unwrap_or, if◌then◌else◌}
 use Rattle.arrow_values.specs.Tree.{Text}
 use Rattle.parquet_footer.specs.declared.element.PhysicalType.{PhysicalType}
 use Rattle.parquet_footer.specs.declared.element.PhysicalType.TheVariants as types

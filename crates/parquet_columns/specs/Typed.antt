@@ -16,7 +16,7 @@ pub record IsTyped (p : WrittenCrs × Option CrsType) (t : TypedCrs) : Type 0 wh
   pub written : crs_tokens p.0 ≡ t.tokens
   pub typed : p.1 ≡ t.crs_type
 
--- a CRS that is named is that one, or that of a text `projjson:KEY`
+-- a CRS that is named is that one, or that of a key
 abbrev pub IsNamed : List Pairing → NamedCrs → TypedCrs → Type 0
 IsNamed pairs (Written crs crs_type) t = IsTyped (crs, crs_type) t
-IsNamed pairs (Keyed text key) t = t ≡ keyed_crs text.now (text_at key.now pairs)
+IsNamed pairs (Keyed key) t = t ≡ keyed_crs (text_at key.now pairs)

@@ -3,8 +3,10 @@ ghost use Rattle.std.specs.Prelude.{◌≡◌, option_map, string_bytes};
 ghost use Rattle.parquet_columns.specs.Budget.{budget, size_of};
 
 /// What is wrong with a file of which more would be made.
-pub const TOO_LARGE: &str =
-    "the report would have more than 1048576 bytes and 32 for each byte read";
+pub const TOO_LARGE: &str = "a larger report";
+
+/// What is asked of a file.
+pub const WITHIN_BUDGET: &str = "a report of at most 1048576 bytes and 32 for each byte read";
 
 /// Returns how many bytes may be made of so many that are read: 1,048,576, and 32 for each
 /// (`docs/FORMAT.md`, 4.6). The extension metadata that geometry types give the columns of a

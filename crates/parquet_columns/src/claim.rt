@@ -7,6 +7,7 @@ ghost use Rattle.parquet_columns.specs.Says.{says};
 ghost use Rattle.parquet_columns.specs.Claims.{claim, edges_alone, own_text, claim_by, claim_of, claim_size};
 
 use crate::geometry::{GeometrySays, geometry_of, text_with};
+use crate::reserved::is_reserved;
 use crate::unreadable::is_unreadable;
 use crate::values::KeyValues;
 use arrow_columns::SchemaColumn;
@@ -22,15 +23,23 @@ pub enum ElementClaim {
     /// not read.
     Silent,
     /// The column has its extension name and metadata from the element, as its field has no extension
-    /// name of its own.
+    /// name of its own: none at all, or a foreign one.
     Given {
         /// Whether the geometry type names a CRS. Where it does not, the one in the metadata of the
         /// column is the format's default.
         names_crs: bool,
+        /// Whether its edges are known. Where they are not, as those of an algorithm of another
+        /// number, the ones in the metadata of the column are said by nobody.
+        knows_edges: bool,
     },
-    /// The field has an extension name of its own. These are the extension metadata that the geometry
-    /// type denotes, without a CRS where it names none, so that the format's default counts.
-    Beside(String),
+    /// The field has an extension name of its own.
+    Beside {
+        /// The extension metadata that the geometry type denotes, without a CRS where it names none, so
+        /// that the format's default counts.
+        metadata: String,
+        /// Whether its edges are known.
+        knows_edges: bool,
+    },
 }
 
 /// The text of extension metadata with those edges and without a CRS.
@@ -62,23 +71,29 @@ fn own_text<'a>(
     }
 }
 
-/// What a geometry type says beside a column, by the column's extension name.
+/// What a geometry type says beside a column, by whether the column has an extension name of its own.
 fn claim_by<'a>(
     alloc: Global,
     values: &mut KeyValues<'_, 'a>,
-    name: Option<&str>,
+    is_own: bool,
     said: Option<GeometrySays<'a>>,
 ) -> Result<ElementClaim, AllocError>
-    ensures made { IfOk result (λ made. claim made ≡ claim_by values.old (text_of name.entry) (option_map says said.entry)) }
+    ensures made { IfOk result (λ made. claim made ≡ claim_by values.old is_own (option_map says said.entry)) }
     ensures same { values.new ≡ values.old }
 {
-    match (name, said) {
-        (_, None) => Ok(ElementClaim::Silent),
-        (None, Some(said)) => Ok(ElementClaim::Given {
-            names_crs: said.crs.is_some(),
-        }),
-        (Some(_), Some(said)) => Ok(ElementClaim::Beside(own_text(alloc, values, said)?)),
+    let Some(said) = said else {
+        return Ok(ElementClaim::Silent);
+    };
+    if is_own {
+        return Ok(ElementClaim::Beside {
+            metadata: own_text(alloc, values, said)?,
+            knows_edges: said.knows_edges,
+        });
     }
+    Ok(ElementClaim::Given {
+        names_crs: said.crs.is_some(),
+        knows_edges: said.knows_edges,
+    })
 }
 
 /// What an element, if there is one, says beside a column. Errs only when out of memory.
@@ -98,12 +113,8 @@ pub(crate) fn claim_of<'a>(
     if is_unreadable(&column.data_type) {
         return Ok(ElementClaim::Silent);
     }
-    claim_by(
-        alloc,
-        values,
-        column.extension_type_name(),
-        geometry_of(child),
-    )
+    let is_own = is_reserved(alloc, column.extension_type_name())?;
+    claim_by(alloc, values, is_own, geometry_of(child))
 }
 
 /// How many bytes a claim has.
@@ -113,6 +124,6 @@ pub(crate) fn claim_size(said: &ElementClaim) -> u128
     match said {
         ElementClaim::Silent => 0,
         ElementClaim::Given { .. } => 0,
-        ElementClaim::Beside(text) => text.len() as u128,
+        ElementClaim::Beside { metadata, .. } => metadata.len() as u128,
     }
 }

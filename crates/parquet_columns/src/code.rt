@@ -35,11 +35,13 @@ pub enum FileCode {
     /// The key `geo` or `ARROW:schema`, or a key of the extension type of a field, stands several
     /// times with a value.
     RepeatedKey,
+    /// Lines begin with a byte order mark.
+    ByteOrderMark,
 }
 
 impl FileCode {
     /// Each code, in the order of docs/FORMAT.md, 4.5.
-    pub const ALL: [FileCode; 12] = [
+    pub const ALL: [FileCode; 13] = [
         FileCode::ArrowSchemaUnreadable,
         FileCode::ArrowSchemaNames,
         FileCode::ArrowSchemaContradicts,
@@ -52,6 +54,7 @@ impl FileCode {
         FileCode::NestedGeometry,
         FileCode::NoGeoMetadata,
         FileCode::RepeatedKey,
+        FileCode::ByteOrderMark,
     ];
 
     /// Returns the code, as reports have it.
@@ -71,6 +74,7 @@ impl FileCode {
             Self::NestedGeometry => "NestedGeometry",
             Self::NoGeoMetadata => "NoGeoMetadata",
             Self::RepeatedKey => "RepeatedKey",
+            Self::ByteOrderMark => "ByteOrderMark",
         }
     }
 
@@ -91,6 +95,7 @@ impl FileCode {
             Self::NestedGeometry => Severity::Warning,
             Self::NoGeoMetadata => Severity::Warning,
             Self::RepeatedKey => Severity::Warning,
+            Self::ByteOrderMark => Severity::Note,
         }
     }
 
@@ -120,6 +125,7 @@ impl FileCode {
                 "a key is geo but for the case of its letters, and geo has no value",
             Self::RepeatedKey =>
                 "geo, ARROW:schema or an extension key of a field stands several times with a value",
+            Self::ByteOrderMark => "lines begin with a byte order mark",
         }
     }
 
@@ -140,6 +146,7 @@ impl FileCode {
             Self::NestedGeometry => "a column at the root that is not REPEATED",
             Self::NoGeoMetadata => "geo",
             Self::RepeatedKey => "one value of the key",
+            Self::ByteOrderMark => "lines without one",
         }
     }
 
@@ -159,12 +166,13 @@ impl FileCode {
             Self::ElementInvalid => "The column is not read, the others are.",
             Self::EmptyGroup => "It is a struct of no fields.",
             Self::LogicalTypeInvalid => "Other readers refuse the file; the type is ignored here.",
-            Self::UnknownAlgorithm => "The edges are not known; they are taken as spherical.",
-            Self::CrsKeyMissing => "The text is kept as the CRS, and no reader knows it.",
+            Self::UnknownAlgorithm => "The edges are not known, and the element says none.",
+            Self::CrsKeyMissing => "The CRS is not known, and the element says none.",
             Self::NestedGeometry => "GeoParquet takes columns at the root alone.",
             Self::NoGeoMetadata =>
                 "Readers of GeoParquet look for geo in small letters; it is not used here.",
             Self::RepeatedKey => "The last counts here; other readers take the first.",
+            Self::ByteOrderMark => "It is passed over.",
         }
     }
 }

@@ -192,6 +192,8 @@ pub struct ElementColumns {
 pub struct ColumnFault {
     /// The name of the column.
     pub column: String,
+    /// The place of its element, counted from the root, which is 0.
+    pub at: usize,
     /// The rule, and by which element.
     pub fault: ElementFault,
 }
@@ -289,25 +291,29 @@ fn add_column(
         }
         Err(ColumnsError::Broken(fault)) => {
             columns.push(unreadable_column(alloc, at.name)?)?;
-            add_fault(alloc, faults, at.name, fault)
+            add_fault(alloc, faults, at, fault)
         }
         Err(ColumnsError::OutOfMemory) => Err(AllocError),
     }
 }
 
-/// Adds the rule that is broken in the column of a name. Errs only when out of memory.
+/// Adds the rule that is broken in the column that a child of the root is. Errs only when out of memory.
 fn add_fault(
     alloc: Global,
     faults: &mut Vec<ColumnFault>,
-    name: &[u8],
+    child: Child<'_>,
     fault: ElementFault,
 ) -> Result<(), AllocError>
     ensures { OnOk result (map fault_tree faults.new.items
-        ≡ map fault_tree faults.old.items ++ record { column = utf8_lossy name.now; fault = fault } ∷ []) }
+        ≡ map fault_tree faults.old.items ++ record { column = utf8_lossy child.entry.name.now; at = child.entry.at; fault = fault } ∷ []) }
 {
-    let Ok(column) = String::from_utf8_lossy(alloc, name) else {
+    let Ok(column) = String::from_utf8_lossy(alloc, child.name) else {
         return Err(AllocError);
     };
-    faults.push(ColumnFault { column, fault })?;
+    faults.push(ColumnFault {
+        column,
+        at: child.at,
+        fault,
+    })?;
     Ok(())
 }

@@ -1,15 +1,16 @@
 //! What is found of the elements of a schema.
-ghost use Rattle.std.specs.Prelude.{◌≡◌, ◌<◌, ◌≤◌, ◌+◌, ◌*◌, ◌^◌, ◌++◌, is_some, IfOk, OnOk, map, option_map, string_bytes};
+ghost use Rattle.std.specs.Prelude.{◌≡◌, [], ◌++◌, is_some, IfOk, OnOk, map, option_map, string_bytes};
 ghost use Rattle.arrow_values.specs.Texts.{text_of};
 ghost use Rattle.parquet_footer.specs.Logical.{logical};
 ghost use Rattle.parquet_footer.specs.Element.{element};
 ghost use Rattle.parquet_columns.specs.Findings.{finding};
-ghost use Rattle.parquet_columns.specs.Elements.{at_element, column_name, of_element, is_zero, is_empty_group, empty_group, on_text, invalid_type, algorithm_number, logical_number, unknown_algorithm, logical_crs, key_in, key_of, missing_by, missing_key, crs_part, geometry_text, is_nested, nested_geometry, geometry_findings, type_findings, element_findings, next_below, findings_from, findings_below};
+ghost use Rattle.parquet_columns.specs.Levels.{level};
+ghost use Rattle.parquet_columns.specs.Elements.{at_element, of_element, is_zero, is_empty_group, empty_group, on_text, invalid_type, algorithm_number, logical_number, unknown_algorithm, logical_crs, key_in, key_of, missing_by, missing_key, crs_part, geometry_text, is_nested, nested_geometry, geometry_findings, type_findings, element_findings, findings_from, findings_below};
 
 use crate::code::{FileCode, FilePart};
 use crate::finding::{FileFinding, FilePlace};
 use crate::geometry::colon_parts;
-use crate::marks::count_of;
+use crate::levels::{Level, close, column_in, enter, is_below, path_in};
 use crate::resolved::is_geometry_type;
 use crate::storage::{is_stored, storage_of, storage_text};
 use crate::type_names::{physical_name, type_name};
@@ -27,40 +28,25 @@ fn at_element(found: &SchemaElement<'_>) -> FilePlace
     }
 }
 
-/// The name of the column that an element is, if it is one.
-fn column_name(
-    alloc: Global,
-    is_column: bool,
-    found: &SchemaElement<'_>,
-) -> Result<Option<String>, AllocError>
-    ensures { IfOk result (λ name. option_map string_bytes name ≡ column_name is_column (element found.now)) }
-{
-    if !is_column {
-        return Ok(None);
-    }
-    match String::from_utf8_lossy(alloc, found.storage.name.bytes) {
-        Ok(name) => Ok(Some(name)),
-        Err(_) => Err(AllocError),
-    }
-}
-
 /// A finding of an element.
 fn of_element(
     alloc: Global,
     code: FileCode,
-    is_column: bool,
+    levels: &[Level<'_>],
     at: &SchemaElement<'_>,
     found: String,
     wanted: Option<String>,
 ) -> Result<FileFinding, AllocError>
     ensures { IfOk result (λ made. finding made
-        ≡ of_element code is_column (element at.now) (string_bytes found) (option_map string_bytes wanted)) }
+        ≡ of_element code (map level levels.now) (element at.now) (string_bytes found) (option_map string_bytes wanted)) }
 {
-    let column = column_name(alloc, is_column, at)?;
+    let name = at.storage.name.bytes;
+    let column = column_in(alloc, levels, name)?;
+    let path = path_in(alloc, levels, Some(name))?;
     Ok(FileFinding {
         code,
-        column,
-        path: Vec::new(alloc),
+        column: Some(column),
+        path,
         place: at_element(at),
         found: Some(found),
         wanted,
@@ -78,14 +64,14 @@ fn is_empty_group(found: &SchemaElement<'_>) -> bool
 fn add_empty_group(
     alloc: Global,
     findings: &mut Vec<FileFinding>,
-    is_column: bool,
+    levels: &[Level<'_>],
     at: &SchemaElement<'_>,
 ) -> Result<(), AllocError>
-    ensures { OnOk result (map finding findings.new.items ≡ map finding findings.old.items ++ empty_group is_column (element at.now)) }
+    ensures { OnOk result (map finding findings.new.items ≡ map finding findings.old.items ++ empty_group (map level levels.now) (element at.now)) }
 {
     if is_empty_group(at) {
         let text = String::from_str(alloc, "0 children")?;
-        let found = of_element(alloc, FileCode::EmptyGroup, is_column, at, text, None)?;
+        let found = of_element(alloc, FileCode::EmptyGroup, levels, at, text, None)?;
         findings.push(found)?;
     }
     Ok(())
@@ -103,15 +89,15 @@ fn on_text(alloc: Global, at: &SchemaElement<'_>) -> Result<String, AllocError>
 /// What is found of a type on a physical type that it does not go with.
 fn invalid_type(
     alloc: Global,
-    is_column: bool,
+    levels: &[Level<'_>],
     at: &SchemaElement<'_>,
 ) -> Result<FileFinding, AllocError>
-    ensures { IfOk result (λ made. finding made ≡ invalid_type is_column (element at.now)) }
+    ensures { IfOk result (λ made. finding made ≡ invalid_type (map level levels.now) (element at.now)) }
 {
     let text = on_text(alloc, at)?;
     let wanted = String::from_str(alloc, storage_text(storage_of(at)))?;
     let code = FileCode::LogicalTypeInvalid;
-    of_element(alloc, code, is_column, at, text, Some(wanted))
+    of_element(alloc, code, levels, at, text, Some(wanted))
 }
 
 /// The number of an algorithm that is not known.
@@ -138,14 +124,14 @@ fn logical_number(logical_type: Option<LogicalType<'_>>) -> Option<u32>
 fn add_unknown(
     alloc: Global,
     findings: &mut Vec<FileFinding>,
-    is_column: bool,
+    levels: &[Level<'_>],
     at: &SchemaElement<'_>,
 ) -> Result<(), AllocError>
-    ensures { OnOk result (map finding findings.new.items ≡ map finding findings.old.items ++ unknown_algorithm is_column (element at.now)) }
+    ensures { OnOk result (map finding findings.new.items ≡ map finding findings.old.items ++ unknown_algorithm (map level levels.now) (element at.now)) }
 {
     if let Some(number) = logical_number(at.logical_type) {
         let text = format!(in alloc; "{number}")?;
-        let found = of_element(alloc, FileCode::UnknownAlgorithm, is_column, at, text, None)?;
+        let found = of_element(alloc, FileCode::UnknownAlgorithm, levels, at, text, None)?;
         findings.push(found)?;
     }
     Ok(())
@@ -192,12 +178,12 @@ fn add_missing<'a>(
     alloc: Global,
     findings: &mut Vec<FileFinding>,
     values: &mut KeyValues<'_, 'a>,
-    is_column: bool,
+    levels: &[Level<'_>],
     at: &SchemaElement<'a>,
     key: Option<&'a str>,
 ) -> Result<(), AllocError>
     ensures found { OnOk result (map finding findings.new.items
-        ≡ map finding findings.old.items ++ missing_by values.old is_column (element at.now) (text_of key.entry)) }
+        ≡ map finding findings.old.items ++ missing_by values.old (map level levels.now) (element at.now) (text_of key.entry)) }
     ensures same { values.new ≡ values.old }
 {
     let Some(key) = key else {
@@ -207,7 +193,7 @@ fn add_missing<'a>(
         return Ok(());
     }
     let text = String::from_str(alloc, key)?;
-    let found = of_element(alloc, FileCode::CrsKeyMissing, is_column, at, text, None)?;
+    let found = of_element(alloc, FileCode::CrsKeyMissing, levels, at, text, None)?;
     findings.push(found)?;
     Ok(())
 }
@@ -233,25 +219,25 @@ fn geometry_text(alloc: Global, at: &SchemaElement<'_>) -> Result<String, AllocE
 }
 
 /// Whether an element is of a geometry type and below a column, or REPEATED.
-fn is_nested(is_column: bool, at: &SchemaElement<'_>) -> bool
-    ensures { result ≡ is_nested is_column (element at.now) }
+fn is_nested(levels: &[Level<'_>], at: &SchemaElement<'_>) -> bool
+    ensures { result ≡ is_nested (map level levels.now) (element at.now) }
 {
     is_geometry_type(at.logical_type)
-        && (!is_column || matches!(at.storage.repetition, Some(Repetition::Repeated)))
+        && (is_below(levels) || matches!(at.storage.repetition, Some(Repetition::Repeated)))
 }
 
 /// Adds what is found of a geometry type below a column, or of a REPEATED element.
 fn add_nested(
     alloc: Global,
     findings: &mut Vec<FileFinding>,
-    is_column: bool,
+    levels: &[Level<'_>],
     at: &SchemaElement<'_>,
 ) -> Result<(), AllocError>
-    ensures { OnOk result (map finding findings.new.items ≡ map finding findings.old.items ++ nested_geometry is_column (element at.now)) }
+    ensures { OnOk result (map finding findings.new.items ≡ map finding findings.old.items ++ nested_geometry (map level levels.now) (element at.now)) }
 {
-    if is_nested(is_column, at) {
+    if is_nested(levels, at) {
         let text = geometry_text(alloc, at)?;
-        let found = of_element(alloc, FileCode::NestedGeometry, is_column, at, text, None)?;
+        let found = of_element(alloc, FileCode::NestedGeometry, levels, at, text, None)?;
         findings.push(found)?;
     }
     Ok(())
@@ -263,17 +249,17 @@ fn add_of_geometry<'a>(
     alloc: Global,
     findings: &mut Vec<FileFinding>,
     values: &mut KeyValues<'_, 'a>,
-    is_column: bool,
+    levels: &[Level<'_>],
     at: &SchemaElement<'a>,
 ) -> Result<(), AllocError>
     ensures found { OnOk result (map finding findings.new.items
-        ≡ map finding findings.old.items ++ geometry_findings values.old is_column (element at.now)) }
+        ≡ map finding findings.old.items ++ geometry_findings values.old (map level levels.now) (element at.now)) }
     ensures same { values.new ≡ values.old }
 {
-    add_unknown(alloc, findings, is_column, at)?;
+    add_unknown(alloc, findings, levels, at)?;
     let key = key_of(logical_crs(at.logical_type));
-    add_missing(alloc, findings, values, is_column, at, key)?;
-    add_nested(alloc, findings, is_column, at)
+    add_missing(alloc, findings, values, levels, at, key)?;
+    add_nested(alloc, findings, levels, at)
 }
 
 /// Adds what is found of the type of an element.
@@ -281,17 +267,17 @@ fn add_of_type<'a>(
     alloc: Global,
     findings: &mut Vec<FileFinding>,
     values: &mut KeyValues<'_, 'a>,
-    is_column: bool,
+    levels: &[Level<'_>],
     at: &SchemaElement<'a>,
 ) -> Result<(), AllocError>
     ensures found { OnOk result (map finding findings.new.items
-        ≡ map finding findings.old.items ++ type_findings values.old is_column (element at.now)) }
+        ≡ map finding findings.old.items ++ type_findings values.old (map level levels.now) (element at.now)) }
     ensures same { values.new ≡ values.old }
 {
     if is_stored(storage_of(at), at) {
-        return add_of_geometry(alloc, findings, values, is_column, at);
+        return add_of_geometry(alloc, findings, values, levels, at);
     }
-    let found = invalid_type(alloc, is_column, at)?;
+    let found = invalid_type(alloc, levels, at)?;
     findings.push(found)?;
     Ok(())
 }
@@ -301,24 +287,15 @@ fn add_of_element<'a>(
     alloc: Global,
     findings: &mut Vec<FileFinding>,
     values: &mut KeyValues<'_, 'a>,
-    is_column: bool,
+    levels: &[Level<'_>],
     at: &SchemaElement<'a>,
 ) -> Result<(), AllocError>
     ensures found { OnOk result (map finding findings.new.items
-        ≡ map finding findings.old.items ++ element_findings values.old is_column (element at.now)) }
+        ≡ map finding findings.old.items ++ element_findings values.old (map level levels.now) (element at.now)) }
     ensures same { values.new ≡ values.old }
 {
-    add_empty_group(alloc, findings, is_column, at)?;
-    add_of_type(alloc, findings, values, is_column, at)
-}
-
-/// How many elements are still to come below a child of the root, behind one of so many children.
-fn next_below(below: u128, count: u128) -> u128
-    requires { below + count < 2 ^ 128 }
-    ensures result { result ≡ next_below below count }
-    ensures small { result ≤ below + count }
-{
-    if below == 0 { count } else { below - 1 + count }
+    add_empty_group(alloc, findings, levels, at)?;
+    add_of_type(alloc, findings, values, levels, at)
 }
 
 /// Adds what is found of the elements behind the root.
@@ -329,13 +306,14 @@ fn add_from<'a>(
     elements: &[SchemaElement<'a>],
 ) -> Result<(), AllocError>
     ensures found { OnOk result (map finding findings.new.items
-        ≡ map finding findings.old.items ++ findings_from values.old 0 (map element elements.now)) }
+        ≡ map finding findings.old.items ++ findings_from values.old [] (map element elements.now)) }
     ensures same { values.new ≡ values.old }
 {
-    let mut below: u128 = 0;
+    let mut levels = Vec::new(alloc);
     for child in elements {
-        add_of_element(alloc, findings, values, below == 0, child)?;
-        below = next_below(below, count_of(child));
+        close(&mut levels)?;
+        add_of_element(alloc, findings, values, levels.as_slice(), child)?;
+        enter(&mut levels, child)?;
     }
     Ok(())
 }

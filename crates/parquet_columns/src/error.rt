@@ -1,10 +1,10 @@
 //! Why a file has no columns.
 ghost use Rattle.std.specs.Prelude.{◌≡◌};
 ghost use Rattle.parquet_columns.specs.SchemaFault.{error_of};
-ghost use Rattle.parquet_columns.specs.Rules.{error_code, error_message};
+ghost use Rattle.parquet_columns.specs.Rules.{error_message, error_wanted};
 ghost use Rattle.parquet_columns.specs.declared.error.SchemaError.TheVariants.{OutOfMemory};
 
-use crate::budget::TOO_LARGE;
+use crate::budget::{TOO_LARGE, WITHIN_BUDGET};
 use crate::fault::ElementFault;
 use parquet_footer::FooterError;
 use std::alloc::{AllocError, AllocFailed};
@@ -14,8 +14,8 @@ use std::alloc::{AllocError, AllocFailed};
 pub enum SchemaError {
     /// The file has no footer that is read, with the rule and the offset in the footer.
     Footer(FooterError),
-    /// The footer is longer than what stands before its length.
-    Cut,
+    /// The footer has no bytes, or is longer than what stands before its length.
+    Length,
     /// The elements of the schema have no shape of a tree, with the element's index.
     Elements(ElementFault),
     /// The extension metadata that geometry types give the columns have more bytes than
@@ -26,29 +26,29 @@ pub enum SchemaError {
 }
 
 impl SchemaError {
-    /// Returns the code of the error, as reports have it (`docs/FORMAT.md`, 2.8): that of the rule, if one is broken.
-    pub fn code(self) -> &'static str
-        ensures { result.now ≡ error_code self }
-    {
-        match self {
-            SchemaError::Footer(error) => error.code(),
-            SchemaError::Cut => "FooterCut",
-            SchemaError::Elements(fault) => fault.rule.code(),
-            SchemaError::Budget => "ReportTooLarge",
-            SchemaError::OutOfMemory => "OutOfMemory",
-        }
-    }
-
     /// Returns what is wrong.
     pub fn message(self) -> &'static str
         ensures { result.now ≡ error_message self }
     {
         match self {
             SchemaError::Footer(error) => error.message(),
-            SchemaError::Cut => "the footer is larger than the file",
+            SchemaError::Length => "a footer of no bytes, or of more than stand before its size",
             SchemaError::Elements(fault) => fault.rule.message(),
             SchemaError::Budget => TOO_LARGE,
             SchemaError::OutOfMemory => "out of memory",
+        }
+    }
+
+    /// Returns what is asked.
+    pub fn wanted(self) -> &'static str
+        ensures { result.now ≡ error_wanted self }
+    {
+        match self {
+            SchemaError::Footer(error) => error.wanted(),
+            SchemaError::Length => "a footer before its size",
+            SchemaError::Elements(fault) => fault.rule.wanted(),
+            SchemaError::Budget => WITHIN_BUDGET,
+            SchemaError::OutOfMemory => "more memory",
         }
     }
 }

@@ -1,6 +1,6 @@
 //! Why a schema has no columns.
 ghost use Rattle.std.specs.Prelude.{◌≡◌};
-ghost use Rattle.parquet_columns.specs.Rules.{rule_code, rule_message, rule_wanted};
+ghost use Rattle.parquet_columns.specs.Rules.{rule_message, rule_wanted};
 ghost use Rattle.parquet_columns.specs.declared.fault.ColumnsError.TheVariants.{Broken, OutOfMemory};
 
 use std::alloc::{AllocError, AllocFailed};
@@ -29,23 +29,6 @@ pub enum SchemaRule {
 }
 
 impl SchemaRule {
-    /// Returns the code of the rule, as reports have it: `SchemaRoot` or `SchemaChildren`, with which a
-    /// file is refused (`docs/FORMAT.md`, 2.8); or `ElementInvalid`, which is found in a column (4.5).
-    pub fn code(self) -> &'static str
-        ensures { result.now ≡ rule_code self }
-    {
-        match self {
-            SchemaRule::Root => "SchemaRoot",
-            SchemaRule::Children => "SchemaChildren",
-            SchemaRule::Element
-            | SchemaRule::Repetition
-            | SchemaRule::Length
-            | SchemaRule::List
-            | SchemaRule::Map
-            | SchemaRule::Depth => "ElementInvalid",
-        }
-    }
-
     /// Returns what is wrong where the rule is broken (`docs/FORMAT.md`, 4.4).
     pub fn message(self) -> &'static str
         ensures { result.now ≡ rule_message self }

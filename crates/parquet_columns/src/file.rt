@@ -17,8 +17,8 @@ use std::alloc::Global;
 /// The bytes of the footer of a Parquet file, from its end: the bytes of the file, or as many of its last ones as the footer, its
 /// length and the magic take. Allocates nothing.
 ///
-/// Errs with `Footer` where the file does not end in `PAR1`, or ends in `PARE`; and with `Cut` where there are fewer bytes than
-/// the footer has.
+/// Errs with `Footer` where the file does not end in `PAR1`, or ends in `PARE`; and with `Length` where the footer has no bytes,
+/// or there are fewer bytes than it has.
 ///
 /// ```rust
 /// let found = footer_in(&[1, 2, 0, 2, 0, 0, 0, b'P', b'A', b'R', b'1']);
@@ -35,8 +35,8 @@ pub fn footer_in(end: &[u8]) -> Result<&[u8], SchemaError>
         Err(error) => Err(SchemaError::Footer(error)),
         Ok(size) => {
             let size = size as usize;
-            if front.len() < size {
-                return Err(SchemaError::Cut);
+            if size == 0 || front.len() < size {
+                return Err(SchemaError::Length);
             }
             Ok(&front[front.len() - size..])
         }
@@ -50,6 +50,9 @@ pub struct FileColumns<'a> {
     pub columns: Vec<SchemaColumn>,
     /// What the elements say beside the columns, one claim for each, in their order (`docs/FORMAT.md`, 4.6).
     pub elements: Vec<ElementClaim>,
+    /// Of a schema at `ARROW:schema` whose columns are used, for each of them, in their order, whether
+    /// its element refutes a name of GeoArrow on it (`docs/FORMAT.md`, 4.5); else none.
+    pub refuted: Vec<bool>,
     /// What is found of the schema at `ARROW:schema`, of the elements, and of keys that stand
     /// several times (`docs/FORMAT.md`, 4.5).
     pub findings: Vec<FileFinding>,
@@ -77,7 +80,7 @@ pub fn read_file<'a>(
     key: &str,
 ) -> Result<FileColumns<'a>, SchemaError>
     ensures columns { IfOk result (λ read. IsFileRead (footer_in end.now)
-        (Ok (record { columns = read.columns; elements = read.elements; findings = read.findings }))) }
+        (Ok (record { columns = read.columns; elements = read.elements; refuted = read.refuted; findings = read.findings }))) }
     ensures texts { IfOk result (λ read. AreTextsRead (footer_in end.now) (map text_finding read.texts.items)) }
     ensures value { IfOk result (λ read. IsValueRead key.now (footer_in end.now) (option_map spelled read.value)) }
     ensures fault { IfErr result (λ error. IsFileRead (footer_in end.now) (Err error)) }
@@ -92,6 +95,7 @@ pub fn read_file<'a>(
     let FooterColumns {
         columns,
         elements,
+        refuted,
         findings,
     } = read;
     let Footer {
@@ -101,6 +105,7 @@ pub fn read_file<'a>(
     Ok(FileColumns {
         columns,
         elements,
+        refuted,
         findings,
         texts,
         value,

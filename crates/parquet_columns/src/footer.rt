@@ -7,7 +7,9 @@ ghost use Rattle.parquet_footer.specs.Footer.{contents, pairing};
 ghost use Rattle.parquet_columns.specs.Columns.{fault_tree, columns_of};
 ghost use Rattle.parquet_columns.specs.Findings.{finding, first_other, other_names};
 ghost use Rattle.parquet_columns.specs.declared.stored.Stored.TheVariants as holds;
-ghost use Rattle.parquet_columns.specs.Reads.{IsBuilt, names_seen, choice, by_names, geo_beside, and_found, chosen, IsReadWith, IsFooterRead};
+ghost use Rattle.parquet_columns.specs.Reads.{IsBuilt, names_seen, choice, by_names, geo_beside, and_found, chosen, IsReadWith, IsFooterRead, unresolved};
+ghost use Rattle.arrow_values.specs.Texts.{text_of};
+ghost use Rattle.parquet_columns.specs.GeoNames.{json_of};
 
 use crate::budget::report_budget;
 use crate::claim::ElementClaim;
@@ -18,6 +20,7 @@ use crate::error::SchemaError;
 use crate::fault::ColumnsError;
 use crate::finding::{FileFinding, FilePlace};
 use crate::geo_keys::add_other_geo;
+use crate::geo_names::geo_text;
 use crate::invalid::add_invalid;
 use crate::keys::{GEO_KEY, value_of};
 use crate::marks::{Marks, marked_columns, root_children};
@@ -39,6 +42,9 @@ pub struct FooterColumns {
     pub columns: Vec<SchemaColumn>,
     /// What the elements say beside the columns, one claim for each, in their order (`docs/FORMAT.md`, 4.6).
     pub elements: Vec<ElementClaim>,
+    /// Of a schema at `ARROW:schema` whose columns are used, for each of them, in their order, whether
+    /// its element refutes a name of GeoArrow on it (`docs/FORMAT.md`, 4.5); else none.
+    pub refuted: Vec<bool>,
     /// What is found: of the schema at `ARROW:schema`, of the elements, and of keys that stand
     /// several times (`docs/FORMAT.md`, 4.5).
     pub findings: Vec<FileFinding>,
@@ -49,6 +55,7 @@ pub struct FooterColumns {
 pub(crate) struct Unmarked {
     pub columns: Vec<SchemaColumn>,
     pub findings: Vec<FileFinding>,
+    pub refuted: Vec<bool>,
 }
 
 /// Two names, of which one may be absent.
@@ -100,11 +107,30 @@ fn other_names(alloc: Global, names: Names<'_>) -> Result<FileFinding, AllocErro
 fn with_found(read: Unmarked, found: Vec<FileFinding>) -> Result<Unmarked, AllocError>
     ensures { IfOk result (λ made. choice made ≡ and_found (choice read) (map finding found.items)) }
 {
-    let Unmarked { columns, findings } = read;
+    let Unmarked {
+        columns,
+        findings,
+        refuted,
+    } = read;
     let mut findings = findings;
     let mut found = found;
     findings.append(&mut found)?;
-    Ok(Unmarked { columns, findings })
+    Ok(Unmarked {
+        columns,
+        findings,
+        refuted,
+    })
+}
+
+/// Columns of elements, and what is found. Allocates nothing.
+fn unresolved(alloc: Global, columns: Vec<SchemaColumn>, findings: Vec<FileFinding>) -> Unmarked
+    ensures { choice result ≡ unresolved (map column_tree columns.items) (map finding findings.items) }
+{
+    Unmarked {
+        columns,
+        findings,
+        refuted: Vec::new(alloc),
+    }
 }
 
 /// The columns of a stored schema, if their names are those of the elements' columns, each as far
@@ -112,23 +138,24 @@ fn with_found(read: Unmarked, found: Vec<FileFinding>) -> Result<Unmarked, Alloc
 /// memory.
 fn by_names(
     alloc: Global,
+    text: Option<&str>,
     children: &[SchemaElement<'_>],
     stored: Vec<SchemaColumn>,
     found: Vec<FileFinding>,
     columns: Vec<SchemaColumn>,
 ) -> Result<Unmarked, AllocError>
     ensures { IfOk result (λ read. choice read ≡ by_names (first_other (map column_tree stored.items) (map column_tree columns.items))
-        (map element children.now) (map column_tree stored.items) (map finding found.items) (map column_tree columns.items)) }
+        (json_of (text_of text.entry)) (map element children.now) (map column_tree stored.items) (map finding found.items) (map column_tree columns.items)) }
 {
     let other = match first_other(stored.as_slice(), columns.as_slice()) {
         Some(names) => other_names(alloc, names)?,
         None => {
-            let read = resolved(alloc, children, columns.as_slice(), stored)?;
+            let read = resolved(alloc, text, children, columns.as_slice(), stored)?;
             return with_found(read, found);
         }
     };
     let findings = vec![in alloc; other]?;
-    Ok(Unmarked { columns, findings })
+    Ok(unresolved(alloc, columns, findings))
 }
 
 /// Adds what is found of a key `geo` in the metadata of a stored schema. Errs only when out of
@@ -170,11 +197,20 @@ fn of_schema(
         ..
     } = schema;
     let children = root_children(alloc, footer.schema.as_slice())?;
-    let read = by_names(alloc, children.as_slice(), stored, found, columns)?;
-    let Unmarked { columns, findings } = read;
+    let text = geo_text(footer);
+    let read = by_names(alloc, text, children.as_slice(), stored, found, columns)?;
+    let Unmarked {
+        columns,
+        findings,
+        refuted,
+    } = read;
     let mut findings = findings;
     add_geo_beside(alloc, &mut findings, footer, &metadata)?;
-    Ok(Unmarked { columns, findings })
+    Ok(Unmarked {
+        columns,
+        findings,
+        refuted,
+    })
 }
 
 /// The columns of a footer before its geometry types are looked at, by what is stored and by the elements; and what is found of the
@@ -192,11 +228,11 @@ fn chosen(
         Some(Stored::Unreadable(fault)) => {
             let found = unreadable(alloc, fault)?;
             let findings = vec![in alloc; found]?;
-            Ok(Unmarked { columns, findings })
+            Ok(unresolved(alloc, columns, findings))
         }
         None => {
             let findings = Vec::new(alloc);
-            Ok(Unmarked { columns, findings })
+            Ok(unresolved(alloc, columns, findings))
         }
     }
 }
@@ -212,7 +248,11 @@ fn finished(
 ) -> Result<FooterColumns, SchemaError>
     ensures { IsReadWith bytes (contents footer.now) (map fault_tree faults.now) (choice read) result }
 {
-    let Unmarked { columns, findings } = read;
+    let Unmarked {
+        columns,
+        findings,
+        refuted,
+    } = read;
     let mut findings = findings;
     let mut values = KeyValues::new(alloc, footer.key_value_metadata.as_slice())?;
     let most = report_budget(bytes);
@@ -226,6 +266,7 @@ fn finished(
     Ok(FooterColumns {
         columns,
         elements,
+        refuted,
         findings,
     })
 }

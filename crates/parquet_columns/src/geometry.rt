@@ -1,15 +1,19 @@
 //! The extension metadata that Parquet's geometry types denote (Parquet, "Geospatial Definitions"; `docs/FORMAT.md`, 4.6).
 ghost use Rattle.std.specs.Prelude.{◌≡◌, Some, IfOk, List, map, option_map, string_bytes};
+ghost use Rattle.std.specs.Char.{is_ascii_digit};
+ghost use Rattle.std.specs.List.{list_all};
 ghost use Rattle.arrow_values.specs.Texts.{text_of};
 ghost use Rattle.parquet_footer.specs.Element.{element};
 ghost use Rattle.parquet_footer.specs.Footer.{Pairing};
 ghost use Rattle.parquet_footer.specs.Logical.{logical};
 ghost use Rattle.parquet_columns.specs.Typed.{IsNamed};
-ghost use Rattle.parquet_columns.specs.Geometry.{text_crs, colon_parts, coded_crs, crs_in, edges_of, text_with, geometry_type, is_plain_leaf, geometry_of, extension_text};
+ghost use Rattle.parquet_columns.specs.Geometry.{text_crs, colon_parts, are_digits, srid_crs, type_of_form, code_type, coded_crs, crs_in, edges_of, is_known, text_with, geometry_type, is_plain_leaf, geometry_of, extension_text};
 ghost use Rattle.parquet_columns.specs.Says.{says};
 
 use crate::values::KeyValues;
+use crs_identity::{FormName, form_name};
 use geoarrow_meta::{CrsType, Edges, WrittenCrs, is_projjson_text, metadata_text};
+use json::Value;
 use parquet_footer::{Algorithm, LogicalType, PhysicalType, Repetition, SchemaElement};
 use std::alloc::{AllocError, Global};
 
@@ -21,8 +25,8 @@ const DEFAULT_CRS: &str = "OGC:CRS84";
 pub(crate) enum NamedCrs<'a> {
     /// This one, of this type.
     Written(WrittenCrs<'a>, Option<CrsType>),
-    /// The value of a key, where it is PROJJSON, or else the text: the text, and the key.
-    Keyed(&'a str, &'a str),
+    /// The value of this key, where it is PROJJSON, or else none.
+    Keyed(&'a str),
 }
 
 /// What a geometry type says.
@@ -32,6 +36,8 @@ pub(crate) struct GeometrySays<'a> {
     pub crs: Option<&'a str>,
     /// The edges of a GEOGRAPHY.
     pub edges: Option<Edges>,
+    /// Whether its edges are known.
+    pub knows_edges: bool,
 }
 
 /// A text as a CRS of that type.
@@ -48,20 +54,68 @@ pub(crate) fn colon_parts(text: &str) -> Option<(&str, &str)>
     text.split_once(':')
 }
 
-/// The CRS of a text that is no PROJJSON.
-fn coded_crs(text: &str) -> NamedCrs<'_>
-    ensures { (pairs : List Pairing) → IsNamed pairs result (coded_crs pairs text.now (colon_parts text.now)) }
+/// Whether each byte is a digit.
+fn are_all_digits(bytes: &[u8]) -> bool
+    ensures { result ≡ list_all is_ascii_digit bytes.now }
+{
+    for b in bytes {
+        if !b.is_ascii_digit() {
+            return false;
+        }
+    }
+    true
+}
+
+/// Whether bytes are one digit or more.
+fn are_digits(bytes: &[u8]) -> bool
+    ensures { result ≡ are_digits bytes.now }
+{
+    !bytes.is_empty() && are_all_digits(bytes)
+}
+
+/// The CRS of a text `srid:NUMBER`, by what stands behind the colon.
+fn srid_crs<'a>(text: &'a str, number: &'a str) -> NamedCrs<'a>
+    ensures { (pairs : List Pairing) → IsNamed pairs result (srid_crs text.now number.now) }
+{
+    if are_digits(number.as_bytes()) {
+        text_crs(number, Some(CrsType::Srid))
+    } else {
+        text_crs(text, None)
+    }
+}
+
+/// The type of a text by its form.
+fn type_of_form(form: FormName) -> Option<CrsType>
+    ensures { result ≡ type_of_form form }
+{
+    match form {
+        FormName::Code => Some(CrsType::AuthorityCode),
+        FormName::Projjson | FormName::Wkt1 | FormName::Wkt | FormName::Other => None,
+    }
+}
+
+/// The type of a text. Errs only when out of memory.
+fn code_type(alloc: Global, text: &str) -> Result<Option<CrsType>, AllocError>
+    ensures { IfOk result (λ crs_type. crs_type ≡ code_type text.now) }
+{
+    let value = Value::String(text);
+    Ok(type_of_form(form_name(alloc, &value)?))
+}
+
+/// The CRS of a text that is no PROJJSON. Errs only when out of memory.
+fn coded_crs<'a>(alloc: Global, text: &'a str) -> Result<NamedCrs<'a>, AllocError>
+    ensures { IfOk result (λ named. (pairs : List Pairing) → IsNamed pairs named (coded_crs pairs text.now (colon_parts text.now))) }
 {
     let Some((word, rest)) = colon_parts(text) else {
-        return text_crs(text, None);
+        return Ok(text_crs(text, None));
     };
     if word == "srid" {
-        return text_crs(rest, Some(CrsType::Srid));
+        return Ok(srid_crs(text, rest));
     }
     if word == "projjson" {
-        return NamedCrs::Keyed(text, rest);
+        return Ok(NamedCrs::Keyed(rest));
     }
-    text_crs(text, Some(CrsType::AuthorityCode))
+    Ok(text_crs(text, code_type(alloc, text)?))
 }
 
 /// The CRS that a geometry type names.
@@ -75,7 +129,7 @@ fn named_crs<'a>(alloc: Global, text: Option<&'a str>) -> Result<NamedCrs<'a>, A
         let crs = WrittenCrs::Json(text);
         return Ok(NamedCrs::Written(crs, Some(CrsType::Projjson)));
     }
-    Ok(coded_crs(text))
+    coded_crs(alloc, text)
 }
 
 /// The edges of a GEOGRAPHY.
@@ -91,6 +145,13 @@ fn edges_of(algorithm: Option<Algorithm>) -> Edges
     }
 }
 
+/// Whether the algorithm of a GEOGRAPHY is known, if it has one.
+fn is_known(algorithm: Option<Algorithm>) -> bool
+    ensures { result ≡ is_known algorithm }
+{
+    !matches!(algorithm, Some(Algorithm::Unknown(_)))
+}
+
 /// The text of the metadata with the CRS that a geometry type names and those edges.
 pub(crate) fn text_with<'a>(
     alloc: Global,
@@ -104,7 +165,7 @@ pub(crate) fn text_with<'a>(
     let named = named_crs(alloc, crs)?;
     match named {
         NamedCrs::Written(written, crs_type) => metadata_text(alloc, written, crs_type, edges),
-        NamedCrs::Keyed(text, key) => values.keyed_text(alloc, text, key, edges),
+        NamedCrs::Keyed(key) => values.keyed_text(alloc, key, edges),
     }
 }
 
@@ -113,10 +174,15 @@ fn geometry_type<'a>(logical_type: Option<LogicalType<'a>>) -> Option<GeometrySa
     ensures { option_map says result ≡ geometry_type (option_map logical logical_type.entry) }
 {
     match logical_type {
-        Some(LogicalType::Geometry(crs)) => Some(GeometrySays { crs, edges: None }),
+        Some(LogicalType::Geometry(crs)) => Some(GeometrySays {
+            crs,
+            edges: None,
+            knows_edges: true,
+        }),
         Some(LogicalType::Geography(crs, algorithm)) => Some(GeometrySays {
             crs,
             edges: Some(edges_of(algorithm)),
+            knows_edges: is_known(algorithm),
         }),
         _ => None,
     }

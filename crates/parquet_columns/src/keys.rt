@@ -10,7 +10,7 @@ use parquet_footer::{Footer, FooterText, KeyValue};
 pub const ARROW_SCHEMA_KEY: &str = "ARROW:schema";
 
 /// The key under which the metadata of GeoParquet stand.
-pub(crate) const GEO_KEY: &str = "geo";
+pub const GEO_KEY: &str = "geo";
 
 /// The later of two values, where there are some.
 fn later<'a>(

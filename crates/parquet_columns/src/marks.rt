@@ -10,6 +10,7 @@ use crate::budget::size_of;
 use crate::claim::{ElementClaim, claim_of, claim_size};
 use crate::error::SchemaError;
 use crate::geometry::extension_text;
+use crate::reserved::is_reserved;
 use crate::unreadable::is_unreadable;
 use crate::values::KeyValues;
 use arrow_columns::{SchemaColumn, with_extension};
@@ -72,7 +73,7 @@ pub(crate) fn count_of(found: &SchemaElement<'_>) -> u128
 }
 
 /// The extension metadata that a column is given: those that its element denotes, if it is read
-/// and has no extension name of its own.
+/// and has no extension name of its own, or a foreign one.
 fn given<'a>(
     alloc: Global,
     values: &mut KeyValues<'_, 'a>,
@@ -86,7 +87,10 @@ fn given<'a>(
     let Some(child) = child else {
         return Ok(None);
     };
-    if is_unreadable(&column.data_type) || column.extension_type_name().is_some() {
+    if is_unreadable(&column.data_type) {
+        return Ok(None);
+    }
+    if is_reserved(alloc, column.extension_type_name())? {
         return Ok(None);
     }
     extension_text(alloc, values, child)

@@ -1,5 +1,6 @@
 //! Columns of a stored schema, by the elements at their places.
-ghost use Rattle.std.specs.Prelude.{◌≡◌, ◌++◌, IfOk, OnOk, map, option_map};
+ghost use Rattle.std.specs.Prelude.{◌≡◌, ◌++◌, false, true, IfOk, OnOk, map, option_map};
+ghost use Rattle.json.specs.Value.{value_view};
 ghost use Rattle.std.specs.List.{slice_get};
 ghost use Rattle.arrow_values.specs.Texts.{text_of};
 ghost use Rattle.arrow_columns.specs.Column.{type_tree, column_tree};
@@ -7,15 +8,19 @@ ghost use Rattle.parquet_footer.specs.Logical.{logical};
 ghost use Rattle.parquet_footer.specs.Element.{element};
 ghost use Rattle.parquet_columns.specs.Findings.{finding};
 ghost use Rattle.parquet_columns.specs.Fits.{type_fits};
-ghost use Rattle.parquet_columns.specs.Resolved.{is_geometry_type, is_geometry, is_geo_name, may_hold, bare, contradiction, resolve_by, resolve, resolved_from, listed, resolved_columns, resolved_findings};
+ghost use Rattle.parquet_columns.specs.GeoNames.{json_of};
+ghost use Rattle.parquet_columns.specs.Resolutions.{resolution};
+ghost use Rattle.parquet_columns.specs.Resolved.{is_geometry_type, is_geometry, is_geo_name, may_hold, bare, contradiction, as_it_is, resolve_by, resolve, resolved_from, listed, resolved_columns, resolved_findings, resolved_refuted, is_misfit, is_one_misfit};
 
 use crate::code::{FileCode, FilePart};
 use crate::finding::{FileFinding, FilePlace};
 use crate::fits::type_fits;
 use crate::footer::Unmarked;
+use crate::geo_names::{is_named, json_of};
 use crate::marks::child_at;
 use crate::unreadable::is_unreadable;
 use arrow_columns::{AnyType, SchemaColumn};
+use json::{Scratch, Value};
 use parquet_footer::{LogicalType, SchemaElement};
 use std::alloc::{AllocError, Global};
 use std::collections::BTreeMap;
@@ -52,11 +57,19 @@ fn is_geo_name(name: Option<&str>) -> bool
     }
 }
 
-/// Whether a column may hold geometries, by its element and its extension name.
-fn may_hold(child: Option<&SchemaElement<'_>>, column: &SchemaColumn) -> bool
-    ensures { result ≡ may_hold (option_map (λ e. element e.now) child.entry) (column_tree column.now) }
+/// Whether a column may hold geometries, or their boxes: by its element, by its extension name, or by
+/// the metadata at `geo`.
+fn may_hold(
+    geo: Option<&Value<'_>>,
+    child: Option<&SchemaElement<'_>>,
+    column: &SchemaColumn,
+) -> bool
+    ensures { result ≡ may_hold (option_map (λ v. value_view v.now) geo.entry)
+        (option_map (λ e. element e.now) child.entry) (column_tree column.now) }
 {
-    is_geometry(child) || is_geo_name(column.extension_type_name())
+    is_geometry(child)
+        || is_geo_name(column.extension_type_name())
+        || is_named(column.name.as_str(), geo)
 }
 
 /// A type of one's own.
@@ -107,44 +120,68 @@ fn contradiction(
     })
 }
 
-/// A stored column, or where it does not fit that of its element this one, and what is found.
-fn resolve_by(
-    alloc: Global,
-    other: &SchemaColumn,
+/// A stored column by its element.
+#[derive(Drop)]
+struct Resolution {
+    /// The column.
     column: SchemaColumn,
-) -> Result<(SchemaColumn, Option<FileFinding>), AllocError>
-    ensures { IfOk result (λ p. (column_tree p.0, option_map finding p.1)
-        ≡ resolve_by (type_fits (column_tree other.now).data_type (column_tree column).data_type) (column_tree other.now) (column_tree column)) }
-{
-    if type_fits(&other.data_type, &column.data_type) {
-        return Ok((column, None));
-    }
-    let found = contradiction(alloc, other, &column)?;
-    Ok((bare(alloc, other)?, Some(found)))
+    /// What is found.
+    found: Option<FileFinding>,
+    /// Whether the element refutes a name of GeoArrow.
+    refuted: bool,
 }
 
-/// A stored column by its element and the column of this.
+/// A column as it is.
+fn as_it_is(column: SchemaColumn) -> Resolution
+    ensures { resolution result ≡ as_it_is (column_tree column) }
+{
+    Resolution {
+        column,
+        found: None,
+        refuted: false,
+    }
+}
+
+/// The column of an element that a stored column does not fit. Errs only when out of memory.
+fn refused(
+    alloc: Global,
+    other: &SchemaColumn,
+    column: &SchemaColumn,
+) -> Result<Resolution, AllocError>
+    ensures { IfOk result (λ made. resolution made ≡ resolve_by false true (column_tree other.now) (column_tree column.now)) }
+{
+    let found = contradiction(alloc, other, column)?;
+    Ok(Resolution {
+        column: bare(alloc, other)?,
+        found: Some(found),
+        refuted: is_geo_name(column.extension_type_name()),
+    })
+}
+
+/// A stored column by its element and the column of this. Errs only when out of memory.
 fn resolve(
     alloc: Global,
+    geo: Option<&Value<'_>>,
     child: Option<&SchemaElement<'_>>,
     other: Option<&SchemaColumn>,
     column: SchemaColumn,
-) -> Result<(SchemaColumn, Option<FileFinding>), AllocError>
-    ensures { IfOk result (λ p. (column_tree p.0, option_map finding p.1)
-        ≡ resolve (option_map (λ e. element e.now) child.entry) (option_map (λ c. column_tree c.now) other.entry) (column_tree column)) }
+) -> Result<Resolution, AllocError>
+    ensures { IfOk result (λ made. resolution made ≡ resolve (option_map (λ v. value_view v.now) geo.entry)
+        (option_map (λ e. element e.now) child.entry) (option_map (λ c. column_tree c.now) other.entry) (column_tree column)) }
 {
-    match other {
-        Some(other) => {
-            if is_unreadable(&other.data_type) {
-                return Ok((bare(alloc, other)?, None));
-            }
-            if may_hold(child, &column) {
-                return resolve_by(alloc, other, column);
-            }
-            Ok((column, None))
-        }
-        None => Ok((column, None)),
+    let Some(other) = other else {
+        return Ok(as_it_is(column));
+    };
+    if is_unreadable(&other.data_type) {
+        return Ok(as_it_is(bare(alloc, other)?));
     }
+    if type_fits(&other.data_type, &column.data_type) {
+        return Ok(as_it_is(column));
+    }
+    if may_hold(geo, child, &column) {
+        return refused(alloc, other, &column);
+    }
+    Ok(as_it_is(column))
 }
 
 /// The column at a place.
@@ -167,28 +204,95 @@ pub(crate) fn add_found(
     Ok(())
 }
 
-/// The columns of a stored schema, by the children of the root and the columns of these at their
-/// places; and what is found.
-pub(crate) fn resolved(
+/// The columns of a stored schema, by the children of the root, the columns of these at their places
+/// and the metadata at `geo`; and what is found.
+fn resolved_with(
     alloc: Global,
+    geo: Option<&Value<'_>>,
     children: &[SchemaElement<'_>],
     others: &[SchemaColumn],
     stored: Vec<SchemaColumn>,
 ) -> Result<Unmarked, AllocError>
     ensures columns { IfOk result (λ read. map column_tree read.columns.items
-        ≡ resolved_columns (resolved_from 0 (map element children.now) (map column_tree others.now) (map column_tree stored.items))) }
+        ≡ resolved_columns (resolved_from (option_map (λ v. value_view v.now) geo.entry) 0 (map element children.now) (map column_tree others.now) (map column_tree stored.items))) }
     ensures findings { IfOk result (λ read. map finding read.findings.items
-        ≡ resolved_findings (resolved_from 0 (map element children.now) (map column_tree others.now) (map column_tree stored.items))) }
+        ≡ resolved_findings (resolved_from (option_map (λ v. value_view v.now) geo.entry) 0 (map element children.now) (map column_tree others.now) (map column_tree stored.items))) }
+    ensures refuted { IfOk result (λ read. read.refuted.items
+        ≡ resolved_refuted (resolved_from (option_map (λ v. value_view v.now) geo.entry) 0 (map element children.now) (map column_tree others.now) (map column_tree stored.items))) }
 {
     let mut columns = Vec::new(alloc);
     let mut findings = Vec::new(alloc);
+    let mut flags = Vec::new(alloc);
     for column in stored {
         let at = columns.len();
         let child = child_at(children, at);
         let other = column_at(others, at);
-        let (new, found) = resolve(alloc, child, other, column)?;
-        columns.push(new)?;
+        let new = resolve(alloc, geo, child, other, column)?;
+        let Resolution {
+            column,
+            found,
+            refuted,
+        } = new;
+        columns.push(column)?;
         add_found(&mut findings, found)?;
+        flags.push(refuted)?;
     }
-    Ok(Unmarked { columns, findings })
+    Ok(Unmarked {
+        columns,
+        findings,
+        refuted: flags,
+    })
+}
+
+/// Whether a stored column does not fit that of the element.
+fn is_misfit(other: Option<&SchemaColumn>, column: &SchemaColumn) -> bool
+    ensures { result ≡ is_misfit (option_map (λ c. column_tree c.now) other.entry) (column_tree column.now) }
+{
+    match other {
+        Some(other) => !type_fits(&other.data_type, &column.data_type),
+        None => false,
+    }
+}
+
+/// Whether some stored column does not fit that of the element at its place.
+fn is_one_misfit(others: &[SchemaColumn], stored: &[SchemaColumn]) -> bool
+    ensures { result ≡ is_one_misfit 0 (map column_tree others.now) (map column_tree stored.now) }
+{
+    let mut at = 0;
+    let mut left = stored;
+    'columns: while let [column, rest @ ..] = left {
+        if is_misfit(column_at(others, at), column) {
+            return true;
+        }
+        at += 1;
+        left = rest;
+    }
+    false
+}
+
+/// The columns of a stored schema, by the children of the root, the columns of these at their places
+/// and the text at `geo`; and what is found. Errs only when out of memory.
+#[tactic(auto, using(crate::proofs::Resolving::unasked))]
+pub(crate) fn resolved(
+    alloc: Global,
+    text: Option<&str>,
+    children: &[SchemaElement<'_>],
+    others: &[SchemaColumn],
+    stored: Vec<SchemaColumn>,
+) -> Result<Unmarked, AllocError>
+    ensures columns { IfOk result (λ read. map column_tree read.columns.items
+        ≡ resolved_columns (resolved_from (json_of (text_of text.entry)) 0 (map element children.now) (map column_tree others.now) (map column_tree stored.items))) }
+    ensures findings { IfOk result (λ read. map finding read.findings.items
+        ≡ resolved_findings (resolved_from (json_of (text_of text.entry)) 0 (map element children.now) (map column_tree others.now) (map column_tree stored.items))) }
+    ensures refuted { IfOk result (λ read. read.refuted.items
+        ≡ resolved_refuted (resolved_from (json_of (text_of text.entry)) 0 (map element children.now) (map column_tree others.now) (map column_tree stored.items))) }
+{
+    if !is_one_misfit(others, stored.as_slice()) {
+        return resolved_with(alloc, None, children, others, stored);
+    }
+    let mut scratch = Scratch::new(alloc);
+    match json_of(alloc, text, &mut scratch)? {
+        Some(geo) => resolved_with(alloc, Some(&geo), children, others, stored),
+        None => resolved_with(alloc, None, children, others, stored),
+    }
 }

@@ -59,23 +59,22 @@ impl<'f, 'a> KeyValues<'f, 'a> {
         })
     }
 
-    /// Returns the text of the metadata with the CRS `projjson:KEY`, which is that text, and with
-    /// those edges. Errs only when out of memory.
+    /// Returns the text of the metadata with the CRS `projjson:KEY` and those edges. Errs only when out
+    /// of memory.
     pub(crate) fn keyed_text(
         &mut self,
         alloc: Global,
-        text: &str,
         key: &'a str,
         edges: Option<Edges>,
     ) -> Result<String, AllocError>
         ensures text { IfOk result (λ made. string_bytes made
-            ≡ text_with (keyed_crs text.now (text_at key.now self.old)) edges) }
+            ≡ text_with (keyed_crs (text_at key.now self.old)) edges) }
         ensures same { self.new ≡ self.old }
     {
         let value = value_in(&self.last, key);
         judge(alloc, &mut self.judged, key, value)?;
         let json = judged_at(&self.judged, key);
-        text_by(alloc, text, json, edges)
+        text_by(alloc, json, edges)
     }
 
     /// Returns whether the value of a key is PROJJSON. Errs only when out of memory.
@@ -98,7 +97,7 @@ fn is_there(text: Option<&str>) -> bool
 }
 
 /// The text that bytes are, if they are UTF-8.
-fn text_spelled(text: FooterText<'_>) -> Option<&str>
+fn text_spelled<'a>(text: FooterText<'a>) -> Option<&'a str>
     ensures { text_of result ≡ text_spelled (spelled text.entry) }
 {
     match str::from_utf8(text.bytes) {
@@ -108,7 +107,7 @@ fn text_spelled(text: FooterText<'_>) -> Option<&str>
 }
 
 /// The text that a value is, if there is one, and it is UTF-8.
-fn value_text(value: Option<FooterText<'_>>) -> Option<&str>
+pub(crate) fn value_text<'a>(value: Option<FooterText<'a>>) -> Option<&'a str>
     ensures { text_of result ≡ value_text (option_map spelled value.entry) }
 {
     match value {
@@ -202,22 +201,17 @@ fn text_in(text: &Option<String>) -> Option<&str>
     }
 }
 
-/// The text of the metadata with a PROJJSON, or where there is none with the text that names it.
-fn text_by(
-    alloc: Global,
-    text: &str,
-    json: Option<&str>,
-    edges: Option<Edges>,
-) -> Result<String, AllocError>
+/// The text of the metadata with a PROJJSON, or where there is none without a CRS.
+fn text_by(alloc: Global, json: Option<&str>, edges: Option<Edges>) -> Result<String, AllocError>
     requires { (value : Option Text) × (text_of json ≡ compact_of value) }
     ensures { (value : Option Text) → text_of json.entry ≡ compact_of value
-        → IfOk result (λ made. string_bytes made ≡ text_with (keyed_crs text.now value) edges) }
+        → IfOk result (λ made. string_bytes made ≡ text_with (keyed_crs value) edges) }
 {
     match json {
         Some(json) => {
             let crs = WrittenCrs::Json(json);
             metadata_text(alloc, crs, Some(CrsType::Projjson), edges)
         }
-        None => metadata_text(alloc, WrittenCrs::Text(text), None, edges),
+        None => metadata_text(alloc, WrittenCrs::Absent, None, edges),
     }
 }

@@ -1,24 +1,9 @@
--- The rules of the footer of a Parquet file (docs/FORMAT.md, 4.3): their codes, and what is wrong where one is broken.
+-- The rules of the footer of a Parquet file (docs/FORMAT.md, 4.3): what is wrong where one is broken, and what it asks.
 use Rattle.std.specs.Prelude.{codes, ℕ, List}
 use Rattle.parquet_footer.specs.declared.fault.FooterRule.{FooterRule}
 use Rattle.parquet_footer.specs.declared.fault.FooterRule.TheVariants as rules
 use Rattle.parquet_footer.specs.declared.fault.FooterError.{FooterError}
 use Rattle.parquet_footer.specs.declared.fault.FooterError.TheVariants as errors
-
--- the code of a rule, as reports have it
-abbrev pub rule_code : FooterRule → List ℕ
-rule_code rules.End = codes "FooterEnd"
-rule_code rules.Number = codes "FooterNumber"
-rule_code rules.Negative = codes "FooterNegative"
-rule_code rules.Length = codes "FooterLength"
-rule_code rules.WireType = codes "FooterWireType"
-rule_code rules.Depth = codes "FooterDepth"
-rule_code rules.FieldId = codes "FooterFieldId"
-rule_code rules.Repeated = codes "FooterRepeated"
-rule_code rules.Missing = codes "FooterMissing"
-rule_code rules.Union = codes "FooterUnion"
-rule_code rules.Utf8 = codes "FooterUtf8"
-rule_code rules.Name = codes "FooterName"
 
 -- what is wrong where a rule is broken
 abbrev pub rule_message : FooterRule → List ℕ
@@ -35,15 +20,30 @@ rule_message rules.Union = codes "a union has no field, or several"
 rule_message rules.Utf8 = codes "a text is not UTF-8"
 rule_message rules.Name = codes "a number denotes no name of the format"
 
--- the code of why a footer is not read, and what is wrong
-abbrev pub error_code : FooterError → List ℕ
-error_code errors.NotParquet = codes "FooterMagic"
-error_code errors.Encrypted = codes "FooterEncrypted"
-error_code (errors.Invalid rule at) = rule_code rule
-error_code errors.Memory = codes "OutOfMemory"
+-- what a rule asks
+abbrev pub rule_wanted : FooterRule → List ℕ
+rule_wanted rules.End = codes "values that end within the footer"
+rule_wanted rules.Number = codes "a number below 2^32 in at most 5 bytes, or 10 where it is passed over"
+rule_wanted rules.Negative = codes "a number from 0 on"
+rule_wanted rules.Length = codes "a length of at most the bytes that are left"
+rule_wanted rules.WireType = codes "a type of the protocol, and of a field that is read that of the format"
+rule_wanted rules.Depth = codes "at most 64 levels"
+rule_wanted rules.FieldId = codes "an id of at most 32767"
+rule_wanted rules.Repeated = codes "each field once"
+rule_wanted rules.Missing = codes "each required field"
+rule_wanted rules.Union = codes "a union of one field"
+rule_wanted rules.Utf8 = codes "UTF-8"
+rule_wanted rules.Name = codes "a number that denotes a name of the format"
 
+-- why a footer is not read: what is wrong, and what is asked
 abbrev pub error_message : FooterError → List ℕ
-error_message errors.NotParquet = codes "does not end as a Parquet file does"
-error_message errors.Encrypted = codes "the footer is encrypted"
+error_message errors.NotParquet = codes "another end"
+error_message errors.Encrypted = codes "PARE"
 error_message (errors.Invalid rule at) = rule_message rule
 error_message errors.Memory = codes "out of memory"
+
+abbrev pub error_wanted : FooterError → List ℕ
+error_wanted errors.NotParquet = codes "PAR1 at the end"
+error_wanted errors.Encrypted = codes "PAR1"
+error_wanted (errors.Invalid rule at) = rule_wanted rule
+error_wanted errors.Memory = codes "more memory"

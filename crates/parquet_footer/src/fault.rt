@@ -1,7 +1,7 @@
 //! Why a footer is not read.
 ghost use Rattle.std.specs.Prelude.{◌≡◌, IsTrue, OnOk, length};
 ghost use Rattle.parquet_footer.specs.Fault.{broken, kept};
-ghost use Rattle.parquet_footer.specs.Rules.{rule_code, rule_message, error_code, error_message};
+ghost use Rattle.parquet_footer.specs.Rules.{rule_message, rule_wanted, error_message, error_wanted};
 ghost use Rattle.parquet_footer.specs.declared.fault.Stop.TheVariants as stops;
 
 use std::alloc::{AllocError, AllocFailed};
@@ -36,26 +36,6 @@ pub enum FooterRule {
 }
 
 impl FooterRule {
-    /// Returns the code of the rule, as reports have it (`docs/FORMAT.md`, 2.8).
-    pub fn code(self) -> &'static str
-        ensures { result.now ≡ rule_code self }
-    {
-        match self {
-            FooterRule::End => "FooterEnd",
-            FooterRule::Number => "FooterNumber",
-            FooterRule::Negative => "FooterNegative",
-            FooterRule::Length => "FooterLength",
-            FooterRule::WireType => "FooterWireType",
-            FooterRule::Depth => "FooterDepth",
-            FooterRule::FieldId => "FooterFieldId",
-            FooterRule::Repeated => "FooterRepeated",
-            FooterRule::Missing => "FooterMissing",
-            FooterRule::Union => "FooterUnion",
-            FooterRule::Utf8 => "FooterUtf8",
-            FooterRule::Name => "FooterName",
-        }
-    }
-
     /// Returns what is wrong where the rule is broken.
     pub fn message(self) -> &'static str
         ensures { result.now ≡ rule_message self }
@@ -73,6 +53,30 @@ impl FooterRule {
             FooterRule::Union => "a union has no field, or several",
             FooterRule::Utf8 => "a text is not UTF-8",
             FooterRule::Name => "a number denotes no name of the format",
+        }
+    }
+
+    /// Returns what the rule asks.
+    pub fn wanted(self) -> &'static str
+        ensures { result.now ≡ rule_wanted self }
+    {
+        match self {
+            FooterRule::End => "values that end within the footer",
+            FooterRule::Number => {
+                "a number below 2^32 in at most 5 bytes, or 10 where it is passed over"
+            }
+            FooterRule::Negative => "a number from 0 on",
+            FooterRule::Length => "a length of at most the bytes that are left",
+            FooterRule::WireType => {
+                "a type of the protocol, and of a field that is read that of the format"
+            }
+            FooterRule::Depth => "at most 64 levels",
+            FooterRule::FieldId => "an id of at most 32767",
+            FooterRule::Repeated => "each field once",
+            FooterRule::Missing => "each required field",
+            FooterRule::Union => "a union of one field",
+            FooterRule::Utf8 => "UTF-8",
+            FooterRule::Name => "a number that denotes a name of the format",
         }
     }
 }
@@ -141,27 +145,27 @@ pub enum FooterError {
 }
 
 impl FooterError {
-    /// Returns the code of the error, as reports have it (`docs/FORMAT.md`, 2.8): that of the rule, if one is broken.
-    pub fn code(self) -> &'static str
-        ensures { result.now ≡ error_code self }
-    {
-        match self {
-            FooterError::NotParquet => "FooterMagic",
-            FooterError::Encrypted => "FooterEncrypted",
-            FooterError::Invalid(rule, _) => rule.code(),
-            FooterError::Memory => "OutOfMemory",
-        }
-    }
-
     /// Returns what is wrong.
     pub fn message(self) -> &'static str
         ensures { result.now ≡ error_message self }
     {
         match self {
-            FooterError::NotParquet => "does not end as a Parquet file does",
-            FooterError::Encrypted => "the footer is encrypted",
+            FooterError::NotParquet => "another end",
+            FooterError::Encrypted => "PARE",
             FooterError::Invalid(rule, _) => rule.message(),
             FooterError::Memory => "out of memory",
+        }
+    }
+
+    /// Returns what is asked.
+    pub fn wanted(self) -> &'static str
+        ensures { result.now ≡ error_wanted self }
+    {
+        match self {
+            FooterError::NotParquet => "PAR1 at the end",
+            FooterError::Encrypted => "PAR1",
+            FooterError::Invalid(rule, _) => rule.wanted(),
+            FooterError::Memory => "more memory",
         }
     }
 }

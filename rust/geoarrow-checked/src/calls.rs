@@ -162,13 +162,13 @@ mod tests {
         for (size, times) in [(1, 1), (LEAST, 2), (9 * LEAST, 2)] {
             let name = "n".repeat(size);
             let line = format!(
-                "{{\"error\":\"EmptyFile\",\"file\":\"{name}\",\"message\":\"is empty\"}}\n"
+                "{{\"kind\":\"finding\",\"severity\":\"error\",\"code\":\"C\",\"file\":\"{name}\",\"expected\":\"e\"}}\n"
             );
-            let (Err(Error::Refused(fault)), called) = made(5, line.as_bytes()) else {
+            let (Err(Error::Refused(finding)), called) = made(5, line.as_bytes()) else {
                 panic!("not refused");
             };
-            assert_eq!((fault.file(), called), (Some(&*name), times));
-            assert_eq!(fault.as_json(), line.trim_end());
+            assert_eq!((finding.file(), called), (Some(&*name), times));
+            assert_eq!(finding.as_json(), line.trim_end());
         }
     }
 

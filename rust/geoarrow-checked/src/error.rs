@@ -1,6 +1,7 @@
 //! Why a call gives no answer.
-use crate::fault::Fault;
+use crate::finding::Finding;
 use std::fmt::{self, Display, Formatter};
+use std::str;
 
 /// Why a call gives no answer.
 #[derive(Debug, Clone, PartialEq, Eq, Hash)]
@@ -11,7 +12,7 @@ pub enum Error {
     /// More than 1,000,000 lines, or a line of more than 1,048,576 bytes.
     Limit,
     /// The bytes are refused, and why.
-    Refused(Fault),
+    Refused(Finding),
     /// A line of a report that this crate cannot read.
     Line(String),
     /// A status that this crate does not know, or 5 with a line that it cannot read.
@@ -27,9 +28,14 @@ pub(crate) fn error_of(status: u8, written: &[u8]) -> Error {
     match status {
         MEMORY => Error::OutOfMemory,
         LIMIT => Error::Limit,
-        REFUSED => Fault::read(written).map_or(Error::Other(REFUSED), Error::Refused),
+        REFUSED => refused(written).map_or(Error::Other(REFUSED), Error::Refused),
         other => Error::Other(other),
     }
+}
+
+/// Why the bytes are refused, by the line that was written, with its line feed.
+fn refused(written: &[u8]) -> Option<Finding> {
+    Finding::of_line(str::from_utf8(written).ok()?.strip_suffix('\n')?)
 }
 
 impl Display for Error {
@@ -39,7 +45,7 @@ impl Display for Error {
             Error::Limit => {
                 f.write_str("more than 1,000,000 lines, or a line of more than 1,048,576 bytes")
             }
-            Error::Refused(fault) => fault.fmt(f),
+            Error::Refused(finding) => finding.fmt(f),
             Error::Line(line) => write!(f, "a line that is not read: {line}"),
             Error::Other(status) => write!(f, "status {status}"),
         }
@@ -52,34 +58,44 @@ impl std::error::Error for Error {}
 mod tests {
     use super::{error_of, Error};
 
+    const LINE: &[u8] =
+        b"{\"kind\":\"finding\",\"severity\":\"error\",\"code\":\"C\",\"line\":7,\"found\":\"f\",\"expected\":\"e\"}\n";
+
     #[test]
     fn each_status_has_its_error() {
-        let line = b"{\"error\":\"E\",\"line\":7,\"message\":\"m\",\"place\":\"line 7\"}\n";
-        let Error::Refused(fault) = error_of(5, line) else {
+        let Error::Refused(finding) = error_of(5, LINE) else {
             panic!("not refused");
         };
-        assert_eq!((fault.code(), fault.line()), ("E", Some(7)));
-        assert_eq!(error_of(2, line), Error::OutOfMemory);
-        assert_eq!(error_of(4, line), Error::Limit);
+        assert_eq!((finding.code(), finding.line()), ("C", Some(7)));
+        assert_eq!(finding.as_json().as_bytes(), &LINE[..LINE.len() - 1]);
+        assert_eq!(error_of(2, LINE), Error::OutOfMemory);
+        assert_eq!(error_of(4, LINE), Error::Limit);
         for other in [1, 3, 6, 11, 16, 30, 255] {
-            assert_eq!(error_of(other, line), Error::Other(other));
+            assert_eq!(error_of(other, LINE), Error::Other(other));
         }
-        for line in [&b""[..], b"\n", b"refused", b"{\"error\":\"E\"}\n"] {
+        for line in [
+            &b""[..],
+            b"\n",
+            b"refused",
+            b"{\"kind\":\"finding\",\"code\":\"C\"}\n",
+            b"{\"severity\":\"error\",\"code\":\"C\",\"expected\":\"e\"}\n",
+            b"{\"kind\":\"finding\",\"severity\":\"error\",\"code\":\"\xff\",\"expected\":\"e\"}\n",
+            &LINE[..LINE.len() - 1],
+            &[LINE, b"\n"].concat(),
+        ] {
             assert_eq!(error_of(5, line), Error::Other(5));
         }
     }
 
     #[test]
     fn each_error_has_its_words() {
-        let fault = b"{\"error\":\"E\",\"line\":7,\"message\":\"m\",\"place\":\"line 7\"}";
         for (error, words) in [
             (Error::OutOfMemory, "out of memory"),
             (
                 Error::Limit,
                 "more than 1,000,000 lines, or a line of more than 1,048,576 bytes",
             ),
-            (error_of(5, fault), "line 7: m"),
-            (error_of(5, b"{\"error\":\"E\",\"message\":\"m\"}"), "m"),
+            (error_of(5, LINE), "error[C] line 7: found f; expected e"),
             (Error::Line("{}".into()), "a line that is not read: {}"),
             (Error::Other(3), "status 3"),
         ] {

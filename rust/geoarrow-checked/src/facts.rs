@@ -1,5 +1,6 @@
 //! What counts of a column and its sources, as its line says it.
 use crate::error::Error;
+use crate::finding::is_of_column;
 use crate::members::{items, members, Value};
 use std::fmt::{self, Display, Formatter};
 
@@ -89,7 +90,7 @@ pub struct Facts {
     pub bbox: Option<String>,
     /// The epoch that they say, as JSON.
     pub epoch: Option<String>,
-    /// The geometry types that they say.
+    /// The geometry types that they say, or else the one that the field says by its kind.
     pub geometry_types: Vec<String>,
     /// The orientation of rings that they say.
     pub orientation: Option<String>,
@@ -168,7 +169,7 @@ fn verdicts(object: &str) -> Option<Vec<(String, Source, Verdict)>> {
 /// [`Error::Line`] with the line, where it is not that of a column, or a part of it is not read.
 pub fn column_facts(line: &str) -> Result<Facts, Error> {
     let unread = || Error::Line(line.to_owned());
-    if !line.starts_with("{\"column\":") {
+    if !is_of_column(line) {
         return Err(unread());
     }
     Facts::read(line).ok_or_else(unread)
@@ -180,7 +181,7 @@ mod tests {
 
     #[test]
     fn each_part_of_a_line() {
-        let line = r#"{"column":"g","bbox":[1,2.5],"crs":null,"crs_from":"geo","edges":"spherical","edges_from":"element","epoch":2020.5,"geometry_types":["Point","Polygon Z"],"index":0,"orientation":"counterclockwise","state":"geometry","type":"wkb - -","type_from":"field","verdicts":{"crs":{"element":"not compared","field":"contradict"},"encoding":{"geo":"agree"}}}"#;
+        let line = r#"{"kind":"column","index":0,"column":"g","state":"geometry","type":"wkb - -","type_from":"field","crs":null,"crs_from":"geo","edges":"spherical","edges_from":"element","epoch":2020.5,"orientation":"counterclockwise","geometry_types":["Point","Polygon Z"],"bbox":[1,2.5],"verdicts":{"crs":{"element":"not compared","field":"contradict"},"encoding":{"geo":"agree"}}}"#;
         let verdicts = vec![
             ("crs".to_owned(), Source::Element, Verdict::NotCompared),
             ("crs".to_owned(), Source::Field, Verdict::Contradict),
@@ -204,19 +205,21 @@ mod tests {
 
     #[test]
     fn a_column_of_no_geometries_and_a_line_of_none() {
-        let plain = r#"{"column":"id","index":0,"state":"plain","type":"int64"}"#;
+        let plain = r#"{"kind":"column","index":0,"column":"id","state":"plain","type":"int64"}"#;
         assert_eq!(column_facts(plain).unwrap(), Facts::default());
         for line in [
             "",
             "{}",
-            r#"{"column":"g","crs_from":"elements"}"#,
-            r#"{"column":"g","edges":1}"#,
-            r#"{"column":"g","bbox":1}"#,
-            r#"{"column":"g","epoch":"2020"}"#,
-            r#"{"column":"g","geometry_types":["Point",1]}"#,
-            r#"{"column":"g","orientation":[]}"#,
-            r#"{"column":"g","verdicts":{"crs":{"geo":"yes"}}}"#,
-            r#"{"column":"g","verdicts":[]}"#,
+            r#"{"column":"g","index":0,"state":"plain","type":"int64"}"#,
+            r#"{"kind":"finding","column":"g"}"#,
+            r#"{"kind":"column","column":"g","crs_from":"elements"}"#,
+            r#"{"kind":"column","column":"g","edges":1}"#,
+            r#"{"kind":"column","column":"g","bbox":1}"#,
+            r#"{"kind":"column","column":"g","epoch":"2020"}"#,
+            r#"{"kind":"column","column":"g","geometry_types":["Point",1]}"#,
+            r#"{"kind":"column","column":"g","orientation":[]}"#,
+            r#"{"kind":"column","column":"g","verdicts":{"crs":{"geo":"yes"}}}"#,
+            r#"{"kind":"column","column":"g","verdicts":[]}"#,
         ] {
             assert!(column_facts(line).is_err(), "{line}");
         }

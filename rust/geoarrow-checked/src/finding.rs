@@ -1,6 +1,5 @@
-//! What is found in a file and in its columns, as its report says it.
+//! What is found in a file and in its columns, and why it is refused, as the library says it.
 use crate::error::Error;
-use crate::fault::is_of_fault;
 use crate::members::{items, members, Value};
 use std::fmt::{self, Display, Formatter};
 
@@ -37,8 +36,8 @@ impl Display for Severity {
     }
 }
 
-/// What is found in a file or in one of its columns: a code with its severity, the place, what stands there, what is expected, and what helps
-/// (docs/FORMAT.md, 5.1). It is shown as `geoarrow_check` shows it behind the name of a file, or below a column.
+/// What is found in a file or in one of its columns, or why a file is refused or a line no column: a code with its severity, the place, what stands there,
+/// what is expected, and what helps (docs/FORMAT.md, 2.8 and 5.1). It is shown as `geoarrow_check` shows it behind the name of a file, or below a column.
 #[derive(Debug, Clone, PartialEq, Eq, Hash)]
 pub struct Finding(Box<Said>);
 
@@ -55,21 +54,28 @@ struct Said {
 #[derive(Debug, Clone, PartialEq, Eq, Hash, Default)]
 struct Others {
     file: Option<String>,
+    index: Option<u64>,
     column: Option<String>,
     path: Vec<String>,
     source: Option<String>,
     pointer: Option<String>,
     byte: Option<u64>,
+    line: Option<u64>,
+    element: Option<u64>,
     found: Option<String>,
     help: Option<String>,
     more: u64,
 }
 
 /// The keys of an object.
-const KEYS: [&str; 12] = [
-    "severity", "code", "file", "column", "path", "in", "pointer", "byte", "found", "expected",
-    "help", "more",
+const KEYS: [&str; 16] = [
+    "kind", "severity", "code", "file", "index", "column", "path", "in", "pointer", "byte", "line",
+    "element", "found", "expected", "help", "more",
 ];
+
+/// How the line of a column begins, and that of a finding.
+const COLUMN: &str = "{\"kind\":\"column\",";
+const FINDING: &str = "{\"kind\":\"finding\",";
 
 impl Finding {
     /// The finding that an object denotes. A key that is unknown is passed over.
@@ -78,14 +84,18 @@ impl Finding {
         let mut others = Others::default();
         for (key, value) in members(json)? {
             match (key.as_str(), value) {
+                ("kind", Value::Text(word)) if word == "finding" => {}
                 ("severity", Value::Text(word)) => severity = Severity::of(&word),
                 ("code", Value::Text(text)) => code = Some(text),
                 ("file", Value::Text(text)) => others.file = Some(text),
+                ("index", Value::Number(number)) => others.index = Some(number),
                 ("column", Value::Text(text)) => others.column = Some(text),
                 ("path", Value::Array(names)) => others.path = texts(names)?,
                 ("in", Value::Text(text)) => others.source = Some(text),
                 ("pointer", Value::Text(text)) => others.pointer = Some(text),
                 ("byte", Value::Number(number)) => others.byte = Some(number),
+                ("line", Value::Number(number)) => others.line = Some(number),
+                ("element", Value::Number(number)) => others.element = Some(number),
                 ("found", Value::Text(text)) => others.found = Some(text),
                 ("expected", Value::Text(text)) => expected = Some(text),
                 ("help", Value::Text(text)) => others.help = Some(text),
@@ -103,13 +113,18 @@ impl Finding {
         })))
     }
 
+    /// The finding of a line, which begins with its kind.
+    pub(crate) fn of_line(line: &str) -> Option<Finding> {
+        Finding::read(Some(line).filter(|it| it.starts_with(FINDING))?)
+    }
+
     /// How much it weighs.
     #[must_use]
     pub fn severity(&self) -> Severity {
         self.0.severity
     }
 
-    /// The code, as `GeoEncoding`.
+    /// The code, as `GeoEncoding` or `Truncated`.
     #[must_use]
     pub fn code(&self) -> &str {
         &self.0.code
@@ -119,6 +134,12 @@ impl Finding {
     #[must_use]
     pub fn file(&self) -> Option<&str> {
         self.0.others.file.as_deref()
+    }
+
+    /// The place of the column in its schema, from 0, where it is one that is not written.
+    #[must_use]
+    pub fn index(&self) -> Option<u64> {
+        self.0.others.index
     }
 
     /// The name of the column, where something of the file is of one; none of what [`column_findings`] gives, whose line has it.
@@ -145,10 +166,22 @@ impl Finding {
         self.0.others.pointer.as_deref()
     }
 
-    /// The byte of that part, from 0, where one tells the place.
+    /// The byte of that part, from 0, where one tells the place; of a line from 1.
     #[must_use]
     pub fn byte(&self) -> Option<u64> {
         self.0.others.byte
+    }
+
+    /// The number of the line, from 1, where one is refused or no column.
+    #[must_use]
+    pub fn line(&self) -> Option<u64> {
+        self.0.others.line
+    }
+
+    /// The element of the schema of a Parquet file, from 0, where one tells the place.
+    #[must_use]
+    pub fn element(&self) -> Option<u64> {
+        self.0.others.element
     }
 
     /// What stands there, where something does, as a value in JSON; cut behind 120 characters.
@@ -169,7 +202,7 @@ impl Finding {
         self.0.others.help.as_deref()
     }
 
-    /// How many more of its code there are that are not told one by one.
+    /// How many more of its code there are that are not told one by one; of a line that is no column, how many more are none.
     #[must_use]
     pub fn more(&self) -> u64 {
         self.0.others.more
@@ -190,6 +223,10 @@ impl Display for Finding {
             write!(f, "{between}column {column}")?;
             between = ", ";
         }
+        if let Some(index) = self.index() {
+            write!(f, "{between}column {index}")?;
+            between = ", ";
+        }
         if !self.path().is_empty() {
             write!(f, "{between}at {}", self.path().join("."))?;
             between = ", ";
@@ -201,11 +238,17 @@ impl Display for Finding {
                 write!(f, " {pointer}")?;
             }
         }
-        if let Some(byte) = self.byte() {
-            write!(f, "{between}byte {byte}")?;
-            between = ", ";
+        for (word, number) in [
+            ("byte", self.byte()),
+            ("line", self.line()),
+            ("element", self.element()),
+        ] {
+            if let Some(number) = number {
+                write!(f, "{between}{word} {number}")?;
+                between = ", ";
+            }
         }
-        if self.more() > 0 {
+        if self.more() > 0 && self.line().is_none() {
             write!(f, "{between}and {} more", self.more())?;
         }
         f.write_str(": ")?;
@@ -230,14 +273,14 @@ fn texts(array: &str) -> Option<Vec<String>> {
 }
 
 /// What is found in a file beside its columns: the findings of a report that [`check`](crate::check) or [`check_named`](crate::check_named)
-/// gave, in their order. Its other lines are those of columns, whose own [`column_findings`] reads, and of lines that are no columns, which
-/// [`bad_lines`](crate::bad_lines) reads.
+/// gave, in their order, but for those of lines that are no columns, which [`bad_lines`] reads. Its other lines are those of columns, whose own
+/// [`column_findings`] reads.
 ///
 /// ```
 /// use geoarrow_checked::{findings, Severity};
 ///
-/// let report = "{\"column\":\"id\",\"index\":0,\"state\":\"plain\",\"type\":\"int64\"}\n\
-///     {\"severity\":\"error\",\"code\":\"GeoEpoch\",\"column\":\"g\",\"in\":\"geo\",\"pointer\":\"/columns/g/epoch\",\"found\":\"\\\"2020\\\"\",\"expected\":\"a number\"}\n";
+/// let report = "{\"kind\":\"column\",\"index\":0,\"column\":\"id\",\"state\":\"plain\",\"type\":\"int64\"}\n\
+///     {\"kind\":\"finding\",\"severity\":\"error\",\"code\":\"GeoEpoch\",\"column\":\"g\",\"in\":\"geo\",\"pointer\":\"/columns/g/epoch\",\"found\":\"\\\"2020\\\"\",\"expected\":\"a number\"}\n";
 /// let found = findings(report)?;
 /// assert_eq!(found.len(), 1);
 /// assert_eq!((found[0].severity(), found[0].code()), (Severity::Error, "GeoEpoch"));
@@ -247,13 +290,41 @@ fn texts(array: &str) -> Option<Vec<String>> {
 ///
 /// # Errors
 ///
-/// [`Error::Line`] with the first line that is neither that of a column, nor that of a bad line, nor that of a finding.
+/// [`Error::Line`] with the first line that is neither that of a column nor that of a finding.
 pub fn findings(report: &str) -> Result<Vec<Finding>, Error> {
-    let others = report
-        .lines()
-        .filter(|line| !is_of_column(line) && !is_of_fault(line));
+    let mut found = behind(report)?;
+    found.retain(|it| it.line().is_none());
+    Ok(found)
+}
+
+/// Why lines are no columns: those of a report that [`check`](crate::check) or [`check_named`](crate::check_named) gave of a file of lines, in their
+/// order, at most 100; the last says how many more there are. The other lines of such a file are its columns.
+///
+/// ```
+/// use geoarrow_checked::{bad_lines, check, Options};
+///
+/// let report = check(b"{}\n{\"name\":\"t\",\"nullable\":true,\"type\":\"utf8\"}\n[]\n", Options::default())?;
+/// let bad = bad_lines(&report)?;
+/// let places: Vec<_> = bad.iter().map(|it| (it.code(), it.line())).collect();
+/// assert_eq!(places, [("BadLine", Some(1)), ("BadLine", Some(3))]);
+/// assert_eq!(bad[1].to_string(), "error[BadLine] line 3: found JSON that is no object; expected a JSON object");
+/// # Ok::<(), geoarrow_checked::Error>(())
+/// ```
+///
+/// # Errors
+///
+/// As [`findings`].
+pub fn bad_lines(report: &str) -> Result<Vec<Finding>, Error> {
+    let mut found = behind(report)?;
+    found.retain(|it| it.line().is_some());
+    Ok(found)
+}
+
+/// All that is found of a file, behind the lines of its columns.
+fn behind(report: &str) -> Result<Vec<Finding>, Error> {
+    let others = report.lines().filter(|line| !is_of_column(line));
     others
-        .map(|line| Finding::read(line).ok_or_else(|| unread(line)))
+        .map(|line| Finding::of_line(line).ok_or_else(|| unread(line)))
         .collect()
 }
 
@@ -264,7 +335,7 @@ pub fn findings(report: &str) -> Result<Vec<Finding>, Error> {
 ///
 /// let line = br#"{"metadata":{"ARROW:extension:metadata":"","ARROW:extension:name":"geoarrow.wkb"},"name":"g","nullable":true,"type":"binary"}"#;
 /// let report = check(line, Options::default())?;
-/// for line in report.lines().filter(|line| line.starts_with(r#"{"column":"#)) {
+/// for line in report.lines().filter(|line| line.starts_with(r#"{"kind":"column","#)) {
 ///     let found = column_findings(line)?;
 ///     assert_eq!(found[0].to_string(), "warning[MetadataEmpty] extension metadata: found \"\"; expected no metadata, or {}. It is read as no metadata.");
 /// }
@@ -301,8 +372,8 @@ fn read_column(line: &str) -> Option<Vec<Finding>> {
 }
 
 /// Whether a line of a report begins as that of a column.
-fn is_of_column(line: &str) -> bool {
-    line.starts_with("{\"column\":")
+pub(crate) fn is_of_column(line: &str) -> bool {
+    line.starts_with(COLUMN)
 }
 
 fn unread(line: &str) -> Error {

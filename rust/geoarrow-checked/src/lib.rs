@@ -22,7 +22,6 @@
 mod calls;
 mod error;
 mod facts;
-mod fault;
 mod finding;
 mod members;
 
@@ -31,8 +30,7 @@ pub mod arrow;
 
 pub use error::Error;
 pub use facts::{column_facts, Facts, Source, Verdict};
-pub use fault::{bad_lines, Fault};
-pub use finding::{column_findings, findings, Finding, Severity};
+pub use finding::{bad_lines, column_findings, findings, Finding, Severity};
 
 /// What is asked of a line.
 #[derive(Debug, Clone, Copy, PartialEq, Eq, Hash)]
@@ -86,16 +84,16 @@ pub fn check(bytes: &[u8], options: Options) -> Result<String, Error> {
     check_named("", bytes, options)
 }
 
-/// The same, with the name of the file in each line, and in the [`Fault`] where the file is refused. An empty name is none.
+/// The same, with the name of the file in each line, and in the [`Finding`] where the file is refused. An empty name is none.
 ///
 /// ```
 /// use geoarrow_checked::{check_named, Error, Options};
 ///
 /// let found = check_named("roads.jsonl", b"{\n\"name\":\"a\"}\n", Options::default());
-/// let Err(Error::Refused(fault)) = found else { panic!("the first line is read") };
-/// assert_eq!((fault.code(), fault.line()), ("LineNotJson", Some(1)));
-/// assert_eq!(fault.help(), Some("One object on each line: try jq -c . FILE"));
-/// assert_eq!(fault.file(), Some("roads.jsonl"));
+/// let Err(Error::Refused(why)) = found else { panic!("the first line is read") };
+/// assert_eq!((why.code(), why.line()), ("BadLine", Some(1)));
+/// assert_eq!(why.help(), Some("One object on each line: try jq -c . FILE"));
+/// assert_eq!(why.file(), Some("roads.jsonl"));
 /// ```
 ///
 /// # Errors

@@ -2,7 +2,7 @@
 #![cfg(feature = "arrow-schema")]
 use arrow_schema::{DataType, Field, TimeUnit};
 use geoarrow_checked::arrow::{check_fields, field_line};
-use geoarrow_checked::{bad_lines, Error, Options};
+use geoarrow_checked::{bad_lines, Options};
 
 fn field(name: &str, kind: DataType, nullable: bool) -> Field {
     Field::new(name, kind, nullable)
@@ -43,9 +43,10 @@ fn fields_of_a_schema() {
     ];
     assert_eq!(
         check_fields(&fields, Options::default()).unwrap(),
-        "{\"column\":\"at\",\"index\":0,\"state\":\"plain\",\"type\":\"date32\"}\n\
-         {\"column\":\"p\",\"edges\":\"planar\",\"extension\":\"geoarrow.point\",\"index\":1,\"state\":\"geometry\",\"type\":\"point separated XY\",\"type_from\":\"field\"}\n\
-         {\"column\":\"t\",\"index\":2,\"state\":\"plain\",\"type\":\"timestamp[s]\"}\n"
+        r#"{"kind":"column","index":0,"column":"at","state":"plain","type":"date32"}
+{"kind":"column","index":1,"column":"p","state":"geometry","type":"point separated XY","type_from":"field","extension":"geoarrow.point","edges":"planar","geometry_types":["Point"]}
+{"kind":"column","index":2,"column":"t","state":"plain","type":"timestamp[s]"}
+"#
     );
 }
 
@@ -61,5 +62,5 @@ fn a_field_that_nests_too_deep() {
     let report = check_fields(&fields, Options::default()).unwrap();
     let bad = bad_lines(&report).unwrap();
     assert_eq!((bad.len(), report.lines().count()), (1, 2));
-    assert_eq!((bad[0].code(), bad[0].line()), ("LineNotJson", Some(2)));
+    assert_eq!((bad[0].code(), bad[0].line()), ("BadLine", Some(2)));
 }

@@ -155,7 +155,7 @@ fn large_inputs() {
     let last = report.lines().last().unwrap();
     assert_eq!(
         last,
-        r#"{"column":"at","index":39999,"state":"plain","type":"timestamp[ms]"}"#
+        r#"{"kind":"column","index":39999,"column":"at","state":"plain","type":"timestamp[ms]"}"#
     );
     let stream = write_schema(format!("{TEXT}\n").repeat(40_000).as_bytes()).unwrap();
     assert!(stream.len() > 2 << 20);
@@ -166,11 +166,11 @@ fn large_inputs() {
 fn types_that_are_inferred() {
     assert_eq!(
         check(TEXT.as_bytes(), false).unwrap(),
-        "{\"column\":\"t\",\"index\":0,\"state\":\"plain\",\"type\":\"utf8\"}\n"
+        "{\"kind\":\"column\",\"index\":0,\"column\":\"t\",\"state\":\"plain\",\"type\":\"utf8\"}\n"
     );
     assert_eq!(
         check(TEXT.as_bytes(), true).unwrap(),
-        "{\"column\":\"t\",\"edges\":\"planar\",\"index\":0,\"state\":\"inferred\",\"type\":\"wkt - -\"}\n"
+        "{\"kind\":\"column\",\"index\":0,\"column\":\"t\",\"state\":\"inferred\",\"type\":\"wkt - -\",\"edges\":\"planar\"}\n"
     );
 }
 
@@ -216,23 +216,45 @@ fn options_and_their_numbers() {
 fn the_place_in_an_arrow_file() {
     let whole = read("crates/geoarrow_check/data/file.arrow");
     for length in 6..whole.len() {
-        let fault = refused(check(&whole[..length], false));
-        assert_eq!(fault.code(), "IpcEnvelope");
-        assert_eq!(fault.byte(), Some(length.saturating_sub(10) as u64));
+        let why = refused(check(&whole[..length], false));
+        assert_eq!(
+            (why.code(), why.found()),
+            ("Truncated", Some("another end"))
+        );
+        assert_eq!(why.byte(), Some(length.saturating_sub(10) as u64));
     }
     let (mut inside, size) = (0, whole.len() - 10);
     let footer = u32::from_le_bytes(whole[size..size + 4].try_into().unwrap()) as usize;
     for at in size - footer..size {
         let mut turned = whole.clone();
         turned[at] ^= 0x81;
-        if let Err(Error::Refused(fault)) = check(&turned, false) {
-            let place = fault.byte().unwrap() as usize;
+        if let Err(Error::Refused(why)) = check(&turned, false) {
+            let place = why.byte().unwrap() as usize;
             assert!((size - footer..=whole.len()).contains(&place)); // in the footer, where all of it stands
-            assert_eq!(fault.place(), Some(&*format!("byte {place}")));
+            assert_eq!(why.source(), None);
             inside += 1;
         }
     }
     assert!(inside > 50);
+}
+
+/// The code of a rule, and what is wrong where it is broken, by the tables of docs/FORMAT.md, 2.8 and 3.7.
+fn words_of_rule(rule: &str, is_file: bool) -> (String, String) {
+    let format = String::from_utf8(read("docs/FORMAT.md")).unwrap();
+    let tables = format.split_once("\n### 3.7 ").unwrap().1;
+    let row = tables
+        .lines()
+        .find(|line| line.starts_with(&format!("| `{rule}` |")))
+        .unwrap();
+    let wrong = row.split('`').nth(3).unwrap().to_owned();
+    let code = match rule {
+        "Magic" | "Cut" => "Truncated",
+        "FooterSize" => "FooterLength",
+        "EndOfStream" => "NoSchema",
+        "Message" if !is_file => "NoSchema",
+        _ => "BadMessage",
+    };
+    (code.to_owned(), wrong)
 }
 
 #[test]
@@ -248,7 +270,9 @@ fn rules_that_samples_break() {
             continue;
         }
         let rule = String::from_utf8_lossy(rule.split(|byte| *byte == b' ').next().unwrap());
-        assert_eq!(refused(check(&bytes, false)).code(), format!("Ipc{rule}"));
+        let (code, wrong) = words_of_rule(&rule, form == "file");
+        let why = refused(check(&bytes, false));
+        assert_eq!((why.code(), why.found()), (&*code, Some(&*wrong)), "{rule}");
         compared += 1;
     }
     assert!(compared > 50);

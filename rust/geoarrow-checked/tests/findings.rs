@@ -1,7 +1,7 @@
 //! What is found in files: as the table says that all languages share, with a name and without.
 mod common;
 
-use common::{from_hex, read, rows_of};
+use common::{from_hex, object_of, read, rows_of};
 use geoarrow_checked::{
     check, check_named, column_facts, column_findings, findings, Facts, Finding, Options, Source,
 };
@@ -40,38 +40,13 @@ fn cases() -> Vec<(Vec<u8>, Vec<Row>)> {
 fn found_in(report: &str) -> Vec<(bool, Finding)> {
     let columns = report
         .lines()
-        .filter(|line| line.starts_with("{\"column\":"));
+        .filter(|line| line.starts_with("{\"kind\":\"column\","));
     let of_columns = columns.flat_map(|line| column_findings(line).unwrap());
     let of_file = findings(report).unwrap().into_iter();
     of_columns
         .map(|it| (true, it))
         .chain(of_file.map(|it| (false, it)))
         .collect()
-}
-
-/// The object that is made of what a finding says.
-fn object_of(finding: &Finding) -> String {
-    let quoted = |text: &str| format!("\"{}\"", text.replace('\\', r"\\").replace('"', "\\\""));
-    let text = |key, text: Option<&str>| text.map(|it| format!("\"{key}\":{}", quoted(it)));
-    let number = |key, number: Option<u64>| number.map(|it| format!("\"{key}\":{it}"));
-    let path: Vec<_> = finding.path().iter().map(|it| quoted(it)).collect();
-    let path = (!path.is_empty()).then(|| format!("\"path\":[{}]", path.join(",")));
-    let members = [
-        text("severity", Some(&finding.severity().to_string())),
-        text("code", Some(finding.code())),
-        text("file", finding.file()),
-        text("column", finding.column()),
-        path,
-        text("in", finding.source()),
-        text("pointer", finding.pointer()),
-        number("byte", finding.byte()),
-        text("found", finding.found()),
-        text("expected", Some(finding.expected())),
-        text("help", finding.help()),
-        number("more", Some(finding.more()).filter(|it| *it > 0)),
-    ];
-    let members: Vec<_> = members.into_iter().flatten().collect();
-    format!("{{{}}}", members.join(","))
 }
 
 /// The members of a line that are made of what its facts say, each with its words.
@@ -120,7 +95,9 @@ fn each_fact_of_files_with_geo() {
             continue;
         }
         let report = check(&from_hex(&digits), Options::default()).unwrap();
-        let columns = report.lines().filter(|it| it.starts_with("{\"column\":"));
+        let columns = report
+            .lines()
+            .filter(|it| it.starts_with("{\"kind\":\"column\","));
         for line in columns {
             let facts = column_facts(line).unwrap();
             for (key, wanted) in members_of(&facts) {
@@ -152,7 +129,9 @@ fn each_case_of_the_table() {
             .map(|(of, it)| (*of, it.as_json().to_owned(), it.to_string()))
             .collect();
         assert_eq!(said, wanted);
-        assert!(found.iter().all(|(_, it)| object_of(it) == it.as_json()));
+        assert!(found
+            .iter()
+            .all(|(of, it)| object_of(it, !of) == it.as_json()));
         let named = found_in(&check_named("a.parquet", &bytes, options).unwrap());
         assert_eq!(named.len(), found.len());
         for ((of_column, one), (_, named)) in found.iter().zip(named) {

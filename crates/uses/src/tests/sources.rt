@@ -123,21 +123,29 @@ fn of_lines_give_columns_in_order(rt: HostRuntime) -> Result<(), Fail> {
     Ok(())
 }
 
-/// Lines that end in a fault, and it: without a column, blank lines alone or none; or behind blank lines, which count.
-const FAULTY: &[(&[u8], FileFault)] = &[
-    (b"", FileFault::Empty),
-    (b" \n\t\r\n\n \t", FileFault::Empty),
-    (b"\n \r\n[]\n", FileFault::NoField(2, LineFault::NotObject)),
+/// Lines that end in a fault, and it: without a column, blank lines alone or none; or of a line behind so many, blank ones too.
+const FAULTY: &[(&[u8], Option<(usize, LineFault)>)] = &[
+    (b"", None),
+    (b" \n\t\r\n\n \t", None),
+    (b"\n \r\n[]\n", Some((2, LineFault::NotObject))),
     (
         b"\n{\"name\":\"c\",\"nullable\":false,\"type\":\"null\"}\n\t\n\n{}",
-        FileFault::NoField(4, LineFault::Name),
+        Some((4, LineFault::Name)),
     ),
-    (b"\n\x0c\n", FileFault::NoField(1, LineFault::NotJson(1))),
+    (b"\n\x0c\n", Some((1, LineFault::NotJson(1)))),
 ];
 
 /// Whether the columns of a source end in that fault.
-fn end_in<R: Read + Drop>(alloc: Global, source: R, wanted: FileFault) -> Result<bool, AllocError> {
+fn end_in<R: Read + Drop>(
+    alloc: Global,
+    source: R,
+    wanted: Option<(usize, LineFault)>,
+) -> Result<bool, AllocError> {
     let found = ManuallyDrop::new(columns_of_source(alloc, Vec::new(alloc), source)?);
+    let wanted = match wanted {
+        Some((before, fault)) => FileFault::NoField(before, fault),
+        None => FileFault::Empty,
+    };
     let wanted = ManuallyDrop::new(ReadFault::File(wanted));
     is_same(alloc, &found.1, &wanted)
 }
@@ -358,6 +366,12 @@ const SCHEMAS: &[(Form, &[u8], usize, usize)] = &[
         b"PK\x03\x04 of which no more is read than the first bytes, from which its format is told",
         81,
         64,
+    ),
+    (
+        Form::Foreign(Foreign::Xml),
+        b"<?xml version=\"1.0\"?> of which 1,024 bytes are read, among which the code of an error may be",
+        92,
+        92,
     ),
     (Form::ArrowStream, b"\xff\xff\xff\xff\x03\0\0\0ab", 10, 10),
     (Form::ArrowStream, b"\xff\xff\xff\xff\x03\0", 6, 6),

@@ -1,10 +1,17 @@
-use super::{column_findings, findings, Finding, Severity};
+use super::{bad_lines, column_findings, findings, Finding, Severity};
 use crate::Error;
 
-/// With a value of its own at each key.
+/// With a value of its own at each key but those of what is refused.
 const WHOLE: &str = r#"{"severity":"warning","code":"One","file":"two","column":"three","path":["four","fi.ve"],"in":"six","pointer":"/seven","byte":8,"found":"nine","expected":"ten","help":"eleven.","more":12}"#;
 const LEAST: &str = r#"{"severity":"note","code":"One","expected":"two"}"#;
-const COLUMN: &str = r#"{"column":"{\"severity\":","index":0,"state":"plain","type":"int64"}"#;
+const COLUMN: &str = r#"{"kind":"column","index":0,"column":"{\"kind\":\"finding\",","state":"plain","type":"int64"}"#;
+/// With a value of its own at each key of what is refused.
+const REFUSED: &str = r#"{"kind":"finding","severity":"error","code":"One","file":"two","index":3,"in":"four","byte":5,"line":6,"element":7,"found":"eight","expected":"nine","help":"ten","more":11}"#;
+
+/// The line of a finding of a file, whose object this is: it begins with its kind.
+fn line_of(object: &str) -> String {
+    object.replacen('{', r#"{"kind":"finding","#, 1)
+}
 
 /// The line of a column with these members behind the others.
 fn column(more: &str) -> String {
@@ -33,6 +40,48 @@ fn each_key_is_what_it_says() {
 }
 
 #[test]
+fn the_keys_of_what_is_refused() {
+    let finding = Finding::of_line(REFUSED).unwrap();
+    let numbers = [finding.index(), finding.byte(), finding.line()];
+    assert_eq!(numbers, [3, 5, 6].map(Some));
+    assert_eq!((finding.element(), finding.more()), (Some(7), 11));
+    assert_eq!(finding.file(), Some("two"));
+    assert_eq!(finding.source(), Some("four"));
+    assert_eq!(finding.found(), Some("eight"));
+    assert_eq!((finding.expected(), finding.help()), ("nine", Some("ten")));
+    assert_eq!(finding.as_json(), REFUSED);
+    let words =
+        "error[One] column 3, four, byte 5, line 6, element 7: found eight; expected nine. ten";
+    assert_eq!(finding.to_string(), words); // (how many more there are is said behind all of these)
+    let no_line = Finding::of_line(&REFUSED.replacen(r#""line":6,"#, "", 1)).unwrap();
+    let words = words.replacen("line 6, element 7", "element 7, and 11 more", 1);
+    assert_eq!(no_line.to_string(), words);
+}
+
+#[test]
+fn another_kind_is_no_finding() {
+    for kind in ["column", "Finding", ""] {
+        let line = LEAST.replacen('{', &format!("{{\"kind\":\"{kind}\","), 1);
+        assert_eq!(Finding::read(&line), None);
+        assert_eq!(Finding::of_line(&line), None);
+    }
+    assert_eq!(Finding::of_line(LEAST), None);
+}
+
+#[test]
+fn bad_lines_stand_apart() {
+    let report = format!("{COLUMN}\n{REFUSED}\n{}\n", line_of(LEAST));
+    assert_eq!(
+        bad_lines(&report),
+        Ok(vec![Finding::of_line(REFUSED).unwrap()])
+    );
+    let others = findings(&report).unwrap();
+    assert_eq!(others, [Finding::of_line(&line_of(LEAST)).unwrap()]);
+    assert_eq!(bad_lines(""), Ok(Vec::new()));
+    assert_eq!(bad_lines(&format!("{COLUMN}\n{LEAST}\n")), unread(LEAST));
+}
+
+#[test]
 fn what_is_absent_is_none() {
     let finding = Finding::read(LEAST).unwrap();
     assert_eq!(finding.severity(), Severity::Note);
@@ -40,6 +89,8 @@ fn what_is_absent_is_none() {
     assert_eq!((finding.source(), finding.pointer()), (None, None));
     assert_eq!((finding.found(), finding.help()), (None, None));
     assert_eq!((finding.byte(), finding.more()), (None, 0));
+    let numbers = [finding.index(), finding.line(), finding.element()];
+    assert_eq!(numbers, [None; 3]);
     assert!(finding.path().is_empty());
     assert_eq!(finding.to_string(), "note[One]: expected two");
 }
@@ -94,9 +145,11 @@ fn each_severity_has_its_word() {
 
 #[test]
 fn lines_of_columns_are_none() {
-    let report = format!("{COLUMN}\n{WHOLE}\n{COLUMN}\n{LEAST}\n");
-    let wanted = [WHOLE, LEAST].map(|it| Finding::read(it).unwrap());
-    assert_eq!(findings(&report).unwrap(), wanted);
+    let lines = [WHOLE, LEAST].map(line_of);
+    let report = format!("{COLUMN}\n{}\n{COLUMN}\n{}\n", lines[0], lines[1]);
+    let found = findings(&report).unwrap();
+    assert!(found.iter().map(Finding::as_json).eq(&lines));
+    assert!(found.iter().map(Finding::code).eq(["One", "One"]));
     assert_eq!(findings(""), Ok(Vec::new()));
     let found = column(&format!(r#""findings":[{WHOLE}]"#));
     assert_eq!(findings(&found), Ok(Vec::new()));
@@ -144,22 +197,29 @@ fn lines_that_are_none() {
         r#"{"severity":"error","code":"A","expected":"b","help":null}"#,
         r#"{"severity":"error","code":"A","expected":"b","more":"1"}"#,
         r#"{"severity":"error","code":"A","expected":"b"} "#,
+        r#"{"kind":1,"severity":"error","code":"A","expected":"b"}"#,
+        r#"{"severity":"error","code":"A","index":"1","expected":"b"}"#,
+        r#"{"severity":"error","code":"A","line":"1","expected":"b"}"#,
+        r#"{"severity":"error","code":"A","element":null,"expected":"b"}"#,
     ] {
         assert_eq!(Finding::read(line), None, "{line}");
-        assert_eq!(
-            findings(&format!("{COLUMN}\n{LEAST}\n{line}\n{WHOLE}\n")),
-            unread(line)
-        );
+        let (least, whole) = (line_of(LEAST), line_of(WHOLE));
+        for line in [line.to_owned(), line_of(line)] {
+            let report = format!("{COLUMN}\n{least}\n{line}\n{whole}\n");
+            assert_eq!(findings(&report), unread(&line));
+        }
         assert_eq!(column_findings(line), unread(line));
         let of_column = column(&format!(r#""findings":[{LEAST},{line}]"#));
         assert_eq!(column_findings(&of_column), unread(&of_column));
     }
     for line in [
         LEAST,
-        r#"{"column":"a","findings":{}}"#,
-        r#"{"column":"a","findings":["a"]}"#,
-        r#"{"column":"a","findings":[}"#,
-        r#"{"column":"a""#,
+        &line_of(LEAST),
+        r#"{"column":"a","index":0,"state":"plain","type":"int64"}"#,
+        r#"{"kind":"column","column":"a","findings":{}}"#,
+        r#"{"kind":"column","column":"a","findings":["a"]}"#,
+        r#"{"kind":"column","column":"a","findings":[}"#,
+        r#"{"kind":"column","column":"a""#,
     ] {
         assert_eq!(column_findings(line), unread(line));
     }

@@ -1,6 +1,6 @@
 //! Where the repository's data are, and its rows (docs/TESTS.md).
 #![allow(dead_code)]
-use geoarrow_checked::{Error, Fault};
+use geoarrow_checked::{Error, Finding};
 use std::fmt::Debug;
 use std::fs;
 use std::path::{Path, PathBuf};
@@ -22,11 +22,44 @@ pub fn from_hex(digits: &[u8]) -> Vec<u8> {
 }
 
 /// Why bytes are refused.
-pub fn refused<T: Debug>(found: Result<T, Error>) -> Fault {
+pub fn refused<T: Debug>(found: Result<T, Error>) -> Finding {
     match found {
-        Err(Error::Refused(fault)) => fault,
+        Err(Error::Refused(finding)) => finding,
         other => panic!("not refused: {other:?}"),
     }
+}
+
+/// The object that is made of what a finding says; one that is a line has its kind.
+pub fn object_of(finding: &Finding, is_line: bool) -> String {
+    let text = |key, text: Option<&str>| text.map(|it| format!("\"{key}\":{}", quoted(it)));
+    let number = |key, number: Option<u64>| number.map(|it| format!("\"{key}\":{it}"));
+    let path: Vec<_> = finding.path().iter().map(|it| quoted(it)).collect();
+    let path = (!path.is_empty()).then(|| format!("\"path\":[{}]", path.join(",")));
+    let members = [
+        text("kind", Some("finding").filter(|_| is_line)),
+        text("severity", Some(&finding.severity().to_string())),
+        text("code", Some(finding.code())),
+        text("file", finding.file()),
+        number("index", finding.index()),
+        text("column", finding.column()),
+        path,
+        text("in", finding.source()),
+        text("pointer", finding.pointer()),
+        number("byte", finding.byte()),
+        number("line", finding.line()),
+        number("element", finding.element()),
+        text("found", finding.found()),
+        text("expected", Some(finding.expected())),
+        text("help", finding.help()),
+        number("more", Some(finding.more()).filter(|it| *it > 0)),
+    ];
+    let members: Vec<_> = members.into_iter().flatten().collect();
+    format!("{{{}}}", members.join(","))
+}
+
+/// A text in JSON, in which no control character stands.
+pub fn quoted(text: &str) -> String {
+    format!("\"{}\"", text.replace('\\', r"\\").replace('"', "\\\""))
 }
 
 /// A row: the command, its text and the answer.

@@ -1,5 +1,6 @@
 use Rattle.std.proofs.Common.{ap, ◌∙◌, option_map, string_bytes}
-use Rattle.column_files.specs.Geo.{geo_key, of_schema}
+use Rattle.parquet_columns.specs.Findings.{geo_key}
+use Rattle.column_files.specs.Geo.{of_schema}
 use Rattle.column_files.proofs.GeoTexts.{text_at-lookup}
 use Rattle.column_files.proofs.geo.take_geo.Goals as goal
 

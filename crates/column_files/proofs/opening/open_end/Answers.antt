@@ -1,4 +1,4 @@
-use Rattle.std.proofs.Common.{sym, subst}
+use Rattle.std.proofs.Common.{Err, sym, subst}
 use Rattle.column_files.specs.Files.{IsEndOpened}
 use Rattle.column_files.specs.declared.form.Form.TheVariants.{ArrowFile, ArrowStream, Parquet, Lines}
 use Rattle.column_files.proofs.Footers.{of_end}
@@ -31,4 +31,7 @@ returns-in-Lines c =
     let end = c.args.end.now in
     let r = c.file_of_lines.result in
     subst (λ f. IsEndOpened f c.args.start end r) (sym c.in-Lines.is)
-    (end_opened Lines c.args.start end r c.file_of_lines.ensures.form (c.file_of_lines.ensures.is end c.read_lines.ensures))
+    (end_opened Lines c.args.start end r c.file_of_lines.ensures.form c.file_of_lines.ensures.is)
+
+pub returns-in-Foreign : goal.returns-in-Foreign
+returns-in-Foreign c = subst (λ f. IsEndOpened f c.args.start c.args.end.now (Err c.foreign_fault.result)) (sym c.in-Foreign.is) c.foreign_fault.ensures

@@ -1,6 +1,7 @@
 use Rattle.std.proofs.Common.{◌≡◌, ◌+◌, ◌-◌, ◌<◌, length, drop, ap, ◌∙◌, arith}
 use Rattle.column_files.specs.Files.{size_in}
-use Rattle.column_files.proofs.FirstMessage.{Given, enough, by_size, by_none, by_rest}
+use Rattle.column_files.specs.ForeignFound.{looked_at}
+use Rattle.column_files.proofs.FirstMessage.{Given, enough, by_size, by_first, by_rest}
 use Rattle.column_files.proofs.schema_bytes.read_schema_bytes.Goals.{in-ArrowStream, in-Foreign, in-ArrowFile}
 use Rattle.column_files.proofs.schema_bytes.read_schema_bytes.Goals as goal
 
@@ -16,7 +17,10 @@ returns-clause-enough g c =
           let size : c.match-form.rest ≡ 8 + size_in (drop 4 head) - length head =
           w.rest-is ∙ w.left_of_message-rest.ensures ∙ ap (λ h. 8 + size_in (drop 4 h) - length h) w.as_slice.ensures.value in
           by_size form head bytes.items old new c.match-form.rest w.in-ArrowStream.is size c.in_ok-read_up_to.ensures.ok
-      | in-Foreign w ↦ by_none form _ head bytes.items old new c.match-form.rest w.in-Foreign.is w.rest-is c.in_ok-read_up_to.ensures.ok
+      | in-Foreign w ↦
+          let size : c.match-form.rest ≡ looked_at w.in-Foreign.foreign - length head =
+          w.rest-is ∙ w.left_of_foreign-rest.ensures ∙ ap (λ h. looked_at w.in-Foreign.foreign - length h) w.as_slice-in-Foreign.ensures.value in
+          by_first form w.in-Foreign.foreign head bytes.items old new c.match-form.rest w.in-Foreign.is size c.in_ok-read_up_to.ensures.ok
       | in-ArrowFile w ↦
           let small : length bytes.items < c.match-form.rest = omega (arith, w.rest-is, bytes.ok, bytes.small) in
           by_rest form head bytes.items old new c.match-form.rest w.in-ArrowFile.is small c.in_ok-read_up_to.ensures.ok

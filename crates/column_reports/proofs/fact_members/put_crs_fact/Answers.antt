@@ -9,5 +9,5 @@ use Rattle.column_reports.proofs.fact_members.put_crs_fact.Goals as goal
 pub returns : goal.returns
 returns c =
     let crs = for (λ v. member_if (codes "crs") (Some (or_null v))) (named (sent c.in_ok-key.ensures) c.in_ok-put_json.ensures) c.as_ref.ensures.value in
-    let from = for (λ s. string_if (codes "crs_from") (Some s)) c.in_ok-put_text.ensures c.word.ensures in
-    on_ok_weaker c.put_text_if.result (λ t. then (then crs from) (for (string_if (codes "crs_type")) t c.as_deref.ensures.value)) c.put_text_if.ensures
+    let type = for (string_if (codes "crs_type")) c.in_ok-put_text_if.ensures c.as_deref.ensures.value in
+    on_ok_weaker c.put_text.result (λ t. then (then crs type) (for (λ s. string_if (codes "crs_from") (Some s)) t c.word.ensures)) c.put_text.ensures

@@ -10,7 +10,7 @@ use Rattle.column_reports.proofs.file.report_columns.Goals as goal
 pub loop-column-preserved : goal.loop-column-preserved
 loop-column-preserved c =
     let l = c.loop-column in
-    reported_next c.args.infer (weighing c.args.weights.now) l.yielded l.reported.items c.push.new.self.items (c.in-Some.column, (c.in-Some.facts, c.in-Some.by)) c.in_ok-said.said l.invariant c.in_ok-said.ensures (search rules)
+    reported_next c.args.infer (weighing c.args.weights.now) l.yielded l.reported.items c.push.new.self.items (c.in-Some.column, (c.in-Some.facts, c.in-Some.named)) c.in_ok-said.said l.invariant c.in_ok-said.ensures (search rules)
 
 pub returns : goal.returns
 returns c =

@@ -1,4 +1,4 @@
-use Rattle.std.proofs.Common.{refl, map, ap, subst, ◌∙◌, rules}
+use Rattle.std.proofs.Common.{[], refl, map, ap, subst, ◌∙◌, rules}
 use Rattle.arrow_columns.specs.Column.{column_tree}
 use Rattle.parquet_columns.specs.Claims.{claim}
 use Rattle.std.specs.List.{zip}
@@ -8,7 +8,7 @@ use Rattle.geoparquet.specs.GeoColumns.{AreColumnsBy}
 use Rattle.geoparquet.specs.GeoFindings.{AreGeoFindings}
 use Rattle.geoparquet.specs.Sources.{source}
 use Rattle.column_reports.specs.FileReport.{AreReported, source_in}
-use Rattle.column_reports.specs.Named.{all_known, all_named_by}
+use Rattle.column_reports.specs.Named.{all_known, all_named, named_view, nobody_where}
 use Rattle.column_reports.specs.Weighed.{weighed}
 use Rattle.column_reports.specs.Weights.{weighing}
 use Rattle.column_reports.proofs.file.weighed_report.Goals as goal
@@ -26,9 +26,10 @@ returns c =
       columns =
           let facts = said.facts ∙ ap (λ s. facts_of s given (map claim c.as_slice-3.result.now)) c.source_of-source.ensures
           ∙ ap (λ es. facts_of (source_in c.args.opened.form c.args.opened.geo) given (map claim es)) c.as_slice-3.ensures.value in
-          let named = c.in_ok-named.ensures ∙ ap (λ cs. all_named_by (map column_tree cs) (map claim c.as_slice-2.result.now)) c.as_slice.ensures.value
-          ∙ ap (λ es. all_named_by given (map claim es)) c.as_slice-2.ensures.value in
-          let known = ap (λ fs. all_known fs c.in_ok-named.named.items) facts
+          let named = c.in_ok-named.ensures ∙ ap (λ rs. nobody_where rs (all_named (map column_tree c.as_slice.result.now) (map claim c.as_slice-2.result.now))) c.as_slice-flags.ensures.value
+          ∙ ap (λ cs. nobody_where c.args.opened.refuted.items (all_named (map column_tree cs) (map claim c.as_slice-2.result.now))) c.as_slice.ensures.value
+          ∙ ap (λ es. nobody_where c.args.opened.refuted.items (all_named given (map claim es))) c.as_slice-2.ensures.value in
+          let known = ap (λ fs. all_known fs (map named_view c.in_ok-named.named.items)) facts
           ∙ ap (all_known (facts_of (source_in c.args.opened.form c.args.opened.geo) given (map claim c.args.opened.elements.items))) named in
           subst (λ ks. AreReported c.args.infer (weighing c.args.weights.now) (zip made ks) c.in_ok-columns.columns.items) known c.in_ok-columns.ensures;
       geo = answer.report;

@@ -1,4 +1,4 @@
-use Rattle.std.proofs.Common.{◌≡◌, ap, ap₂, sym, ◌∙◌}
+use Rattle.std.proofs.Common.{ap, ap₂, sym, ◌∙◌}
 use Rattle.arrow_columns.specs.Column.{type_tree}
 use Rattle.parquet_columns.specs.Fits.{text_sort, are_same, type_fits}
 use Rattle.parquet_columns.proofs.fits.type_fits.Goals as goal

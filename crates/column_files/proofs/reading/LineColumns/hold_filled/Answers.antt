@@ -10,7 +10,7 @@ use Rattle.column_files.proofs.reading.LineColumns.hold_filled.Goals as goal
 pub loop-init : goal.loop-init
 loop-init g c =
     let most : passed c.args.self.now ≤ max_count = search rules in
-    (refl, passes_none (passed c.args.self.now) (text_left g.R.Read.remaining c.args.self.now) most)
+    (refl, refl, passes_none (passed c.args.self.now) (text_left g.R.Read.remaining c.args.self.now) most)
 
 pub returns-in_err-len-clause-err : goal.returns-in_err-len-clause-err
 returns-in_err-len-clause-err g c =
@@ -30,8 +30,9 @@ loop-preserved g c =
     let now = prepend_known (held c.pass_line.new.self) rest in
     let line : HasLine bytes rest (Some len) = subst (HasLine bytes rest) c.in-Some.is c.in_ok-len.ensures.line in
     let blank : is_blank (take len bytes) ≡ true = subst (λ l. is_blank l ≡ true) c.line.ensures (sym c.is_blank.ensures ∙ c.if-not-is_blank.false) in
-    let passes = passes_kept (passed c.args.self.now) (passed old) _ begun (text_left g.R.Read.remaining old) left [] c.loop.invariant.1
+    let passes = passes_kept (passed c.args.self.now) (passed old) _ begun (text_left g.R.Read.remaining old) left [] c.loop.invariant.2
     c.hold_line.ensures.counted (text_kept before rest (ahead old) bytes c.hold_line.ensures.read) in (
       c.loop.invariant.0,
+      c.loop.invariant.1,
       passes_line (passed c.args.self.now) _ _ begun rest now bytes len [] passes c.pass_line.ensures.counted line blank (ap (λ l. prepend_known l rest) c.pass_line.ensures.held),
     )

@@ -29,5 +29,5 @@ returns-clause-text c =
     let ps = c.self.inside.pairs.now in
     let value = text_at key (map pairing ps) in
     let judged = c.in_ok-judge.ensures.stay ps c.self.invariant.1 (c.value_in-value.ensures ∙ c.self.invariant.0 key) in
-    subst (λ qs. IfOk c.text_by.result (λ made. string_bytes made ≡ text_with (keyed_crs c.args.text.now (text_at key qs)) c.args.edges)) c.self.view_is
+    subst (λ qs. IfOk c.text_by.result (λ made. string_bytes made ≡ text_with (keyed_crs (text_at key qs)) c.args.edges)) c.self.view_is
     (c.text_by.ensures value (c.judged_at-json.ensures (compact_of value) (judged key c.in_ok-judge.ensures.known)))

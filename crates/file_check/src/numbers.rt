@@ -1,0 +1,139 @@
+//! How many columns and findings there are: of a file, and of all files.
+use crate::rules::Rule;
+use column_check::Severity;
+use column_reports::{ColumnReport, Weighed};
+use std::alloc::{AllocError, Global};
+
+/// How many columns and findings a file has, or several files have.
+#[derive(Debug, Clone, Copy)]
+pub struct Numbers {
+    /// The columns.
+    pub columns: u64,
+    /// Those of geometries, inferred ones too.
+    pub geometries: u64,
+    /// What counts as an error: of findings those that are shown, bad lines, and what is asked and
+    /// not met.
+    pub errors: u64,
+    /// The warnings that are shown.
+    pub warnings: u64,
+    /// The notes that are shown.
+    pub notes: u64,
+}
+
+impl Numbers {
+    /// Returns those of no column.
+    pub fn new() -> Numbers {
+        Numbers {
+            columns: 0,
+            geometries: 0,
+            errors: 0,
+            warnings: 0,
+            notes: 0,
+        }
+    }
+
+    /// Adds a column, and what is found of it.
+    pub(crate) fn add_column(&mut self, said: &ColumnReport) {
+        raise(&mut self.columns, 1);
+        if said.finding.geometry().is_some() {
+            raise(&mut self.geometries, 1);
+        }
+        self.add_findings(said.findings.as_slice());
+    }
+
+    /// Adds findings.
+    pub(crate) fn add_findings(&mut self, findings: &[Weighed<'_>]) {
+        for found in findings {
+            match found.severity {
+                Severity::Error => raise(&mut self.errors, 1),
+                Severity::Warning => raise(&mut self.warnings, 1),
+                Severity::Note => raise(&mut self.notes, 1),
+            }
+        }
+    }
+
+    /// Adds so many errors.
+    pub(crate) fn add_errors(&mut self, count: usize) {
+        raise(&mut self.errors, count as u64);
+    }
+
+    /// Adds those of a file.
+    fn add(&mut self, other: Numbers) {
+        raise(&mut self.columns, other.columns);
+        raise(&mut self.geometries, other.geometries);
+        raise(&mut self.errors, other.errors);
+        raise(&mut self.warnings, other.warnings);
+        raise(&mut self.notes, other.notes);
+    }
+
+    /// Whether there is a finding.
+    fn has_findings(self) -> bool {
+        self.errors > 0 || self.warnings > 0 || self.notes > 0
+    }
+}
+
+/// Adds to a number, which stops at the greatest.
+fn raise(number: &mut u64, more: u64) {
+    *number = number.saturating_add(more);
+}
+
+/// What is counted over files, and kept of them.
+#[derive(Debug, Drop)]
+pub struct Tally {
+    /// How many files there are.
+    pub files: u64,
+    /// How many of them are not read to their end.
+    pub unread: u64,
+    /// Of how many something is found.
+    pub found_in: u64,
+    /// The columns and findings of those that are read.
+    pub numbers: Numbers,
+    /// Of a log of SARIF the rules of its results.
+    rules: Vec<Rule>,
+    /// Whether a result is printed in it.
+    pub(crate) has_results: bool,
+}
+
+impl Tally {
+    /// Returns that of no file.
+    pub fn new(alloc: Global) -> Tally {
+        Tally {
+            files: 0,
+            unread: 0,
+            found_in: 0,
+            numbers: Numbers::new(),
+            rules: Vec::new(alloc),
+            has_results: false,
+        }
+    }
+
+    /// Keeps a rule, unless one of its code is kept.
+    pub(crate) fn add_rule(&mut self, rule: Rule) -> Result<(), AllocError> {
+        if self.rules.iter().any(|kept| kept.code == rule.code) {
+            return Ok(());
+        }
+        Ok(self.rules.push(rule)?)
+    }
+
+    /// The rules that are kept.
+    pub(crate) fn rules(&self) -> &[Rule] {
+        self.rules.as_slice()
+    }
+
+    /// Adds a file that is read, of which so much is asked and not met.
+    pub(crate) fn add_file(&mut self, numbers: Numbers, unmet: usize) {
+        let mut numbers = numbers;
+        numbers.add_errors(unmet);
+        raise(&mut self.files, 1);
+        if numbers.has_findings() {
+            raise(&mut self.found_in, 1);
+        }
+        self.numbers.add(numbers);
+    }
+
+    /// Adds a file that is not read to its end.
+    pub(crate) fn add_unread(&mut self) {
+        raise(&mut self.files, 1);
+        raise(&mut self.unread, 1);
+    }
+}

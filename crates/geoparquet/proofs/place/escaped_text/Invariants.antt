@@ -1,6 +1,0 @@
-use Rattle.std.proofs.Common.{◌≡◌, flat_map, string_bytes, take}
-use Rattle.geoparquet.specs.Findings.{escaped_char}
-use Rattle.geoparquet.proofs.place.escaped_text.Given as goal
-
-abbrev pub invariant-loop-character : goal.invariant-loop-character
-invariant-loop-character l = string_bytes l.text ≡ flat_map escaped_char (take l.character-index l.characters)

@@ -1,0 +1,80 @@
+"""Tests of the words of refusals: the tables of docs/FORMAT.md have those of the definitions.
+
+Those of 2.8 are compared with what contracts cite of codes, of what is found and expected, and of
+what helps; those of 3.7, 4.3 and 4.4 with what is cited of the rules. Run by interop/test, or alone by
+`python3 -m unittest interop.test_refusal_words`, at the top of the repository.
+"""
+import pathlib
+import re
+import unittest
+
+from .finding_words import tables, text_in
+
+CRATES = pathlib.Path(__file__).resolve().parent.parent / "crates"
+IPC, FOOTER, ELEMENTS, FILES = (
+    (CRATES / crate / "specs" / file).read_text(encoding="utf-8")
+    for crate, file in (("arrow_ipc", "Rules.antt"), ("parquet_footer", "Rules.antt"),
+                        ("parquet_columns", "Rules.antt"), ("column_files", "Refusals.antt")))
+PRINTED = (CRATES / "file_check/specs/Printed.antt").read_text(encoding="utf-8")
+BUDGET = (CRATES / "parquet_columns/specs/Budget.antt").read_text(encoding="utf-8")
+TEXT = r'(?:Some \()?codes "((?:[^"\\]|\\.)*)"\)?'
+# Texts that have a name.
+NAMED = dict(re.findall(f"^(\\w+) = {TEXT}$", FILES + BUDGET, re.M))
+
+
+def said(spec, name):
+    """The texts of a definition by the variants on its left sides, and at "" that of any other."""
+    found = {}
+    for left, right in re.findall(f"^{name} (.+?) = (.+)$", spec, re.M):
+        text, cited = re.fullmatch(TEXT, right), re.fullmatch("(?:Some )?(\\w+)", right)
+        if text or right == "None" or cited and cited[1] in NAMED:
+            text = None if right == "None" else text[1] if text else NAMED[cited[1]]
+            variants = re.findall("\\b[A-Z]\\w*", left)
+            found[variants[-1] if variants else ""] = text and text.replace('\\"', '"')
+    return found
+
+
+def rows(*parts):
+    """The rows of the variants of which each part is said: a code, what is found, what is expected, and what helps."""
+    variants = {variant for part in parts for variant in part}
+    return {tuple(part.get(variant, part.get("")) for part in parts) for variant in variants
+            if all(variant in part or "" in part for part in parts)}
+
+
+def defined():
+    """The rows of 2.8 by the definitions, but for those that stand for other tables."""
+    parts, no_help = ("code", "found", "expected", "help"), {"": None}
+    of_rules = {rule: code for rule, code in said(FILES, "rule_code").items() if rule}
+    of_parquet = ({**said(FOOTER, name), **said(ELEMENTS, name)} for name in ("error_message", "error_wanted"))
+    of_long_lines, = re.findall(
+        f"^long_told .*\n  code = {TEXT};\n.*\n  found = {TEXT};\n  expected = {TEXT};\n  help = None;", FILES, re.M)
+    return (
+        rows(*(said(FILES, f"line_{part}") for part in parts)) | {(*of_long_lines, None)}
+        | rows(*(said(FILES, f"fault_{part}") for part in parts))
+        | rows(of_rules, said(IPC, "rule_message"), said(IPC, "rule_wanted"), said(FILES, "rule_help"))
+        | rows(said(FILES, "ipc_code"), said(IPC, "error_message"), said(IPC, "error_wanted"), no_help)
+        | rows(said(FILES, "parquet_code"), *of_parquet, said(FILES, "parquet_help"))
+        | rows(said(IPC, "write_code"), said(IPC, "write_message"), said(IPC, "write_wanted"), no_help))
+
+
+class Words(unittest.TestCase):
+    def test_refusals(self):
+        told = [tuple(map(text_in, row[:4])) for row in tables("code | found | expected | help | place")]
+        whole = [row for row in told if row[1] is not None]
+        self.assertEqual(len(whole), len(set(whole)))
+        self.assertEqual(set(whole), defined())
+        others = [*re.findall(f"^  code = {TEXT};$", PRINTED, re.M), said(FILES, "fault_code")["Foreign"], said(FILES, "parquet_code")["Invalid"],
+                  said(FILES, "rule_code")[""], said(FILES, "parquet_code")["Elements"]]
+        self.assertEqual(sorted(row[0] for row in told if row[1] is None), sorted(others))
+
+    def test_rules(self):
+        heads = "rule | broken at | what is wrong", "rule | broken where | what is wrong"
+        told = [tuple(text_in(row[at]) for at in (0, 2, 3)) for head in heads for row in tables(head)]
+        wanted = [(rule, wrong, said(spec, "rule_wanted")[rule]) for spec in (IPC, FOOTER, ELEMENTS)
+                  for rule, wrong in said(spec, "rule_message").items()]
+        self.assertEqual(told, wanted)
+        self.assertEqual(len(wanted), 18 + 12 + 8)
+
+
+if __name__ == "__main__":
+    unittest.main()
