@@ -67,6 +67,13 @@ class Words(unittest.TestCase):
                   said(FILES, "rule_code")[""], said(FILES, "parquet_code")["Elements"]]
         self.assertEqual(sorted(row[0] for row in told if row[1] is None), sorted(others))
 
+    def test_codes(self):
+        told = tables("code | found | expected | help | place")
+        codes = dict.fromkeys(text_in(row[0]) for row in told)  # each once, in their order
+        weighed = [text_in(row[0]) for row in tables("code | weighs | when")]
+        # Memory and what is written are no files.
+        self.assertEqual(sorted(weighed), sorted(code for code in codes if code not in ("OutOfMemory", "ColumnType", "SchemaTooLarge")))
+
     def test_rules(self):
         heads = "rule | broken at | what is wrong", "rule | broken where | what is wrong"
         told = [tuple(text_in(row[at]) for at in (0, 2, 3)) for head in heads for row in tables(head)]

@@ -23,9 +23,9 @@ commas between: a kind, a coordinate type, a dimension, an encoding (native, WKB
 as outline=point,XY,EPSG:4326.
 
 --deny and --allow may stand several times. CODE is one that --codes prints (docs/FORMAT.md 2.6,
-4.3, 4.5 and 5), or warnings for all that are warnings; what is said of a code counts before what
-is said of warnings, and of two words on the same the later. An invalid column always counts,
-whatever is said of the codes of why it is; why a file is refused has no such code, and counts too.
+2.8, 4.3, 4.5 and 5), or warnings for all that are warnings; what is said of a code counts before
+what is said of warnings, and of two words on the same the later. An invalid column always counts,
+whatever is said of the codes of why it is; why a file is refused counts too, and cannot be allowed.
 
 Status: 0 if no column is invalid, no finding counts as an error and all that is expected is met, 1
 otherwise, 2 if a file or the words cannot be read or the output fails,
