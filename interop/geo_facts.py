@@ -68,7 +68,7 @@ def against(fact, claims, counts):
             for source in sorted(SOURCES) if source != counts and claims[source] is not None}
 
 
-def crs_of(claims, it, metadata):
+def crs_of(claims, metadata):
     """The members of the CRS: its value, its type and its source; and the verdicts."""
     counts = counting(claims, {source: claims[source] and claims[source].is_default for source in SOURCES})
     if counts is None:
@@ -85,10 +85,8 @@ def crs_of(claims, it, metadata):
     return parts, against("crs", claims, counts)
 
 
-def edges_of(claims, it, metadata):
+def edges_of(claims, defaults):
     """The members of the edges, planar where no source says any; and the verdicts."""
-    own = metadata[FIELD].get("edges") if metadata[FIELD] else ABSENT
-    defaults = {ELEMENT: False, GEO: it is not None and it.at("edges") is ABSENT, FIELD: own in (ABSENT, None)}
     counts = counting(claims, defaults)
     if counts is None:
         return {"edges": '"planar"'}, {}
@@ -128,7 +126,8 @@ def column_facts(it, column, element):
     said[ELEMENT], said[FIELD] = geo_findings.claims_of(column, element)
     metadata = dict(zip((ELEMENT, FIELD), metadata_of(column, element)))
     of_fact = {fact: {source: getattr(said[source], fact) for source in SOURCES} for fact in ("crs", "edges", "encoding")}
-    crs, edges = crs_of(of_fact["crs"], it, metadata), edges_of(of_fact["edges"], it, metadata)
+    defaults = {source: said[source].edges_are_default for source in SOURCES}
+    crs, edges = crs_of(of_fact["crs"], metadata), edges_of(of_fact["edges"], defaults)
     encoding = encoding_of(of_fact["encoding"])
     verdicts = {fact: found for fact, (_, found) in (("crs", crs), ("edges", edges), ("encoding", encoding)) if found}
     whole = {"verdicts": compact(verdicts)} if verdicts else {}
@@ -137,6 +136,6 @@ def column_facts(it, column, element):
 
 def facts(geo, columns, elements=()):
     """The facts of the columns of a file by what it has at `geo` and what their elements say."""
-    elements = [*elements, *[geo_findings.SILENT] * (len(columns) - len(elements))]
+    elements = [*elements, *[geo_findings.NO_ELEMENT] * (len(columns) - len(elements))]
     return [column_facts(it, column, element)
             for it, column, element in zip(members_of(geo, columns, elements), columns, elements)]

@@ -15,25 +15,31 @@ import pathlib
 import re
 import sys
 
-from . import geo_crs
+from . import geo_crs, geo_layouts
 from .finding_words import shown, shown_bytes
 from .geo_json import ABSENT, Members, NotJson, Number, at, read, text_of
 
 ROWS = pathlib.Path(__file__).resolve().parent.parent / "crates/file_rows/data/geo"
 NAME, METADATA = "ARROW:extension:name", "ARROW:extension:metadata"
 # The rule, the key of `columns`, a JSON pointer, what stands at that place, and what is wanted.
-Finding = collections.namedtuple("Finding", "code column pointer found wanted")
+Finding = collections.namedtuple("Finding", "code column pointer found wanted more", defaults=(0,))
+MOST = 16  # (findings of one code in a column that are told one by one)
 
 # What a file has at `geo` where it has no value: nothing is missing, or it is a Parquet file.
 UNASKED, MISSING = (type(name, (), {})() for name in ("Unasked", "Missing"))
+# How the edges of an element are said: by itself, by default, as those of a GEOGRAPHY without an
+# algorithm, or not at all, by an algorithm that is not known.
+SAID, DEFAULT, BROKEN = "said", "by default", "not known"
 # What the element of a column says beside it: nothing; all that the column has, where it may name a
 # CRS or not; or extension metadata, beside those of a column that has an extension name of its own;
-# and whether its edges are known, as those of each algorithm that Parquet has.
-SILENT = None
-Given = collections.namedtuple("Given", "names_crs knows_edges", defaults=(True,))
-Beside = collections.namedtuple("Beside", "metadata knows_edges", defaults=(True,))
-# What a source says of a column: an encoding, a CRS, edges; each None where it says none.
-Claims = collections.namedtuple("Claims", "encoding crs edges")
+# how its edges are said; and its layout. A column of no Parquet file has none.
+Silent = collections.namedtuple("Silent", "layout", defaults=(geo_layouts.BYTES,))
+Given = collections.namedtuple("Given", "names_crs edges layout", defaults=(SAID, geo_layouts.BYTES))
+Beside = collections.namedtuple("Beside", "metadata edges layout", defaults=(SAID, geo_layouts.BYTES))
+SILENT, NO_ELEMENT = Silent(), None
+# What a source says of a column: an encoding, a CRS, edges; each None where it says none; and whether
+# the edges are the format's default, which nobody wrote.
+Claims = collections.namedtuple("Claims", "encoding crs edges edges_are_default")
 
 CODES = (
     "NoGeoMetadata",
@@ -74,8 +80,6 @@ VERSIONS = (
     (r"([2-9]|[1-9]\d{1,2})\.\d{1,3}\.\d{1,3}(\D.*)?", V2, "GeoNewVersion"),
     (r".*", V1_1, "GeoVersion"),
 )
-BYTES = ("binary", "large_binary", "binary_view")
-LISTS = ("list", "large_list")
 # The bounds of a covering, and those of boxes of four, six and eight numbers.
 FLAT, HIGH = ("xmin", "ymin", "xmax", "ymax"), ("xmin", "ymin", "xmax", "ymax", "zmin", "zmax")
 AXES = {4: "xy", 6: "xyz", 8: "xyzm"}
@@ -88,12 +92,12 @@ class Judged:
 
     def __init__(self, value, columns, elements):
         self.value, self.columns, self.found = value, columns, []
-        self.elements = [*elements, *[SILENT] * (len(columns) - len(elements))]
+        self.elements = [*elements, *[NO_ELEMENT] * (len(columns) - len(elements))]
 
     def column(self, name):
-        """The first column of a name and what its element says, if there is one."""
+        """The first column of a name and its element, if there is one."""
         pairs = zip(self.columns, self.elements)
-        return next((pair for pair in pairs if pair[0]["name"] == name), (None, SILENT))
+        return next((pair for pair in pairs if pair[0]["name"] == name), (None, NO_ELEMENT))
 
     def add(self, code, column, path, wanted=None, name=None):
         there = at(self.value, *path) if name is None else name
@@ -118,6 +122,11 @@ class Member:
 
     def has(self, *codes):
         return not self.codes.isdisjoint(codes)
+
+    def claims(self):
+        """What the element, the member and the field say, in the order in which they count."""
+        element, field = claims_of(self.column, self.element) if self.column else (NOTHING, NOTHING)
+        return element, claims_of_member(self), field
 
 
 def pointer_to(path):
@@ -161,7 +170,7 @@ def findings(geo, columns, elements=()):
 def add_missing(judged):
     """That a Parquet file has no metadata, where a column is one of geometries by its field alone."""
     pairs = zip(judged.columns, judged.elements)
-    if any(element is SILENT and encoding_claim(column) not in (None, "box") for column, element in pairs):
+    if any(not says(element) and encoding_claim(column) not in (None, "box") for column, element in pairs):
         judged.found.append(Finding("NoGeoMetadata", None, "", None, None))
 
 
@@ -226,7 +235,7 @@ def add_undeclared(judged, members):
     paths = [at(members.get(key), "covering", "bbox", bound, 0)
              for key in members.keys() for bound in HIGH]
     for column, element in zip(judged.columns, judged.elements):
-        is_geometry = element is not SILENT or encoding_claim(column) not in (None, "box")
+        is_geometry = says(element) or encoding_claim(column) not in (None, "box")
         name = column["name"]
         if is_geometry and name not in members.keys() and name not in paths:
             judged.add("GeoColumnUndeclared", name, ("columns",), name=name)
@@ -236,7 +245,7 @@ def add_member(it):
     """What is found of a member, in the order of the codes."""
     count = sum(column["name"] == it.key for column in it.judged.columns)
     if count != 1:
-        it.add("GeoColumnRepeated" if count else "GeoColumnMissing")
+        it.add("GeoColumnRepeated" if count else "GeoColumnMissing", name=it.key)
     if not isinstance(it.value, Members):
         it.add("GeoMember")
         if it.column:
@@ -253,7 +262,7 @@ def add_member(it):
         add_box(it)
         add_covering(it)
     add_contradictions(it)
-    if not is_old and on_projected(it):
+    if not is_old and on_projected(*it.claims()):
         it.add("EdgesOnProjected", "edges")
 
 
@@ -270,24 +279,27 @@ def encoding_of(it):
 
 def add_layout(it):
     encoding = encoding_of(it)
-    if it.column and encoding and layout_of(it.column["type"], encoding) is None:
-        it.add("GeoLayout", "encoding", wanted=encoding)
+    if it.column and encoding:
+        layout = geo_layouts.of_column(it.column, it.element)
+        if layout not in (geo_layouts.UNJUDGED, *strict_layouts(encoding)):
+            found = shown(geo_layouts.shown_of(it.column, it.element))
+            it.codes.add("GeoLayout")
+            place = pointer_to(("columns", it.key, "encoding"))
+            it.judged.found.append(Finding("GeoLayout", it.key, place, found, encoding))
 
 
-def layout_of(kind, encoding):
-    """What a type is by the strict layout of an encoding: `wkb`, or `xy` or `xyz`; or None."""
-    if encoding == "WKB":
-        return "wkb" if kind in BYTES else None
-    for _ in range(NATIVE[encoding][0]):
-        words = [word for word in LISTS if isinstance(kind, dict) and word in kind]
-        if not words:
-            return None
-        kind = kind[words[0]]["type"]
-    fields = kind.get("struct", ()) if isinstance(kind, dict) else ()
-    if any(field["nullable"] or field["type"] != "float64" for field in fields):
+def strict_layouts(encoding):
+    """The strict layouts of an encoding, each with what it is: `wkb`, or `xy` or `xyz`."""
+    return {geo_layouts.BYTES: "wkb"} if encoding == "WKB" else geo_layouts.native(NATIVE[encoding][0])
+
+
+def layout_of(it):
+    """What the column of a member is by the strict layout of its encoding: `wkb`, or `xy` or `xyz`;
+    None where it has no encoding or no column, or another layout, or where that is not judged."""
+    encoding = encoding_of(it)
+    if not (it.column and encoding):
         return None
-    names = tuple(field["name"] for field in fields)
-    return {("x", "y"): "xy", ("x", "y", "z"): "xyz"}.get(names)
+    return strict_layouts(encoding).get(geo_layouts.of_column(it.column, it.element))
 
 
 def split_type(text):
@@ -303,18 +315,25 @@ def add_types(it):
         it.add("GeoTypes", "geometry_types")
         return
     names = [split_type(item) for item in types]
-    for place, name in enumerate(names):
-        if name is None or name in names[:place]:
-            it.add("GeoTypes", "geometry_types", place)
-    for place, name in enumerate(names):
-        if name and name[1] not in it.version.suffixes:
-            it.add("GeoTypesVersion", "geometry_types", place)
-    encoding = encoding_of(it)
-    if it.column and encoding in NATIVE and not it.has("GeoLayout"):
-        suffix = {"xy": "", "xyz": " Z"}[layout_of(it.column["type"], encoding)]
-        for place, name in enumerate(names):
-            if name and (name[0] not in NATIVE[encoding][1] or name[1] != suffix):
-                it.add("TypesContradict", "geometry_types", place)
+    add_items(it, "GeoTypes", [place for place, name in enumerate(names)
+                               if name is None or name in names[:place]])
+    add_items(it, "GeoTypesVersion", [place for place, name in enumerate(names)
+                                      if name and name[1] not in it.version.suffixes])
+    suffix = {"xy": "", "xyz": " Z"}.get(layout_of(it))
+    if suffix is not None:
+        kinds = NATIVE[encoding_of(it)][1]
+        add_items(it, "TypesContradict", [place for place, name in enumerate(names)
+                                          if name and (name[0] not in kinds or name[1] != suffix)])
+
+
+def add_items(it, code, places):
+    """What is found of the types at these places, of which the last that is told one by one stands
+    for those behind it."""
+    for place in places[:MOST]:
+        it.add(code, "geometry_types", place)
+    if len(places) > MOST:
+        found = it.judged.found
+        found[-1] = found[-1]._replace(more=len(places) - MOST)
 
 
 def add_crs(it):
@@ -353,7 +372,7 @@ def add_box(it):
     axes = AXES[len(box)]
     for place, axis in enumerate(axes):
         most = box[place + len(axes)]
-        is_judged = axis != "x" or class_of(it) == "projected"
+        is_judged = axis != "x" or class_of(*it.claims()) == "projected"
         if is_judged and float(box[place].text) > float(most.text):
             it.add("GeoBboxOrder", "bbox", place, wanted=most.text)
     add_range(it, box, axes)
@@ -362,7 +381,7 @@ def add_box(it):
 
 def add_range(it, box, axes):
     """Longitudes and latitudes that are out of range, where the CRS is one of the pairs."""
-    crs = effective_crs(it)
+    crs = effective_crs(*it.claims())
     if it.has("GeoCrs", "CrsMalformed") or crs is None or not geo_crs.is_paired(crs):
         return
     for place, item in enumerate(box):
@@ -511,21 +530,32 @@ def own_metadata(column):
 
 
 DEFAULT_CRS = geo_crs.Claim("OGC:CRS84", False, True)
-NOTHING = Claims(None, None, None)
+NOTHING = Claims(None, None, None, False)
+
+
+def says(element):
+    """Whether an element says something: it is of a geometry type."""
+    return isinstance(element, (Given, Beside))
 
 
 def claims_of(column, element):
     """What the element of a column says, and what its field says by itself."""
     metadata = own_metadata(column)
     edges = None if metadata is None else edges_in(metadata)
-    field = Claims(encoding_claim(column), crs_in(metadata), edges)
-    if element is SILENT:
+    has_none = metadata is not None and metadata.get("edges") in (ABSENT, None)
+    field = Claims(encoding_claim(column), crs_in(metadata), edges, has_none)
+    if not says(element):
         return NOTHING, field
     if isinstance(element, Given):
         crs = crs_of_element(metadata) if element.names_crs else DEFAULT_CRS
-        return Claims("WKB", crs, edges if element.knows_edges else None), NOTHING
+        return claims_of_element(element, crs, edges), NOTHING
     beside = metadata_in(element.metadata)
-    return Claims("WKB", crs_of_element(beside), edges_in(beside) if element.knows_edges else None), field
+    return claims_of_element(element, crs_of_element(beside), edges_in(beside)), field
+
+
+def claims_of_element(element, crs, edges):
+    """What an element says that has such a CRS and such edges."""
+    return Claims("WKB", crs, None if element.edges == BROKEN else edges, element.edges == DEFAULT)
 
 
 # The facts on which sources may not agree, in the order of the codes of each verdict.
@@ -565,9 +595,13 @@ def disagreements(element, field, member):
 
 
 def add_alone(judged, column, element):
-    """What an element says beside the field of a column, without a member."""
-    for code, _, found, wanted in disagreements(*claims_of(column, element), NOTHING):
-        judged.found.append(Finding(code, column["name"], "", found, wanted))
+    """What an element says beside the field of a column, without a member, and what both say."""
+    name = column["name"]
+    of_element, field = claims_of(column, element)
+    for code, _, found, wanted in disagreements(of_element, field, NOTHING):
+        judged.found.append(Finding(code, name, "", found, wanted))
+    if on_projected(of_element, NOTHING, field):
+        judged.found.append(Finding("EdgesOnProjected", name, "", None, None))
 
 
 def add_contradictions(it):
@@ -583,8 +617,10 @@ def add_contradictions(it):
 
 
 def claims_of_member(it):
-    """What a member of `columns` says: what is wrong by itself says nothing."""
-    return Claims(None if it.has("GeoLayout") else encoding_of(it), said_crs(it), said_edges(it))
+    """What a member of `columns` says: what is wrong by itself says nothing, nor does an encoding
+    where it is not known that the column has its layout."""
+    encoding = encoding_of(it) if layout_of(it) else None
+    return Claims(encoding, said_crs(it), said_edges(it), it.at("edges") is ABSENT)
 
 
 def said_crs(it):
@@ -605,56 +641,70 @@ def said_edges(it):
     return edges if isinstance(edges, str) and edges in it.version.edges else None
 
 
-def effective_crs(it):
-    """The CRS that counts: the first that is said, by the element, the member and the field; or else
-    a default."""
-    element, field = claims_of(it.column, it.element) if it.column else (NOTHING, NOTHING)
-    claims = [crs for crs in (element.crs, said_crs(it), field.crs) if crs]
-    return next((crs for crs in claims if not crs.is_default), claims[0] if claims else None)
+def effective_crs(*claims):
+    """The CRS that counts: the first that is said, in the order of these claims; or else the first
+    default."""
+    said = [it.crs for it in claims if it.crs]
+    return next((crs for crs in said if not crs.is_default), said[0] if said else None)
 
 
-def class_of(it):
-    crs = effective_crs(it)
+def class_of(*claims):
+    crs = effective_crs(*claims)
     return geo_crs.class_of(crs) if crs else None
 
 
-def edges_that_count(it):
-    """The edges that count, by the same order; the field's are said where it has metadata."""
-    element, field = claims_of(it.column, it.element) if it.column else (NOTHING, NOTHING)
-    member = None if it.at("edges") is ABSENT else said_edges(it)
-    return next((edges for edges in (element.edges, member, field.edges) if edges), "planar")
+def effective_edges(*claims):
+    """The edges that count, by the same rule; planar where none are said."""
+    said = [it for it in claims if it.edges]
+    ordered = [it.edges for it in said if not it.edges_are_default] + [it.edges for it in said]
+    return ordered[0] if ordered else "planar"
 
 
-def on_projected(it):
+def on_projected(*claims):
     """Whether the edges that count are not planar, and the CRS that counts is projected."""
-    return edges_that_count(it) != "planar" and class_of(it) == "projected"
+    return effective_edges(*claims) != "planar" and class_of(*claims) == "projected"
+
+
+def element_of(words):
+    """The element that a row names, behind the line of its column: `silent`, `given`, `given CRS` or
+    extension metadata; then how its edges are said, as `, edges not known`, where it does not say
+    them; then `; layout` and its layout, where it is not bytes."""
+    words, _, layout = words.partition("; layout ")
+    layout = geo_layouts.of_words(layout or geo_layouts.WORD_OF_BYTES)
+    behind = re.search(f", edges ({DEFAULT}|{BROKEN})$", words)
+    words, edges = (words[:behind.start()], behind[1]) if behind else (words, SAID)
+    if words == "silent":
+        return Silent(layout)
+    given = words in ("given", "given CRS")
+    return Given(words == "given CRS", edges, layout) if given else Beside(words, edges, layout)
 
 
 def asked(command, text):
-    """What a row asks: what there is at `geo`, the columns, and what their elements say, each behind
-    the line of its column: `element given`, `element given CRS`, or `element METADATA`, and behind it
-    `, edges not known` where they are not."""
+    """What a row asks: what there is at `geo`, the columns, and their elements, each behind the line
+    of its column and the word `element`."""
     parts = text.split(" & ")
     geo = {"check_missing": MISSING, "check_unasked": UNASKED}.get(command) or parts.pop(0)
     geo = bytes.fromhex(geo) if command == "check_bytes" else geo
     columns, elements = [], []
     for part in filter(None, parts):
-        said, unknown, _ = part.partition(", edges not known")
-        given = re.fullmatch("element given( CRS)?", said)
-        if given:
-            elements[-1] = Given(given[1] is not None, not unknown)
-        elif part.startswith("element "):
-            elements[-1] = Beside(said.partition(" ")[2], not unknown)
+        if part.startswith("element "):
+            elements[-1] = element_of(part.partition(" ")[2])
         else:
             columns.append(json.loads(part))
-            elements.append(SILENT)
+            elements.append(NO_ELEMENT)
     return geo, columns, elements
+
+
+def words_of(finding):
+    """A finding as a row spells it: how many more it stands for only where there are some."""
+    said = "|".join("-" if part is None else part for part in finding[:5])
+    return f"{said}|{finding.more} more" if finding.more else said
 
 
 def answer(command, text):
     """The answer of a row: its version, and each finding."""
     version, found = findings(*asked(command, text))
-    said = " & ".join("|".join("-" if part is None else part for part in it) for it in found)
+    said = " & ".join(map(words_of, found))
     return version.name + (" " + said if said else "")
 
 

@@ -81,14 +81,28 @@ def help_of(code, version, found):
     return f"Did you mean {near}?" if near else said(code, "help", ROWS[code][4], version)
 
 
+# Where what is in no place of the metadata of GeoParquet is: of a file without any, and what a field
+# says against its element.
+FIELDS = {
+    "NoGeoMetadata": ("file", None),
+    "EncodingContradicts": ("field", None),
+    "CrsContradicts": ("extension metadata", "/crs"),
+    "CrsNotCompared": ("extension metadata", "/crs"),
+    "EdgesContradict": ("extension metadata", "/edges"),
+    "EdgesOnProjected": ("extension metadata", "/edges")}
+
+
 def parts(version, finding):
     """The parts of a finding, by the rules of a version."""
     code = finding.code
+    part, pointer = "geo", finding.pointer
+    if not pointer:
+        part, pointer = FIELDS.get(code, (part, pointer))
     return {
-        "severity": severity(code), "code": code, "column": finding.column, "in": "geo",
-        "pointer": finding.pointer, "found": finding.found,
+        "severity": severity(code), "code": code, "column": finding.column, "in": part,
+        "pointer": pointer, "found": finding.found,
         "expected": expected(code, version, finding.wanted),
-        "help": help_of(code, version, finding.found)}
+        "help": help_of(code, version, finding.found), "more": finding.more}
 
 
 def line(file, version, finding):

@@ -7,7 +7,7 @@ import json
 import unittest
 
 from . import geo_facts
-from .geo_findings import MISSING, UNASKED, Beside, Given
+from .geo_findings import BROKEN, DEFAULT, MISSING, UNASKED, Beside, Given, Silent
 
 MERCATOR = '{"type":"ProjectedCRS","name":"n","id":{"authority":"EPSG","code":3857}}'
 
@@ -54,6 +54,22 @@ class Facts(unittest.TestCase):
         (found,) = self.facts(geo(',"edges":"spherical"'), given, elements=[Given(True)])
         self.assertEqual((found["crs_from"], found["crs_type"], found["edges_from"], found["type_from"]), ("element", "authority_code", "element", "geo"))
         self.assertEqual(found["verdicts"], {"crs": {"geo": "contradict"}, "edges": {"geo": "agree"}, "encoding": {"element": "agree"}})
+
+    def test_edges_of_an_element_without_an_algorithm_count_behind_those_that_are_said(self):
+        element = Beside('{"edges":"spherical"}', DEFAULT)
+        for held, own, counts, source in (
+                (',"edges":"planar"', "{}", "planar", "geo"), ("", '{"edges":"karney"}', "karney", "field"), ("", "{}", "spherical", "element"),
+                (',"edges":"x"', None, "spherical", "element"), (',"edges":"spherical"', "{}", "spherical", "geo")):
+            (found,) = self.facts(geo(held), column(own), elements=[element])
+            self.assertEqual((found["edges"], found["edges_from"]), (counts, source))
+        (found,) = self.facts(UNASKED, column('{"edges":"spherical"}'), elements=[Given(False, BROKEN)])
+        self.assertEqual(found, {"crs": "OGC:CRS84", "crs_from": "element", "crs_type": "authority_code", "edges": "planar", "type_from": "element"})
+
+    def test_the_encoding_of_a_member_by_the_layout_of_the_element(self):
+        for layout, verdicts in (("BYTE_ARRAY", {"geo": "contradict"}), ("REQUIRED DOUBLE", None), ("not judged", None), ("group of x, y", None)):
+            (found,) = self.facts(geo(""), {**column(name="geoarrow.wkt"), "type": "utf8"}, elements=[Silent(layout)])
+            self.assertEqual(found.get("verdicts", {}).get("encoding"), verdicts)
+            self.assertEqual(found["type_from"], "field")
 
     def test_what_a_member_alone_says(self):
         said = ',"bbox":[1,2,3.50,4],"epoch":2020.0,"geometry_types":["Point","Polygon Z"],"orientation":"counterclockwise"'

@@ -7,7 +7,7 @@ import pathlib
 import re
 import unittest
 
-from . import geo_findings, geo_words
+from . import geo_findings, geo_layouts, geo_words
 from .geo_json import NotJson, read, text_of
 
 
@@ -40,6 +40,50 @@ class Json(unittest.TestCase):
         for text in ("", "NaN", "[1,]", "1e400", '"\\ud800"', "[" * 128 + "]" * 128, "[" * 100000):
             with self.subTest(text[:10]), self.assertRaises(NotJson):
                 read(text)
+
+
+class Layouts(unittest.TestCase):
+    """Layouts of types and of elements, by cases made by hand from docs/FORMAT.md, 5.5 and 3.4."""
+
+    @staticmethod
+    def lists(count, kind, word="list"):
+        for _ in range(count):
+            kind = {word: {"name": "item", "nullable": True, "type": kind}}
+        return kind
+
+    @staticmethod
+    def struct(*names, kind="float64", nullable=False):
+        return {"struct": [{"name": name, "nullable": nullable, "type": kind} for name in names]}
+
+    def test_types(self):
+        xy, xyz = self.struct("x", "y"), self.struct("x", "y", "z")
+        for kind, layout in (
+                ("binary", "BYTE_ARRAY"), ("binary_view", "BYTE_ARRAY"), ("utf8", None), (xy, "group of x, y"), (self.lists(1, xyz), "LIST of x, y, z"),
+                (self.lists(2, xy, "large_list"), "LIST of LIST of x, y"), (self.lists(3, xy), "LIST of LIST of LIST of x, y"), (self.struct("y", "x"), None),
+                (self.struct("x", "y", nullable=True), None), (self.struct("x", "y", kind="float32"), None), (self.struct("x"), None), (self.struct(), None),
+                (self.lists(1, "binary"), None), ({"other": "dictionary<int32, binary>"}, None)):
+            self.assertEqual(geo_layouts.of_type(kind), layout)
+
+    def test_encodings(self):
+        self.assertEqual(geo_findings.strict_layouts("WKB"), {"BYTE_ARRAY": "wkb"})
+        for encoding, words in (("point", "group of "), ("linestring", "LIST of "), ("multipoint", "LIST of "), ("polygon", "LIST of LIST of "),
+                                ("multilinestring", "LIST of LIST of "), ("multipolygon", "LIST of LIST of LIST of ")):
+            self.assertEqual(geo_findings.strict_layouts(encoding), {words + "x, y": "xy", words + "x, y, z": "xyz"})
+
+    def test_notation(self):
+        union = {"mode": "sparse", "union": [[3, {"name": "a", "nullable": False, "type": "int8"}], [0, {"name": "b", "nullable": True, "type": self.struct()}]]}
+        for kind, text in (
+                ("float64", "float64"), ({"other": "time32[s]"}, "time32[s]"), (self.struct("x", "y"), "struct<x: float64 not null, y: float64 not null>"),
+                (self.lists(1, "utf8", "large_list"), "large_list<item: utf8>"), (union, "sparse_union<a: int8 not null=3, b: struct<>=0>"),
+                ({"fixed_size_list": {"name": "i", "nullable": False, "type": "null"}, "size": 2}, "fixed_size_list<i: null not null>[2]")):
+            self.assertEqual(geo_layouts.notation(kind), text)
+
+    def test_elements_of_rows(self):
+        for words, element in (
+                ("silent", geo_findings.Silent()), ("silent; layout LIST of x, y, z", geo_findings.Silent("LIST of x, y, z")), ("given", geo_findings.Given(False)),
+                ("given CRS, edges by default", geo_findings.Given(True, geo_findings.DEFAULT)), ("given, edges not known; layout not judged", geo_findings.Given(False, geo_findings.BROKEN, "not judged")),
+                ('{"crs":"a, edges b"}', geo_findings.Beside('{"crs":"a, edges b"}')), ("{}, edges by default; layout bytes", geo_findings.Beside("{}", geo_findings.DEFAULT))):
+            self.assertEqual(geo_findings.element_of(words), element)
 
 
 class Words(unittest.TestCase):

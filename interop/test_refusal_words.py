@@ -1,7 +1,7 @@
 """Tests of the words of refusals: the tables of docs/FORMAT.md have those of the definitions.
 
-Those of 2.8 are compared with what contracts cite of codes, of what is found and expected, and of
-what helps; those of 3.7, 4.3 and 4.4 with what is cited of the rules. Run by interop/test, or alone by
+Those of 2.8 and 2.9 are compared with what contracts cite of codes, of what is found and expected, and
+of what helps; those of 3.7, 4.3 and 4.4 with what is cited of the rules. Run by interop/test, or alone by
 `python3 -m unittest interop.test_refusal_words`, at the top of the repository.
 """
 import pathlib
@@ -16,6 +16,8 @@ IPC, FOOTER, ELEMENTS, FILES = (
     for crate, file in (("arrow_ipc", "Rules.antt"), ("parquet_footer", "Rules.antt"),
                         ("parquet_columns", "Rules.antt"), ("column_files", "Refusals.antt")))
 PRINTED = (CRATES / "file_check/specs/Printed.antt").read_text(encoding="utf-8")
+UNLIKE = (CRATES / "file_check/specs/Unlike.antt").read_text(encoding="utf-8")
+FORMAT = (CRATES.parent / "docs/FORMAT.md").read_text(encoding="utf-8")
 BUDGET = (CRATES / "parquet_columns/specs/Budget.antt").read_text(encoding="utf-8")
 TEXT = r'(?:Some \()?codes "((?:[^"\\]|\\.)*)"\)?'
 # Texts that have a name.
@@ -74,13 +76,20 @@ class Words(unittest.TestCase):
         # Memory and what is written are no files.
         self.assertEqual(sorted(weighed), sorted(code for code in codes if code not in ("OutOfMemory", "ColumnType", "SchemaTooLarge")))
 
+    def test_same(self):
+        told = tables("what differs | where | found | expected | help")
+        helps = re.findall('codes "([A-Z][^"]*[.])"', UNLIKE)
+        self.assertEqual(sorted(text_in(row[4]) for row in told), sorted(text for text in helps if not text.startswith("Nothing")))
+        nothing = re.findall('codes "(no [^"]*)"', UNLIKE)
+        self.assertEqual(sorted(set(nothing)), sorted(re.findall("`(no [^`]*)`", FORMAT[FORMAT.index("### 2.9"):FORMAT.index("## 3. ")])))
+
     def test_rules(self):
         heads = "rule | broken at | what is wrong", "rule | broken where | what is wrong"
         told = [tuple(text_in(row[at]) for at in (0, 2, 3)) for head in heads for row in tables(head)]
         wanted = [(rule, wrong, said(spec, "rule_wanted")[rule]) for spec in (IPC, FOOTER, ELEMENTS)
                   for rule, wrong in said(spec, "rule_message").items()]
         self.assertEqual(told, wanted)
-        self.assertEqual(len(wanted), 18 + 12 + 8)
+        self.assertEqual(len(wanted), 18 + 11 + 10)
 
 
 if __name__ == "__main__":

@@ -104,7 +104,7 @@ Only columns and files of which something is found: of rows the invalid ones, an
   [1]
 
   $ geoarrow_check --problems ../crates/geoarrow_check/data/stored.parquet
-  warning[NoGeoMetadata] geo: expected metadata of GeoParquet at the key geo
+  warning[NoGeoMetadata] file: expected metadata of GeoParquet at the key geo
 
   $ geoarrow_check --problems --allow warnings ../crates/geoarrow_check/data/stored.parquet
 
@@ -112,7 +112,7 @@ Only columns and files of which something is found: of rows the invalid ones, an
   > geoarrow_check --problems stored.parquet file.arrow lines nowhere
   > printf '\357\273\277{"name":"a","nullable":true,"type":"null"}\n' > marked && geoarrow_check --problems --notes marked file.arrow
   stored.parquet:
-  warning[NoGeoMetadata] geo: expected metadata of GeoParquet at the key geo
+  warning[NoGeoMetadata] file: expected metadata of GeoParquet at the key geo
   lines: error[BadLine] line 2: found JSON that is no object; expected a JSON object
   nowhere: error[CannotRead]: found No such file or directory (os error 2); expected a file that can be read
   4 files: 3 columns, 2 of geometries; 1 error and 1 warning in 2 files; 1 file not read
@@ -146,7 +146,7 @@ Columns of Parquet files
   $ geoarrow_check ../crates/geoarrow_check/data/stored.parquet
   column  holds          CRS  edges
   g       large_wkb - -       planar
-  warning[NoGeoMetadata] geo: expected metadata of GeoParquet at the key geo
+  warning[NoGeoMetadata] file: expected metadata of GeoParquet at the key geo
 
   $ geoarrow_check --json - < ../crates/geoarrow_check/data/plain.parquet
   {"kind":"column","index":0,"column":"g","state":"plain","type":"binary"}
@@ -167,7 +167,7 @@ Columns of other types as lines, which are read back
   $ echo '{"metadata":{"ARROW:extension:name":"geoarrow.point"},"name":"p","nullable":true,"type":{"other":"map<e: null>"}}' | geoarrow_check -
   column  holds                   CRS  edges
   p       invalid geoarrow.point
-      error[UnsupportedType] field: found map<e: null>; expected coordinates. No layout of GeoArrow has this type.
+      error[UnexpectedType] field: found map<e: null>; expected coordinates. The layout has no such type there.
   [1]
 
 Behind two files and more: how many columns there are, what is found in how many files, and how many are not read
@@ -227,6 +227,20 @@ Only the end of an Arrow file is read, and only the first message of a stream
 
   $ (cat ../crates/geoarrow_check/data/stream.arrows; yes) | geoarrow_check --json -
   {"kind":"column","index":0,"column":"a","state":"plain","type":"int64"}
+
+A stream as written before Arrow 0.15, without the marker, as flatc wrote it: as standard input, and as a file; written anew, and cut off
+
+  $ cat > "$TMPDIR/old" << 'END'
+  > a40000001000000000000a000c000600050008000a000000000104000c0000000800080000000400080000000400000001000000180000000000120014000800060007000c00000000001000120000000000010244000000380000000400000001000000
+  > 0c00000008000c000400080008000000100000000400000000000000000000000000000000000600080004000600000020000000090000006c696e650a66656564000000
+  > END
+  > python3 -c 'import sys; sys.stdout.buffer.write(bytes.fromhex(sys.stdin.read()))' < "$TMPDIR/old" > "$TMPDIR/old.arrows" && cd "$TMPDIR" && geoarrow_check --json old.arrows && (cat old.arrows; yes) | geoarrow_check --json -
+  > geoarrow_check --ipc old.arrows | geoarrow_check --json - && head -c 100 old.arrows > cut && geoarrow_check cut
+  {"kind":"column","file":"old.arrows","index":0,"column":"line\nfeed","state":"plain","type":"uint32"}
+  {"kind":"column","index":0,"column":"line\nfeed","state":"plain","type":"uint32"}
+  {"kind":"column","index":0,"column":"line\nfeed","state":"plain","type":"uint32"}
+  cut: error[Truncated] message, byte 4: found a message that is cut off; expected as many bytes as its size says. The file is cut off, or still being written
+  [2]
 
 200,000 lines in memory that does not grow: 16 MB of addresses suffice, and the places of columns go on
 
@@ -506,7 +520,7 @@ Lines none of which is a column; and GeoJSON, or `{` alone, which refuse the fil
   column    holds               CRS  edges
   geometry  point separated XY       planar
   geometry  point separated XY       planar
-  -: error[ForeignFormat] line 3: found GeoJSON; expected an Arrow file, an Arrow stream, a Parquet file or lines of fields. Try ogr2ogr out.parquet FILE
+  -: error[BadLine] line 3: found no string at "name"; expected a string at "name"
   -: error[BadLine] byte 1, line 2: found no JSON, or more than 127 levels of it; expected a JSON object. One object on each line: try jq -c . FILE
   column    holds               CRS  edges
   geometry  point separated XY       planar
@@ -706,7 +720,7 @@ The status by what is found, notes too, of the files of a row each: how many, th
   >     geoarrow_check --quiet file > /dev/null
   >     echo $?
   > done | LC_ALL=C sort | uniq -c
-       91 0
+       93 0
        25 1
         5 ArrowSchemaContradicts 1
         1 ArrowSchemaContradicts CrsContradicts 1
@@ -725,15 +739,15 @@ The status by what is found, notes too, of the files of a row each: how many, th
         9 CrsKeyMissing 1
         3 CrsMalformed 1
         2 CrsNotCompared 0
-       12 EdgesContradict 1
+       14 EdgesContradict 1
+        4 EdgesContradict EdgesOnProjected 1
         1 EdgesContradict EdgesOnProjected GeoColumnRepeated 1
-        3 ElementInvalid 1
-        1 ElementInvalid EmptyGroup 1
+        2 EdgesOnProjected 0
+        4 ElementInvalid 1
         1 ElementInvalid NestedGeometry 1
         4 EmptyGroup 0
         1 EmptyGroup NestedGeometry 0
-        2 EncodingContradicts 1
-        1 EncodingContradicts GeoLayout 1
+        4 EncodingContradicts 1
         2 GeoColumnMissing 1
         2 GeoColumnMissing GeoColumnUndeclared 1
         1 GeoColumnMissing GeoMember 1
@@ -752,11 +766,9 @@ The status by what is found, notes too, of the files of a row each: how many, th
         5 GeoEncoding 1
         1 GeoEncoding GeoVersion RepeatedKey 1
         7 GeoLayout 1
-        1 GeoLayout LogicalTypeInvalid 1
         1 GeoNewVersion 0
         1 GeoNotInFooter 0
-        1 GeoNotInFooter NoGeoMetadata 0
-       10 GeoNotJson 1
+       14 GeoNotJson 1
         1 GeoNotObject 1
         5 GeoOldVersion 0
         1 GeoOldVersion 1
@@ -764,7 +776,7 @@ The status by what is found, notes too, of the files of a row each: how many, th
         1 GeoTypesVersion 1
         1 GeoVersion 1
         1 KeyNotText 0
-        3 LogicalTypeInvalid 1
+        4 LogicalTypeInvalid 1
         1 NestedGeometry 0
         6 NoGeoMetadata 0
        21 RepeatedKey 0
@@ -792,13 +804,13 @@ What is denied counts and is printed as an error; what is allowed is not printed
   >     geoarrow_check --quiet $words ../crates/geoarrow_check/data/stored.parquet > /dev/null
   >     echo $?
   > done
-  warning[NoGeoMetadata] geo: expected metadata of GeoParquet at the key geo
+  warning[NoGeoMetadata] file: expected metadata of GeoParquet at the key geo
   0
-  error[NoGeoMetadata] geo: expected metadata of GeoParquet at the key geo
-   error[NoGeoMetadata] geo
+  error[NoGeoMetadata] file: expected metadata of GeoParquet at the key geo
+   error[NoGeoMetadata] file
   1
-  error[NoGeoMetadata] geo: expected metadata of GeoParquet at the key geo
-   error[NoGeoMetadata] geo
+  error[NoGeoMetadata] file: expected metadata of GeoParquet at the key geo
+   error[NoGeoMetadata] file
   1
   0
   0
@@ -984,8 +996,8 @@ Findings as they count: a warning that is denied, one that is allowed, and a not
   >     geoarrow_check --format github $words - < ../crates/geoarrow_check/data/stored.parquet
   > done
   > printf '\357\273\277{"name":"a","nullable":true,"type":"null"}\n' | geoarrow_check --format github --notes -
-  ::warning title=NoGeoMetadata::geo: expected metadata of GeoParquet at the key geo
-  ::error title=NoGeoMetadata::geo: expected metadata of GeoParquet at the key geo
+  ::warning title=NoGeoMetadata::file: expected metadata of GeoParquet at the key geo
+  ::error title=NoGeoMetadata::file: expected metadata of GeoParquet at the key geo
   ::notice title=ByteOrderMark::file, byte 0: expected lines without one. It is passed over.
 
 What a workflow would read as its own: in the name of a file, and in a message
@@ -1062,6 +1074,154 @@ A log of SARIF: a result for each line of github, with its level, its file as a 
   True True True True
   True True True True
   True True True True
+
+Files that are to be the same: what differs from the first, in the order of the columns of the later file, the k-th of a name with the k-th; and last what only the first has
+
+  $ cat > "$TMPDIR/a.jsonl" << 'END'
+  > {"name":"id","nullable":true,"type":"int64"}
+  > {"metadata":{"ARROW:extension:metadata":"{\"crs\":\"EPSG:4326\",\"crs_type\":\"authority_code\",\"edges\":\"spherical\"}","ARROW:extension:name":"geoarrow.wkb"},"name":"geom","nullable":true,"type":"binary"}
+  > {"name":"old","nullable":true,"type":"utf8"}
+  > {"name":"two","nullable":true,"type":"utf8"}
+  > {"name":"two","nullable":true,"type":"int8"}
+  > {"name":"at","nullable":true,"type":{"other":"timestamp[ms]"}}
+  > END
+  > cat > "$TMPDIR/b.jsonl" << 'END'
+  > {"name":"two","nullable":true,"type":"utf8"}
+  > {"metadata":{"ARROW:extension:metadata":"{\"crs\":\"EPSG:3857\",\"crs_type\":\"authority_code\"}","ARROW:extension:name":"geoarrow.wkb"},"name":"geom","nullable":true,"type":"binary"}
+  > {"name":"id","nullable":false,"type":"int32"}
+  > {"name":"two","nullable":true,"type":"int16"}
+  > {"name":"two","nullable":true,"type":"int16"}
+  > {"name":"new","nullable":true,"type":"utf8"}
+  > {"name":"at","nullable":true,"type":{"other":"timestamp[us]"}}
+  > END
+  > cd "$TMPDIR" && geoarrow_check --same --problems a.jsonl b.jsonl
+  b.jsonl: error[NotSame] column geom: found planar; expected spherical. The first file has other edges.
+  b.jsonl: error[NotSame] column geom: found "EPSG:3857"; expected "EPSG:4326". The first file has another CRS.
+  b.jsonl: error[NotSame] column id: found int32; expected int64. The first file has another type.
+  b.jsonl: error[NotSame] column two: found int16; expected int8. The first file has another type.
+  b.jsonl: error[NotSame] column two: found int16; expected no such column. The first file has no such column.
+  b.jsonl: error[NotSame] column new: found utf8; expected no such column. The first file has no such column.
+  b.jsonl: error[NotSame] column at: found timestamp[us]; expected timestamp[ms]. The first file has another type.
+  b.jsonl: error[NotSame] column old: expected utf8. The column is missing.
+  2 files: 13 columns, 2 of geometries; 8 errors in 1 file
+  [1]
+
+The order of columns, their nullability and their metadata are not compared; each file is compared with the first, and counted once; one file is compared with nothing
+
+  $ sed '1!G;h;$!d' > "$TMPDIR/c.jsonl" << 'END'
+  > {"metadata":{"unit":"m"},"name":"id","nullable":false,"type":"int64"}
+  > {"metadata":{"ARROW:extension:metadata":"{\"crs\":\"epsg:4326\",\"edges\":\"spherical\"}","ARROW:extension:name":"geoarrow.wkb"},"name":"geom","nullable":false,"type":"binary"}
+  > END
+  > cat > "$TMPDIR/d.jsonl" << 'END'
+  > {"name":"id","nullable":true,"type":"int64"}
+  > {"metadata":{"ARROW:extension:metadata":"{\"crs\":\"EPSG:4326\",\"crs_type\":\"authority_code\",\"edges\":\"spherical\"}","ARROW:extension:name":"geoarrow.wkb"},"name":"geom","nullable":true,"type":"binary"}
+  > END
+  > head -n 1 "$TMPDIR/d.jsonl" > "$TMPDIR/e.jsonl"
+  > cd "$TMPDIR" && geoarrow_check --same -q c.jsonl d.jsonl c.jsonl && geoarrow_check --same -q d.jsonl && geoarrow_check --same -q d.jsonl e.jsonl d.jsonl e.jsonl
+  3 files: 6 columns, 3 of geometries; no findings
+  e.jsonl: error[NotSame] column geom: expected binary. The column is missing.
+  e.jsonl: error[NotSame] column geom: expected binary. The column is missing.
+  4 files: 6 columns, 2 of geometries; 2 errors in 2 files
+  [1]
+
+Types of geometries are alike or not, whatever their notations are; those of others are compared by their notations. Two extension names may say one encoding, or one may say none
+
+  $ cat > "$TMPDIR/a.jsonl" << 'END'
+  > {"metadata":{"ARROW:extension:name":"geoarrow.linestring"},"name":"alike","nullable":true,"type":{"list":{"name":"vertices","nullable":false,"type":{"struct":[{"name":"x","nullable":false,"type":"float64"},{"name":"y","nullable":false,"type":"float64"}]}}}}
+  > {"metadata":{"ARROW:extension:name":"geoarrow.linestring"},"name":"large","nullable":true,"type":{"list":{"name":"v","nullable":false,"type":{"struct":[{"name":"x","nullable":false,"type":"float64"},{"name":"y","nullable":false,"type":"float64"}]}}}}
+  > {"name":"plain","nullable":true,"type":{"list":{"name":"v","nullable":false,"type":"int8"}}}
+  > {"metadata":{"ARROW:extension:name":"geoarrow.wkb"},"name":"named","nullable":true,"type":"binary"}
+  > {"metadata":{"ARROW:extension:name":"geoarrow.wkt"},"name":"text","nullable":true,"type":"utf8"}
+  > END
+  > cat > "$TMPDIR/b.jsonl" << 'END'
+  > {"metadata":{"ARROW:extension:name":"geoarrow.multipoint"},"name":"alike","nullable":true,"type":{"list":{"name":"points","nullable":false,"type":{"struct":[{"name":"x","nullable":false,"type":"float64"},{"name":"y","nullable":false,"type":"float64"}]}}}}
+  > {"metadata":{"ARROW:extension:name":"geoarrow.linestring"},"name":"large","nullable":true,"type":{"large_list":{"name":"v","nullable":false,"type":{"struct":[{"name":"x","nullable":false,"type":"float64"},{"name":"y","nullable":false,"type":"float64"}]}}}}
+  > {"name":"plain","nullable":true,"type":{"list":{"name":"w","nullable":false,"type":"int8"}}}
+  > {"name":"named","nullable":true,"type":"binary"}
+  > {"metadata":{"ARROW:extension:name":"ogc.wkt"},"name":"text","nullable":true,"type":"utf8"}
+  > END
+  > cd "$TMPDIR" && geoarrow_check --same -q a.jsonl b.jsonl
+  b.jsonl: error[NotSame] column alike: found multipoint; expected linestring. The first file has another encoding.
+  b.jsonl: error[NotSame] column large: found large_list<v: struct<x: float64 not null, y: float64 not null> not null>; expected list<v: struct<x: float64 not null, y: float64 not null> not null>. The first file has another type.
+  b.jsonl: error[NotSame] column plain: found list<w: int8 not null>; expected list<v: int8 not null>. The first file has another type.
+  b.jsonl: error[NotSame] column named: expected WKB. The first file has another encoding.
+  2 files: 10 columns, 7 of geometries; 4 errors and 1 warning in 1 file
+  [1]
+
+  $ cd "$TMPDIR" && echo '{"name":"named","nullable":true,"type":"binary"}' > a.jsonl
+  > echo '{"metadata":{"ARROW:extension:name":"geoarrow.wkb"},"name":"named","nullable":true,"type":"binary"}' > b.jsonl
+  > geoarrow_check --same -q a.jsonl b.jsonl
+  > geoarrow_check --same --infer -q a.jsonl b.jsonl
+  b.jsonl: error[NotSame] column named: found WKB; expected no encoding. The first file has another encoding.
+  2 files: 2 columns, 1 of geometries; 1 error in 1 file
+  b.jsonl: error[NotSame] column named: found WKB; expected no encoding. The first file has another encoding.
+  2 files: 2 columns, 2 of geometries; 1 error in 1 file
+  [1]
+
+CRSs that nothing tells to be one or two, and one beside none, are a note, which may be denied; what contradicts may be allowed
+
+  $ for crs in '\"crs\":\"EPSG:3857\"' '\"crs\":\"4326\",\"crs_type\":\"srid\"' '\"crs\":null'
+  > do
+  >     echo '{"metadata":{"ARROW:extension:metadata":"{'"$crs"'}","ARROW:extension:name":"geoarrow.wkb"},"name":"g","nullable":true,"type":"binary"}'
+  > done | (cd "$TMPDIR" && split -l 1 - crs. && for options in '' '--notes' '--deny CrsNotCompared' '--deny CrsNotCompared --allow CrsNotCompared'
+  > do
+  >     geoarrow_check --same --format github $options crs.aa crs.ab crs.ac crs.aa
+  >     echo $?
+  > done)
+  0
+  ::notice file=crs.ab,title=CrsNotCompared::column g: found "4326"; expected "EPSG:3857". Nothing tells whether the CRS of the first file is this one.
+  ::notice file=crs.ac,title=CrsNotCompared::column g: expected "EPSG:3857". Nothing tells whether the CRS of the first file is this one.
+  0
+  ::error file=crs.ab,title=CrsNotCompared::column g: found "4326"; expected "EPSG:3857". Nothing tells whether the CRS of the first file is this one.
+  ::error file=crs.ac,title=CrsNotCompared::column g: expected "EPSG:3857". Nothing tells whether the CRS of the first file is this one.
+  1
+  0
+
+  $ cd "$TMPDIR" && echo '{"name":"a","nullable":true,"type":"int8"}' > a.jsonl && echo '{"name":"a","nullable":true,"type":"utf8"}' > b.jsonl
+  > geoarrow_check --same --format github --allow NotSame a.jsonl b.jsonl && geoarrow_check --same --format github --allow NotSame --deny NotSame a.jsonl b.jsonl
+  ::error file=b.jsonl,title=NotSame::column a: found utf8; expected int8. The first file has another type.
+  [1]
+
+Differences as lines of JSON, behind all lines of their file; and as results of a log, whose rule stands there once
+
+  $ cd "$TMPDIR" && echo '{"name":"a","nullable":true,"type":"int8"}' > a.jsonl && printf '\357\273\277%s\n%s\n' '{"name":"a","nullable":true,"type":"utf8"}' '{"name":"b","nullable":true,"type":"utf8"}' > b.jsonl
+  > geoarrow_check --same --json --notes a.jsonl b.jsonl
+  > geoarrow_check --same --format sarif a.jsonl b.jsonl | python3 -c 'import json, sys; run = json.load(sys.stdin)["runs"][0]; print([(it["ruleId"], it["level"], it["message"]["text"]) for it in run["results"]], run["tool"]["driver"]["rules"])'
+  {"kind":"column","file":"a.jsonl","index":0,"column":"a","state":"plain","type":"int8"}
+  {"kind":"column","file":"b.jsonl","index":0,"column":"a","state":"plain","type":"utf8"}
+  {"kind":"column","file":"b.jsonl","index":1,"column":"b","state":"plain","type":"utf8"}
+  {"kind":"finding","severity":"note","code":"ByteOrderMark","file":"b.jsonl","in":"file","byte":0,"expected":"lines without one","help":"It is passed over."}
+  {"kind":"finding","severity":"error","code":"NotSame","file":"b.jsonl","column":"a","found":"utf8","expected":"int8","help":"The first file has another type."}
+  {"kind":"finding","severity":"error","code":"NotSame","file":"b.jsonl","column":"b","found":"utf8","expected":"no such column","help":"The first file has no such column."}
+  [('NotSame', 'error', 'column a: found utf8; expected int8. The first file has another type.'), ('NotSame', 'error', 'column b: found utf8; expected no such column. The first file has no such column.')] [{'id': 'NotSame', 'shortDescription': {'text': 'a column is not as in the first file'}}]
+
+A file that is refused, or has a bad line, is not compared, and is not the first one; files of different formats are, and standard input, which has no name in lines of JSON
+
+  $ cd "$TMPDIR" && : > empty && echo '{"name":"a","nullable":true,"type":"int8"}' > a.jsonl && printf '%s\nbad\n' '{"name":"b","nullable":true,"type":"int8"}' > bad.jsonl
+  > echo '{"name":"a","nullable":true,"type":"utf8"}' | geoarrow_check --same --json empty bad.jsonl a.jsonl empty bad.jsonl - 2> /dev/null | grep NotSame
+  > cp "$top/crates/geoarrow_check/data/file.arrow" "$top/crates/geoarrow_check/data/geo.parquet" . && geoarrow_check --same --format github file.arrow file.arrow | grep -c NotSame; geoarrow_check --same --json geo.parquet a.jsonl | grep NotSame
+  {"kind":"finding","severity":"error","code":"NotSame","column":"a","found":"utf8","expected":"int8","help":"The first file has another type."}
+  0
+  {"kind":"finding","severity":"error","code":"NotSame","file":"a.jsonl","column":"a","found":"int8","expected":"no such column","help":"The first file has no such column."}
+  {"kind":"finding","severity":"error","code":"NotSame","file":"a.jsonl","column":"geom","expected":"binary","help":"The column is missing."}
+  {"kind":"finding","severity":"error","code":"NotSame","file":"a.jsonl","column":"place","expected":"binary","help":"The column is missing."}
+  {"kind":"finding","severity":"error","code":"NotSame","file":"a.jsonl","column":"region","expected":"binary","help":"The column is missing."}
+
+CRSs of GeoParquet: one that counts as a default beside one that is not known, and beside one that is said
+
+  $ cd "$TMPDIR" && grep -m 1 22637273223a6e756c6c "$top/crates/file_rows/data/reports/geo_files.rows" | sed 's/.* //' > digits
+  > python3 -c 'import sys; sys.stdout.buffer.write(bytes.fromhex(open("digits").read()))' > unknown
+  > python3 -c 'import sys; sys.stdout.buffer.write(bytes.fromhex(open("digits").read()).replace(b"\"crs\":null", b"\"crz\":null"))' > default
+  > echo '{"metadata":{"ARROW:extension:metadata":"{\"crs\":\"EPSG:4326\"}","ARROW:extension:name":"geoarrow.wkb"},"name":"geometry","nullable":true,"type":"binary"}' > said
+  > for files in 'default unknown' 'unknown default' 'default said' 'unknown said'
+  > do
+  >     geoarrow_check --same --format github --notes $files | grep Same
+  >     geoarrow_check --same --format github --notes $files | grep NotCompared
+  > done
+  ::notice file=unknown,title=CrsNotCompared::column geometry: found null; expected "OGC:CRS84". Nothing tells whether the CRS of the first file is this one.
+  ::notice file=default,title=CrsNotCompared::column geometry: found "OGC:CRS84"; expected null. Nothing tells whether the CRS of the first file is this one.
+  ::error file=said,title=NotSame::column geometry: found "EPSG:4326"; expected null. The first file has another CRS.
+  [1]
 
 Words that are answered at once
 
@@ -1182,10 +1342,12 @@ Words that are refused
     --lines
     --format <FORMAT>
 
-  $ for words in '--json --quiet' '--lines -q' '--problems --ipc' '--json --problems' '-q --format json' '--format=json --problems'
+  $ for words in '--same --lines' '--ipc --same' '--json --quiet' '--lines -q' '--problems --ipc' '--json --problems' '-q --format json' '--format=json --problems'
   > do
   >     geoarrow_check $words x 2>&1 | sed '/^$/,$d'
   > done
+  error: the argument '--same' cannot be used with '--lines'
+  error: the argument '--ipc' cannot be used with '--same'
   error: the argument '--json' cannot be used with '--quiet'
   error: the argument '--lines' cannot be used with '--quiet'
   error: the argument '--problems' cannot be used with '--ipc'

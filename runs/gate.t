@@ -141,7 +141,7 @@ What runs the examples of the docs: one that fails, one that does not compile, a
   > bin/examples | tail -n 1
   2 passed, 0 failed
   test example_0 ... ok
-  test example_1 ... FAILED at src/lib.rt:39:1 (docs/USE.md:2)
+  test example_1 ... FAILED at src/lib.rt:40:1 (docs/USE.md:2)
   
   2 passed, 1 failed
   status 1

@@ -21,7 +21,7 @@ from .tables import shown
 
 INVALID, FAILED = 1, 2
 NO_READER = 128 + 13  # what a shell says of a command that the signal SIGPIPE ends
-OF_THE_PROGRAM = ("--allow", "--codes", "--deny", "--expect", "--explain", "--format", "--ipc", "--lines", "--problems", "--quiet", "--require-geometry", "-q")
+OF_THE_PROGRAM = ("--allow", "--codes", "--deny", "--expect", "--explain", "--format", "--ipc", "--lines", "--problems", "--quiet", "--require-geometry", "--same", "-q")
 
 
 class _OfTheProgram(argparse.Action):

@@ -11,6 +11,7 @@ _ARROW_FILE = b"ARROW1"
 # How many bytes stand behind the footer: its size in four bytes, and the magic.
 _TAILS = {_ARROW_FILE: 10, b"PAR1": 8, b"PARE": 8}
 _CONTINUATION = b"\xff\xff\xff\xff"
+_MOST_LOOKED_AT = 64  # bytes from which the library tells the format
 _AT_ONCE = 1 << 20  # bytes that are asked for at once: a size that a file tells is not believed
 
 
@@ -95,6 +96,9 @@ def _of_file(file: Any, can_seek: bool) -> Given:
     head = _read(file, _HEAD)
     if head.startswith(_CONTINUATION):
         return Given(head + _read(file, int.from_bytes(head[4:], "little")))
+    if _is_unmarked_stream(head):
+        end = 4 + int.from_bytes(head[:4], "little")
+        return Given(head + _read(file, max(end, _MOST_LOOKED_AT) - _HEAD))
     tail = next((size for magic, size in _TAILS.items() if head.startswith(magic)), 0)
     if not tail or not can_seek:
         return Given(head + _read(file))
@@ -107,6 +111,11 @@ def _of_file(file: Any, can_seek: bool) -> Given:
     start = max(length - wanted, _HEAD)
     file.seek(start)
     return Given(head + _read(file), start - _HEAD)
+
+
+def _is_unmarked_stream(head: bytes) -> bool:
+    """Whether bytes may be those of a stream as written before Arrow 0.15: the size of its first message, and the root of that, both small."""
+    return len(head) == _HEAD and any(head[:3]) and not head[3] and not any(head[5:])
 
 
 def _read(file: Any, size: Optional[int] = None) -> bytes:

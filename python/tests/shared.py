@@ -28,7 +28,7 @@ READ = "an Arrow file, an Arrow stream, a Parquet file or lines of fields"
 IS_EMPTY = f"error[EmptyFile]: found no bytes, or blanks alone; expected {READ}. The writing or the copy broke off before its first byte"
 IS_TEXT = f"error[ForeignFormat]: found text; expected {READ}. Lines have one JSON object each"
 NO_NAME = 'error[BadLine] line 1: found no string at "name"; expected a string at "name"'
-NO_GEO_METADATA = Finding("warning", "NoGeoMetadata", source="geo", pointer="", expected="metadata of GeoParquet at the key geo")
+NO_GEO_METADATA = Finding("warning", "NoGeoMetadata", source="file", expected="metadata of GeoParquet at the key geo")
 # What is found in geo.parquet, in words (docs/FORMAT.md, 5.1).
 TYPES = "Point, LineString, Polygon, MultiPoint, MultiLineString, MultiPolygon or GeometryCollection"
 FOUND = [

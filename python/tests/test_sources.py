@@ -15,6 +15,7 @@ from .shared import DATA, POINT, TEXT
 
 LINES = f"{TEXT}\n{POINT}\n".encode()
 MESSAGE = b"\xff\xff\xff\xff" + (24).to_bytes(4, "little") + bytes(range(24))
+OLD = (100).to_bytes(4, "little") + b"\x10\0\0\0" + bytes(range(96))  # a stream as written before Arrow 0.15
 
 
 def arrow_file(footer, before=b""):
@@ -69,6 +70,10 @@ CONTENTS = {
     "stream that is cut": (MESSAGE[:-1], MESSAGE[:-1], 0),
     "stream that tells a size of 4 GiB": (b"\xff" * 8 + b"rest", b"\xff" * 8 + b"rest", 0),
     "large message": (b"\xff" * 4 + len(LARGE).to_bytes(4, "little") + LARGE + b"rest", b"\xff" * 4 + len(LARGE).to_bytes(4, "little") + LARGE, 0),
+    "stream without the marker": (OLD, OLD, 0),
+    "stream without the marker and batches": (OLD + LARGE, OLD, 0),
+    "short stream without the marker": (b"\x08\0\0\0\x08" + bytes(100), b"\x08\0\0\0\x08" + bytes(59), 0),
+    "no stream without the marker": (b"\0\0\0\0\x08" + bytes(100), b"\0\0\0\0\x08" + bytes(100), 0),
     "Arrow file": (arrow_file(b"footer"), arrow_file(b"footer"), 0),
     "large Arrow file": (arrow_file(b"footer", LARGE), arrow_file(b"footer"), len(LARGE)),
     "Arrow file with a footer of 3 MB": (arrow_file(LARGE, b"12345"), arrow_file(LARGE), 5),

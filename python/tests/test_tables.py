@@ -12,7 +12,7 @@ COLUMN = '{"kind":"column","index":0,"column":"t","state":"plain","type":"utf8"}
 ERROR = '{"kind":"finding","severity":"error","code":"GeoBbox","column":"t","in":"geo","pointer":"/columns/t/bbox","found":"[1]","expected":"m","help":"h?"}'
 NOTE = '{"kind":"finding","severity":"note","code":"GeoNewVersion","in":"geo","pointer":"/version","found":"\\"2.0.0\\"","expected":"1.0.0 or 1.1.0"}'
 WHOLE = '{"kind":"finding","severity":"error","code":"GeoNotObject","in":"geo","pointer":"","found":"[]","expected":"an object"}'
-WARNING = '{"kind":"finding","severity":"warning","code":"NoGeoMetadata","in":"geo","pointer":"","expected":"%s"}' % NO_GEO_METADATA.expected
+WARNING = '{"kind":"finding","severity":"warning","code":"NoGeoMetadata","in":"file","expected":"%s"}' % NO_GEO_METADATA.expected
 
 
 class Cells(html.parser.HTMLParser):
@@ -106,7 +106,7 @@ class Behind(unittest.TestCase):
             "error[GeoBbox] column t, geo /columns/t/bbox: found [1]; expected m. h?",
             'note[GeoNewVersion] geo /version: found "2.0.0"; expected 1.0.0 or 1.1.0',
             "error[GeoNotObject] geo: found []; expected an object",
-            "warning[NoGeoMetadata] geo: expected metadata of GeoParquet at the key geo"]
+            "warning[NoGeoMetadata] file: expected metadata of GeoParquet at the key geo"]
         self.assertEqual(repr(columns).split("\n")[2:], behind)
         self.assertEqual([one.is_error for one in columns.findings], [True, False, True, False])
         found = Cells(columns._repr_html_())

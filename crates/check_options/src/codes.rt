@@ -1,7 +1,7 @@
 //! The codes of findings, as they are printed without a file (docs/FORMAT.md, 2.7).
 use column_check::WarningCode;
 use column_reports::Code;
-use file_check::{REFUSALS, Rule};
+use file_check::{NOT_SAME, REFUSALS, Rule};
 use geoparquet::{GeoCode, Version};
 use parquet_columns::FileCode;
 use parquet_footer::FooterCode;
@@ -21,6 +21,8 @@ enum Known {
     Found(Code),
     /// With which a file is refused.
     Refused(Rule),
+    /// Of a difference from the first file.
+    Compared(Rule),
 }
 
 impl Known {
@@ -28,7 +30,7 @@ impl Known {
     fn word(self) -> &'static str {
         match self {
             Known::Found(code) => code.word(),
-            Known::Refused(rule) => rule.code,
+            Known::Refused(rule) | Known::Compared(rule) => rule.code,
         }
     }
 
@@ -37,6 +39,7 @@ impl Known {
         match self {
             Known::Found(Code::Column(_)) => "2.6",
             Known::Refused(_) => "2.8",
+            Known::Compared(_) => "2.9",
             Known::Found(Code::Text(_)) => "4.3",
             Known::Found(Code::File(_)) => "4.5",
             Known::Found(Code::Geo(_)) => "5",
@@ -48,14 +51,14 @@ impl Known {
         let word = self.word();
         let (severity, rule) = match self {
             Known::Found(code) => (code.severity().word(), code.rule()),
-            Known::Refused(rule) => ("error", rule.words),
+            Known::Refused(rule) | Known::Compared(rule) => ("error", rule.words),
         };
         format!(in alloc; "{severity}[{word}]: {rule}\n")
     }
 }
 
-/// Returns each code, in the order of docs/FORMAT.md: those of columns, of refused files, of footers,
-/// of the other parts of a Parquet file, and of GeoParquet metadata. Errs only when out of memory.
+/// Returns each code, in the order of docs/FORMAT.md: those of columns, of refused files, of files that
+/// are to be the same, of footers, of the other parts of a Parquet file, and of GeoParquet metadata. Errs only when out of memory.
 fn all_codes(alloc: Global) -> Result<Vec<Known>, AllocError> {
     let mut codes = Vec::new(alloc);
     for code in &WarningCode::ALL {
@@ -64,6 +67,7 @@ fn all_codes(alloc: Global) -> Result<Vec<Known>, AllocError> {
     for rule in &REFUSALS {
         codes.push(Known::Refused(*rule))?;
     }
+    codes.push(Known::Compared(NOT_SAME))?;
     for code in &FOOTER_CODES {
         codes.push(Known::Found(Code::Text(*code)))?;
     }
@@ -118,7 +122,7 @@ fn known_text(alloc: Global, known: Known) -> Result<String, AllocError> {
 /// Returns whether a code of findings is so called. Errs only when out of memory.
 pub(crate) fn is_code(alloc: Global, word: &str) -> Result<bool, AllocError> {
     let codes = all_codes(alloc)?;
-    Ok(codes.iter().any(|code| matches!(code, Known::Found(_)) && code.word() == word))
+    Ok(codes.iter().any(|code| !matches!(code, Known::Refused(_)) && code.word() == word))
 }
 
 /// Returns whether a code with which files are refused is so called.

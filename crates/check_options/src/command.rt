@@ -22,8 +22,11 @@ findings alone. What is asked and not met, and why a file is refused, is said wi
 commas between: a kind, a coordinate type, a dimension, an encoding (native, WKB, WKT), a CRS;
 as outline=point,XY,EPSG:4326.
 
+--same compares the columns of each further file that is read with those of the first, by their
+names: their types, encodings, edges and CRSs (docs/FORMAT.md, 2.9). It excludes --lines and --ipc.
+
 --deny and --allow may stand several times. CODE is one that --codes prints (docs/FORMAT.md 2.6,
-2.8, 4.3, 4.5 and 5), or warnings for all that are warnings; what is said of a code counts before
+2.8, 2.9, 4.3, 4.5 and 5), or warnings for all that are warnings; what is said of a code counts before
 what is said of warnings, and of two words on the same the later. An invalid column always counts,
 whatever is said of the codes of why it is; why a file is refused counts too, and cannot be allowed.
 
@@ -117,10 +120,16 @@ fn coded<'a>(alloc: Global, name: &'a str, help: &'a str) -> Arg<'a> {
 
 /// The options for which the status counts.
 fn with_demands<'a>(alloc: Global, command: Command<'a>) -> Result<Command<'a>, AllocError> {
+    let same = "Give status 1 where a file has other columns than the first";
     let require_geometry = "Give status 1 where a file has no column of geometries";
     let expect = "Give status 1 where the column holds other geometries, or none";
     command
         .arg(flag(alloc, "require-geometry", require_geometry))?
+        .arg(
+            flag(alloc, "same", same)
+                .conflicts_with("lines")?
+                .conflicts_with("ipc")?,
+        )?
         .arg(
             Arg::new(alloc, "expect")
                 .long("expect")

@@ -18,6 +18,7 @@ pub(crate) fn flags_of(matches: &ArgMatches<'_>) -> Flags {
         quiet: matches.get_flag("quiet"),
         problems: matches.get_flag("problems"),
         require_geometry: matches.get_flag("require-geometry"),
+        same: matches.get_flag("same"),
     }
 }
 

@@ -13,7 +13,7 @@ use Rattle.column_check.specs.Shown.{shown, shown_value, type_shown}
 use Rattle.column_check.specs.declared.code.WarningCode.{WarningCode}
 use Rattle.column_check.specs.declared.code.WarningCode.TheVariants as found
 use Rattle.column_check.specs.declared.data_type.TypeFault.{TypeFault}
-use Rattle.column_check.specs.declared.data_type.TypeFault.TheVariants.{UnsupportedType, WrongStorage, Layout}
+use Rattle.column_check.specs.declared.data_type.TypeFault.TheVariants.{WrongStorage, Layout}
 use Rattle.column_check.specs.declared.metadata.MetadataFault.{MetadataFault}
 use Rattle.column_check.specs.declared.metadata.MetadataFault.TheVariants.{NotJson, NotObject, UnknownCrsType, UnknownEdges, UnknownCrsTypeAndEdges}
 use Rattle.column_check.specs.declared.finding.Reasons.{Reasons}
@@ -44,12 +44,10 @@ tree_along o (i ∷ p) = tree_along (child_type o i) p
 
 -- the code of a fault of a type, and where it is
 abbrev pub type_code : TypeFault → WarningCode
-type_code UnsupportedType = found.UnsupportedType
 type_code WrongStorage = found.WrongStorage
 type_code (Layout fault path) = found.Layout fault
 
 abbrev pub type_path : TypeFault → Path
-type_path UnsupportedType = []
 type_path WrongStorage = []
 type_path (Layout fault path) = path.items
 

@@ -1,16 +1,17 @@
 -- Of which kind a column's type is under an extension name, and why it is of none.
-use Rattle.std.specs.Prelude.{⊤, [], Result, Ok, Err}
+use Rattle.std.specs.Prelude.{◌≡◌, ⊤, [], Result, Ok, Err}
 use Rattle.arrow_columns.specs.Column.{TypeTree, known, other}
 use Rattle.geoarrow_layout.specs.declared.names.ExtensionName.{ExtensionName}
 use Rattle.geoarrow_layout.specs.declared.names.ExtensionName.TheVariants.{Wkb, Wkt}
 use Rattle.geoarrow_layout.specs.declared.native_kinds.Kind.{Kind}
+use Rattle.geoarrow_layout.specs.declared.fault.LayoutFault.{LayoutFault}
 use Rattle.geoarrow_layout.specs.declared.fault.LayoutFault.TheVariants.{UnexpectedType}
 use Rattle.geoarrow_layout.specs.Kinds.{name_text}
 use Rattle.geoarrow_layout.specs.Shapes.{Accepts}
-use Rattle.geoarrow_layout.specs.FaultAt.{FaultAt}
+use Rattle.geoarrow_layout.specs.FaultAt.{Path, FaultAt}
 use Rattle.geoarrow_layout.specs.Inferred.{InferredAs}
 use Rattle.column_check.specs.declared.data_type.TypeFault.{TypeFault}
-use Rattle.column_check.specs.declared.data_type.TypeFault.TheVariants.{UnsupportedType, WrongStorage, Layout}
+use Rattle.column_check.specs.declared.data_type.TypeFault.TheVariants.{WrongStorage, Layout}
 
 -- the name is that of well-known binary or of well-known text
 abbrev pub IsSerialized : ExtensionName → Type 0
@@ -23,13 +24,16 @@ abbrev pub TypeAccepted : ExtensionName → TypeTree → Kind → Type 0
 TypeAccepted n (known t) k = Accepts (name_text n) t k
 TypeAccepted n (other s) k = ⊥
 
--- why the type is of no kind under the name: it is none of the 26 data types; it is no bytes or no text, under the name of
--- well-known binary or text; or it has a fault at the end of that path of child fields
+-- the type has that fault under the name, at the end of that path of child fields; one that is none of the 26 data types has no child fields, and stands where
+-- no layout has it
+abbrev pub TypeFaultAt : ExtensionName → TypeTree → Path → LayoutFault → Type 0
+TypeFaultAt n (known t) path fault = FaultAt n t path fault
+TypeFaultAt n (other s) path fault = (path ≡ []) × (fault ≡ UnexpectedType)
+
+-- why the type is of no kind under the name: it is no bytes or no text, under the name of well-known binary or text; or it has a fault at the end of that path
 abbrev pub HasTypeFault : ExtensionName → TypeTree → TypeFault → Type 0
-HasTypeFault n (other s) UnsupportedType = ⊤
-HasTypeFault n (known t) WrongStorage = IsSerialized n × FaultAt n t [] UnexpectedType
-HasTypeFault n (known t) (Layout fault path) = ¬ IsSerialized n × FaultAt n t path.items fault
-HasTypeFault n t f = ⊥
+HasTypeFault n t WrongStorage = IsSerialized n × TypeFaultAt n t [] UnexpectedType
+HasTypeFault n t (Layout fault path) = ¬ IsSerialized n × TypeFaultAt n t path.items fault
 
 -- what a type is read as under a name
 abbrev pub IsTypeRead : ExtensionName → TypeTree → Result Kind TypeFault → Type 0

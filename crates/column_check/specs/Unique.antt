@@ -2,7 +2,7 @@
 use Rattle.std.specs.Prelude.{◌≡◌, ⊤}
 use Rattle.column_check.specs.Metadata.{values_of}
 use Rattle.column_check.specs.declared.data_type.TypeFault.{TypeFault}
-use Rattle.column_check.specs.declared.data_type.TypeFault.TheVariants.{UnsupportedType, WrongStorage, Layout}
+use Rattle.column_check.specs.declared.data_type.TypeFault.TheVariants.{WrongStorage, Layout}
 use Rattle.column_check.specs.declared.finding.Reasons.{Reasons}
 use Rattle.column_check.specs.declared.finding.Reasons.TheVariants.{UnknownExtension, DataType, Metadata, DataTypeAndMetadata, Unread}
 use Rattle.column_check.specs.declared.finding.Geometry.{Geometry as GeometryColumn}
@@ -15,7 +15,6 @@ SameGeometry g h = (g.kind ≡ h.kind) × (values_of g.metadata ≡ values_of h.
 
 -- the same fault, on the same path
 abbrev pub SameTypeFault : TypeFault → TypeFault → Type 0
-SameTypeFault UnsupportedType UnsupportedType = ⊤
 SameTypeFault WrongStorage WrongStorage = ⊤
 SameTypeFault (Layout f path) (Layout g other) = (f ≡ g) × (path.items ≡ other.items)
 SameTypeFault _ _ = ⊥

@@ -13,7 +13,6 @@ use Rattle.column_check.specs.declared.code.WarningCode.TheVariants as warnings
 
 abbrev pub warning_code : WarningCode → Text
 warning_code warnings.UnknownExtension = codes "UnknownExtension"
-warning_code warnings.UnsupportedType = codes "UnsupportedType"
 warning_code warnings.WrongStorage = codes "WrongStorage"
 warning_code (warnings.Layout fault) = fault_code fault
 warning_code warnings.MetadataNotJson = codes "MetadataNotJson"
@@ -41,7 +40,6 @@ warning_code warnings.NestedGeometry = codes "NestedGeometry"
 
 abbrev pub severity_of : WarningCode → Severity
 severity_of warnings.UnknownExtension = Error
-severity_of warnings.UnsupportedType = Error
 severity_of warnings.WrongStorage = Error
 severity_of (warnings.Layout fault) = Error
 severity_of warnings.MetadataNotJson = Error
@@ -69,7 +67,6 @@ severity_of warnings.NestedGeometry = Warning
 
 abbrev pub warning_message : WarningCode → Text
 warning_message warnings.UnknownExtension = codes "GeoArrow has no extension type of this name"
-warning_message warnings.UnsupportedType = codes "no layout of GeoArrow has this type"
 warning_message warnings.WrongStorage = codes "well-known binary needs a binary type, and well-known text a text type"
 warning_message (warnings.Layout fault) = fault_text fault
 warning_message warnings.MetadataNotJson = codes "metadata is not JSON"
@@ -97,7 +94,6 @@ warning_message warnings.NestedGeometry = codes "child field has a GeoArrow exte
 
 abbrev pub warning_expected : WarningCode → Text
 warning_expected warnings.UnknownExtension = codes "geoarrow.point, geoarrow.linestring, geoarrow.polygon, geoarrow.multipoint, geoarrow.multilinestring, geoarrow.multipolygon, geoarrow.geometrycollection, geoarrow.geometry, geoarrow.box, geoarrow.wkb or geoarrow.wkt"
-warning_expected warnings.UnsupportedType = codes "the layout of its extension name"
 warning_expected warnings.WrongStorage = codes "the layout of its extension name"
 warning_expected (warnings.Layout fault) = codes "the layout of its extension name"
 warning_expected warnings.MetadataNotJson = codes "JSON"
@@ -125,7 +121,6 @@ warning_expected warnings.NestedGeometry = codes "the name of a column alone"
 
 abbrev pub warning_help : WarningCode → Option Text
 warning_help warnings.UnknownExtension = Some (codes "Names are compared letter by letter.")
-warning_help warnings.UnsupportedType = Some (codes "No layout of GeoArrow has this type.")
 warning_help warnings.WrongStorage = None
 warning_help (warnings.Layout fault) = Some (fault_help fault)
 warning_help warnings.MetadataNotJson = Some (codes "Keys and texts stand in double quotes.")

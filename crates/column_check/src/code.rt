@@ -23,11 +23,9 @@ pub enum WarningCode {
     /// The extension name begins with `geoarrow.`, in any letters, or with `ogc.`, and is none of the
     /// eleven, nor an old one of them.
     UnknownExtension,
-    /// The type is none of the 26 data types that a layout may have.
-    UnsupportedType,
     /// The extension name is that of well-known binary or text, and the type is no bytes or no text.
     WrongStorage,
-    /// The data type has that fault under the extension name (GeoArrow, "Native encoding").
+    /// The type has that fault under the extension name (GeoArrow, "Native encoding").
     Layout(LayoutFault),
     /// The extension metadata are not JSON.
     MetadataNotJson,
@@ -83,9 +81,8 @@ pub enum WarningCode {
 
 impl WarningCode {
     /// Each code, in the order of docs/FORMAT.md, 2.6.
-    pub const ALL: [WarningCode; 36] = [
+    pub const ALL: [WarningCode; 35] = [
         WarningCode::UnknownExtension,
-        WarningCode::UnsupportedType,
         WarningCode::WrongStorage,
         WarningCode::Layout(LayoutFault::UnexpectedType),
         WarningCode::Layout(LayoutFault::BadInterleavedName),
@@ -128,7 +125,6 @@ impl WarningCode {
     {
         match self {
             WarningCode::UnknownExtension => "UnknownExtension",
-            WarningCode::UnsupportedType => "UnsupportedType",
             WarningCode::WrongStorage => "WrongStorage",
             WarningCode::Layout(fault) => fault_code(fault),
             WarningCode::MetadataNotJson => "MetadataNotJson",
@@ -162,7 +158,6 @@ impl WarningCode {
     {
         match self {
             WarningCode::UnknownExtension
-            | WarningCode::UnsupportedType
             | WarningCode::WrongStorage
             | WarningCode::Layout(_)
             | WarningCode::MetadataNotJson
@@ -184,7 +179,6 @@ impl WarningCode {
     {
         match self {
             WarningCode::UnknownExtension => "GeoArrow has no extension type of this name",
-            WarningCode::UnsupportedType => "no layout of GeoArrow has this type",
             WarningCode::WrongStorage => STORAGE_MESSAGE,
             WarningCode::Layout(fault) => fault.text(),
             WarningCode::MetadataNotJson => "metadata is not JSON",
@@ -220,7 +214,6 @@ impl WarningCode {
     {
         match self {
             WarningCode::UnknownExtension => NAMES,
-            WarningCode::UnsupportedType => "the layout of its extension name",
             WarningCode::WrongStorage => "the layout of its extension name",
             WarningCode::Layout(_) => "the layout of its extension name",
             WarningCode::MetadataNotJson => "JSON",
@@ -254,7 +247,6 @@ impl WarningCode {
     {
         match self {
             WarningCode::UnknownExtension => Some("Names are compared letter by letter."),
-            WarningCode::UnsupportedType => Some("No layout of GeoArrow has this type."),
             WarningCode::Layout(fault) => Some(fault_help(fault)),
             WarningCode::MetadataNotJson => Some("Keys and texts stand in double quotes."),
             WarningCode::UnknownEdges => Some("Leave it out where edges are planar."),

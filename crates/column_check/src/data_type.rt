@@ -1,7 +1,8 @@
 //! The kind of a column's type under an extension name, or why it is of none.
 ghost use Rattle.std.specs.Prelude.{◌↔◌, IfOk, IsTrue};
+ghost use Rattle.arrow_values.specs.Tree.{Text};
 ghost use Rattle.arrow_values.specs.View.{tree};
-ghost use Rattle.arrow_columns.specs.Column.{type_tree, known};
+ghost use Rattle.arrow_columns.specs.Column.{type_tree, known, other};
 ghost use Rattle.column_check.specs.Types.{IsSerialized, HasTypeFault, IsTypeRead};
 ghost use Rattle.geoarrow_layout.specs.declared.native_kinds.Kind.{Kind};
 ghost use Rattle.geoarrow_layout.specs.Kinds.{name_text};
@@ -15,12 +16,11 @@ use std::alloc::{AllocError, Global};
 /// Why a column's type is of no kind under an extension name (GeoArrow, "Native encoding").
 #[derive(Debug, Drop)]
 pub enum TypeFault {
-    /// The type is none of the 26 data types that a layout may have.
-    UnsupportedType,
     /// The name is that of well-known binary or text, and the type is no bytes or no text.
     WrongStorage,
-    /// The data type has this fault at the end of a path of child fields, outermost first, as
-    /// `find_fault` of `geoarrow_layout` answers one.
+    /// The type has this fault at the end of a path of child fields, outermost first, as
+    /// `find_fault` of `geoarrow_layout` answers one of a data type. One that is none of the 26 data
+    /// types that a layout may have is itself unexpected.
     Layout(LayoutFault, Vec<usize>),
 }
 
@@ -29,6 +29,11 @@ pub enum TypeFault {
 /// ```rust
 /// let found = kind_under(alloc, ExtensionName::Wkb, &AnyType::Data(DataType::Utf8))?;
 /// assert!(rt; matches!(found, Err(TypeFault::WrongStorage)));
+/// let time = AnyType::Other(String::from_str(alloc, "timestamp[ms]")?);
+/// let found = kind_under(alloc, ExtensionName::Wkb, &time)?;
+/// assert!(rt; matches!(found, Err(TypeFault::WrongStorage)));
+/// let found = kind_under(alloc, ExtensionName::Geometry, &time)?;
+/// assert!(rt; matches!(found, Err(TypeFault::Layout(LayoutFault::UnexpectedType, path)) if path.is_empty()));
 /// ```
 pub fn kind_under(
     alloc: Global,
@@ -38,12 +43,22 @@ pub fn kind_under(
     ensures { IfOk result (IsTypeRead name (type_tree column_type.now)) }
 {
     match column_type {
-        AnyType::Other(_) => Ok(Err(TypeFault::UnsupportedType)),
+        AnyType::Other(_) => Ok(Err(other_fault(alloc, name))),
         AnyType::Data(data_type) => match parse_kind(name, data_type) {
             Ok(kind) => Ok(Ok(kind)),
             Err(_) => Ok(Err(fault_under(alloc, name, data_type)?)),
         },
     }
+}
+
+/// Why a type that is none of the 26 data types is of no kind under an extension name.
+fn other_fault(alloc: Global, name: ExtensionName) -> TypeFault
+    ensures { (s : Text) → HasTypeFault name (other s) result }
+{
+    if is_serialized(name) {
+        return TypeFault::WrongStorage;
+    }
+    TypeFault::Layout(LayoutFault::UnexpectedType, Vec::new(alloc))
 }
 
 /// Why a data type is of no kind under an extension name.

@@ -119,7 +119,6 @@ fn type_code(fault: &TypeFault) -> WarningCode
     ensures { result ≡ type_code fault.now }
 {
     match fault {
-        TypeFault::UnsupportedType => WarningCode::UnsupportedType,
         TypeFault::WrongStorage => WarningCode::WrongStorage,
         TypeFault::Layout(fault, _) => WarningCode::Layout(*fault),
     }
@@ -130,7 +129,7 @@ fn type_path(fault: &TypeFault) -> &[usize]
     ensures { result.now ≡ type_path fault.now }
 {
     match fault {
-        TypeFault::UnsupportedType | TypeFault::WrongStorage => &[],
+        TypeFault::WrongStorage => &[],
         TypeFault::Layout(_, path) => path.as_slice(),
     }
 }

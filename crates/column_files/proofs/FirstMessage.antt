@@ -1,58 +1,81 @@
 -- The first message of a stream is all that is read of it, and of another format all bytes.
-use Rattle.std.proofs.Common.{◌≡◌, ◌⊎◌, inl, inr, ℕ, ◌+◌, ◌-◌, ◌<◌, ◌≤◌, true, ◌&&◌, nat_lt, nat_le, List, [], ◌∷◌, ◌++◌, length, take, drop, if◌then◌else◌, Option, Some, None, IfSome, Ok, refl, sym, ap, ◌∙◌, subst, append-nil, append_assoc, arith}
+use Rattle.std.proofs.Common.{◌≡◌, ◌⊎◌, inl, inr, ℕ, ◌+◌, ◌-◌, ◌<◌, ◌≤◌, ◌==◌, Bool, true, false, ◌&&◌, nat_lt, nat_le, List, [], ◌∷◌, ◌++◌, length, take, drop, if◌then◌else◌, Option, Some, None, IfSome, Result, Ok, refl, sym, ap, ◌∙◌, subst, append-nil, append_assoc, arith}
 use Rattle.std.specs.Int.{w32, from_le_bytes}
 use Rattle.std.specs.Io.KnownBytes.{IsAtEnd}
 use Rattle.std.proofs.lemmas.Bool.{cases_lt, le-leb}
-use Rattle.std.proofs.lemmas.List.{length-append, length-take-le, take-append-le, take_all}
+use Rattle.std.proofs.lemmas.List.{length-append, length-drop, drop-append-le, take-append-le}
 use Rattle.arrow_ipc.specs.Fault.{breaks}
+use Rattle.arrow_ipc.specs.declared.fault.IpcFault.{IpcFault}
+use Rattle.arrow_ipc.specs.declared.fault.IpcRule.{IpcRule}
 use Rattle.arrow_ipc.specs.declared.fault.IpcRule.TheVariants.{Cut, EndOfStream}
 use Rattle.arrow_ipc.specs.Schema.{message_in, message_of, cut, schema_of_message}
 use Rattle.arrow_ipc.specs.Wire.{integer_at}
 use Rattle.arrow_ipc.specs.Entries.{entries_of_message}
-use Rattle.column_files.specs.Forms.{IsForm, head_form}
+use Rattle.column_files.specs.Forms.{IsForm}
 use Rattle.column_files.specs.Files.{size_in, IsSchemaRead, IsForeignRead, IsFileRead}
 use Rattle.column_files.specs.ForeignFound.{looked_at, found_by}
-use Rattle.column_files.specs.Reading.{GivesSchema, IsHead, ReadAs}
+use Rattle.column_files.specs.Reading.{GivesSchema, IsHead, ReadAs, message_end}
 use Rattle.line_reader.specs.Sources.{GivesUpTo}
-use Rattle.column_files.proofs.Streams.{stream_begins}
 use Rattle.column_files.specs.declared.foreign.Foreign.{Foreign as Format}
 use Rattle.column_files.specs.declared.form.Form.{Form}
 use Rattle.column_files.specs.declared.form.Form.TheVariants.{ArrowFile, ArrowStream, Parquet, Lines, Foreign}
 
--- a stream: its marker, the size of its first message, and what comes behind them
-abbrev stream : ℕ → ℕ → ℕ → ℕ → List ℕ → List ℕ
-stream a b c d rest = 255 ∷ 255 ∷ 255 ∷ 255 ∷ a ∷ b ∷ c ∷ d ∷ rest
+-- so many bytes that lie in some bytes are cut out of them alike, whatever stands behind these
+cut_is : (rule : IpcRule) (xs ys : List ℕ) (start size : ℕ) → start + size ≤ length xs → cut rule xs start size ≡ cut rule (xs ++ ys) start size
+unfolding cut
+cut_is rule xs ys start size fits =
+    let one : nat_le (start + size) (length xs) ≡ true = le-leb (start + size) (length xs) fits in
+    let other : nat_le (start + size) (length (xs ++ ys)) ≡ true = le-leb (start + size) (length (xs ++ ys)) (omega (arith, fits, length-append xs ys)) in
+    let same : take size (drop start (xs ++ ys)) ≡ take size (drop start xs) =
+    ap (λ l. take size l) (drop-append-le start xs ys (omega (arith, fits))) ∙ take-append-le size (drop start xs) ys (omega (arith, fits, length-drop start xs)) in
+    ap (λ t. if nat_lt 0 size && t then Ok (take size (drop start xs)) else breaks rule start) (one ∙ sym other)
+    ∙ ap (λ l. if nat_lt 0 size && nat_le (start + size) (length (xs ++ ys)) then Ok l else breaks rule start) (sym same)
 
-message_is : (a b c d : ℕ) (rest : List ℕ) → message_in (stream a b c d rest) ≡ message_of (stream a b c d rest) 8 (from_le_bytes w32 (a ∷ b ∷ c ∷ d ∷ []))
+of_is : (xs ys : List ℕ) (start size : ℕ) → start + size ≤ length xs → message_of xs start size ≡ message_of (xs ++ ys) start size
+of_is xs ys start size fits = ap (λ r. if nat_lt 0 size then r else breaks EndOfStream start) (cut_is Cut xs ys start size fits)
+
+-- the size of the first message is one number or another
+either_is : (t : Bool) (xs ys : List ℕ) (one two : ℕ) → (if t then 8 + two else 4 + one) ≤ length xs
+    → (if t then message_of xs 8 two else message_of xs 4 one) ≡ (if t then message_of (xs ++ ys) 8 two else message_of (xs ++ ys) 4 one)
+either_is true xs ys one two fits = of_is xs ys 8 two fits
+either_is false xs ys one two fits = of_is xs ys 4 one fits
+
+-- the first eight bytes of a stream, and what comes behind them
+abbrev begun : ℕ → ℕ → ℕ → ℕ → ℕ → ℕ → ℕ → ℕ → List ℕ → List ℕ
+begun a b c d e f g h rest = a ∷ b ∷ c ∷ d ∷ e ∷ f ∷ g ∷ h ∷ rest
+
+abbrev message_by : List ℕ → Result (List ℕ) IpcFault
+message_by bytes = if size_in bytes == 0xffff_ffff then message_of bytes 8 (size_in (drop 4 bytes)) else message_of bytes 4 (size_in bytes)
+
+message_is : (a b c d e f g h : ℕ) (rest : List ℕ) → message_in (begun a b c d e f g h rest) ≡ message_by (begun a b c d e f g h rest)
 unfolding message_in integer_at
-message_is a b c d rest =
-    let first : nat_le 4 (length (stream a b c d rest)) ≡ true = le-leb 4 (length (stream a b c d rest)) (omega arith) in
-    let second : nat_le 4 (length (a ∷ b ∷ c ∷ d ∷ rest)) ≡ true = le-leb 4 (length (a ∷ b ∷ c ∷ d ∷ rest)) (omega arith) in
+message_is a b c d e f g h rest =
+    let first : nat_le 4 (length (begun a b c d e f g h rest)) ≡ true = le-leb 4 (length (begun a b c d e f g h rest)) (omega arith) in
+    let second : nat_le 4 (length (e ∷ f ∷ g ∷ h ∷ rest)) ≡ true = le-leb 4 (length (e ∷ f ∷ g ∷ h ∷ rest)) (omega arith) in
     rw (first, second) refl
 
--- a message that is whole is cut out of as many bytes as its size says
-cut_is : (a b c d size : ℕ) (rest : List ℕ) → size ≤ length rest → cut Cut (stream a b c d rest) 8 size ≡ cut Cut (stream a b c d (take size rest)) 8 size
-unfolding cut
-cut_is a b c d size rest fits =
-    let len = length-take-le size rest fits in
-    let one : nat_le (8 + size) (length (stream a b c d rest)) ≡ true = le-leb (8 + size) (length (stream a b c d rest)) (omega (arith, fits)) in
-    let other : nat_le (8 + size) (length (stream a b c d (take size rest))) ≡ true = le-leb (8 + size) (length (stream a b c d (take size rest))) (omega (arith, len)) in
-    ap (λ t. if nat_lt 0 size && t then Ok (take size rest) else breaks Cut 8) (one ∙ sym other)
-    ∙ ap (λ l. if nat_lt 0 size && nat_le (8 + size) (length (stream a b c d (take size rest))) then Ok l else breaks Cut 8) (sym (take_all size (take size rest) (omega (arith, len))))
-
-of_is : (a b c d size : ℕ) (rest : List ℕ) → size ≤ length rest → message_of (stream a b c d rest) 8 size ≡ message_of (stream a b c d (take size rest)) 8 size
-of_is a b c d size rest fits = ap (λ r. if nat_lt 0 size then r else breaks EndOfStream 8) (cut_is a b c d size rest fits)
-
-same_message : (a b c d : ℕ) (more ys : List ℕ) → (length more < from_le_bytes w32 (a ∷ b ∷ c ∷ d ∷ []) → ys ≡ []) → message_in (stream a b c d more) ≡ message_in (stream a b c d (more ++ ys))
-same_message a b c d more ys end =
-    let size = from_le_bytes w32 (a ∷ b ∷ c ∷ d ∷ []) in
-    elim (cases_lt (length more) size) [
-      | inl short ↦ ap (λ l. message_in (stream a b c d l)) (sym (ap (λ l. more ++ l) (end short) ∙ append-nil more))
+same_message : (a b c d e f g h : ℕ) (more ys : List ℕ) → (length (begun a b c d e f g h more) < message_end (begun a b c d e f g h more) → ys ≡ [])
+    → message_in (begun a b c d e f g h more) ≡ message_in (begun a b c d e f g h (more ++ ys))
+same_message a b c d e f g h more ys end =
+    let bytes = begun a b c d e f g h more in
+    let one = from_le_bytes w32 (a ∷ b ∷ c ∷ d ∷ []) in
+    let two = from_le_bytes w32 (e ∷ f ∷ g ∷ h ∷ []) in
+    elim (cases_lt (length bytes) (message_end bytes)) [
+      | inl short ↦ ap (λ l. message_in (begun a b c d e f g h l)) (sym (ap (λ l. more ++ l) (end short) ∙ append-nil more))
       | inr full ↦
-          let same : take size (more ++ ys) ≡ take size more = take-append-le size more ys full in
-          message_is a b c d more ∙ of_is a b c d size more full ∙ ap (λ l. message_of (stream a b c d l) 8 size) (sym same)
-          ∙ sym (of_is a b c d size (more ++ ys) (omega (arith, full, length-append more ys))) ∙ sym (message_is a b c d (more ++ ys))
+          message_is a b c d e f g h more ∙ either_is (one == 0xffff_ffff) bytes ys one two full ∙ sym (message_is a b c d e f g h (more ++ ys))
     ]
+
+-- the first four of bytes that are as many
+abbrev HasFour : List ℕ → Type 0
+HasFour xs = (a : ℕ) × (b : ℕ) × (c : ℕ) × (d : ℕ) × (rest : List ℕ) × (xs ≡ a ∷ b ∷ c ∷ d ∷ rest)
+
+four_of : (xs : List ℕ) → 4 ≤ length xs → HasFour xs
+four_of [] long = absurd (omega (arith, long))
+four_of (a ∷ []) long = absurd (omega (arith, long))
+four_of (a ∷ b ∷ []) long = absurd (omega (arith, long))
+four_of (a ∷ b ∷ c ∷ []) long = absurd (omega (arith, long))
+four_of (a ∷ b ∷ c ∷ d ∷ rest) long = (a, b, c, d, rest, refl)
 
 -- ---- what is read of these bytes is what is read of all
 
@@ -78,20 +101,24 @@ same_first n head more ys end =
       | inr full ↦ sym (take-append-le n (head ++ more) ys full) ∙ ap (λ l. take n l) (append_assoc head more ys)
     ]
 
-of_stream : (head four more ys : List ℕ) → head ≡ 255 ∷ 255 ∷ 255 ∷ 255 ∷ four → 8 ≤ length head → GivesUpTo (8 + size_in (drop 4 head) - length head) (Some (more ++ ys)) (Some ys) more
+of_begun : (a b c d e f g h : ℕ) (first more ys : List ℕ)
+    → GivesUpTo (message_end (begun a b c d e f g h first) - length (begun a b c d e f g h first)) (Some (more ++ ys)) (Some ys) more
+    → ReadAs ArrowStream (begun a b c d e f g h (first ++ more)) (begun a b c d e f g h (first ++ (more ++ ys)))
+of_begun a b c d e f g h first more ys given =
+    let whole = begun a b c d e f g h (first ++ more) in
+    let end : length whole < message_end whole → ys ≡ [] = λ short. given.2 (omega (arith, short, length-append first more)) in
+    let same : message_in whole ≡ message_in (begun a b c d e f g h (first ++ (more ++ ys))) =
+    same_message a b c d e f g h (first ++ more) ys end ∙ ap (λ l. message_in (begun a b c d e f g h l)) (append_assoc first more ys) in
+    same_found whole (begun a b c d e f g h (first ++ (more ++ ys))) same
+
+of_stream : (head more ys : List ℕ) → 8 ≤ length head → GivesUpTo (message_end head - length head) (Some (more ++ ys)) (Some ys) more
     → ReadAs ArrowStream (head ++ more) (head ++ (more ++ ys))
-of_stream head [] more ys is long given = absurd (omega (arith, long, ap length is))
-of_stream head (a ∷ []) more ys is long given = absurd (omega (arith, long, ap length is))
-of_stream head (a ∷ b ∷ []) more ys is long given = absurd (omega (arith, long, ap length is))
-of_stream head (a ∷ b ∷ c ∷ []) more ys is long given = absurd (omega (arith, long, ap length is))
-of_stream head (a ∷ b ∷ c ∷ d ∷ first) more ys is long given =
-    let size = from_le_bytes w32 (a ∷ b ∷ c ∷ d ∷ []) in
-    let size_is : size_in (drop 4 head) ≡ size = ap (λ h. size_in (drop 4 h)) is in
-    let len : length head ≡ 8 + length first = omega (arith, ap length is) in
-    let end : length (first ++ more) < size → ys ≡ [] = λ short. given.2 (omega (arith, short, size_is, len, length-append first more)) in
-    let same : message_in (stream a b c d (first ++ more)) ≡ message_in (stream a b c d (first ++ (more ++ ys))) =
-    same_message a b c d (first ++ more) ys end ∙ ap (λ l. message_in (stream a b c d l)) (append_assoc first more ys) in
-    subst (λ h. ReadAs ArrowStream (h ++ more) (h ++ (more ++ ys))) (sym is) (same_found (stream a b c d (first ++ more)) (stream a b c d (first ++ (more ++ ys))) same)
+of_stream head more ys long given =
+    let (a, b, c, d, behind, is) = four_of head (omega (arith, long)) in
+    let (e, f, g, h, first, more_is) = four_of behind (omega (arith, long, ap length is)) in
+    let all : head ≡ begun a b c d e f g h first = is ∙ ap (λ l. a ∷ b ∷ c ∷ d ∷ l) more_is in
+    subst (λ l. ReadAs ArrowStream (l ++ more) (l ++ (more ++ ys))) (sym all)
+    (of_begun a b c d e f g h first more ys (subst (λ l. GivesUpTo (message_end l - length l) (Some (more ++ ys)) (Some ys) more) all given))
 
 nothing_more : (more ys : List ℕ) → more ++ ys ≡ [] → more ≡ more ++ ys
 nothing_more [] [] is = refl
@@ -114,10 +141,8 @@ of_form (Foreign foreign) head bytes rest ys (more, is, given) begins whole =
     subst (λ l. ReadAs (Foreign foreign) bytes (head ++ l)) (sym given.0)
     (subst (λ l. ReadAs (Foreign foreign) l (head ++ (more ++ ys))) (sym is) (same_foreign foreign (head ++ more) (head ++ (more ++ ys)) (same_first (looked_at foreign) head more ys given.2)))
 of_form ArrowStream head bytes rest ys (more, is, given) begins (inl long) =
-    let all : take 64 head ≡ head = take_all 64 head (omega (arith, long)) in
-    let marked : head ≡ 255 ∷ 255 ∷ 255 ∷ 255 ∷ drop 4 head = stream_begins head (subst (λ l. ArrowStream ≡ head_form l) all begins) in
     subst (λ l. ReadAs ArrowStream bytes (head ++ l)) (sym given.0)
-    (subst (λ l. ReadAs ArrowStream l (head ++ (more ++ ys))) (sym is) (of_stream head (drop 4 head) more ys marked (omega (arith, long)) (refl, given.1, given.2)))
+    (subst (λ l. ReadAs ArrowStream l (head ++ (more ++ ys))) (sym is) (of_stream head more ys (omega (arith, long)) (refl, given.1, given.2)))
 of_form ArrowStream head bytes rest ys (more, is, given) begins (inr none) =
     same_bytes ArrowStream bytes (head ++ rest) (is ∙ ap (λ l. head ++ l) (nothing_more more ys (sym given.0 ∙ none) ∙ sym given.0))
 
@@ -134,7 +159,7 @@ enough form head bytes (Some rest) (Some ys) given = of_form form head bytes res
 abbrev pub GivenUpTo : ℕ → List ℕ → List ℕ → Option (List ℕ) → Option (List ℕ) → Type 0
 GivenUpTo n head bytes old new = (more : List ℕ) × (bytes ≡ head ++ more) × GivesUpTo n old new more
 
-pub by_size : (form : Form) (head bytes : List ℕ) (old new : Option (List ℕ)) (n : ℕ) → form ≡ ArrowStream → n ≡ 8 + size_in (drop 4 head) - length head → GivenUpTo n head bytes old new → Given form head bytes old new
+pub by_size : (form : Form) (head bytes : List ℕ) (old new : Option (List ℕ)) (n : ℕ) → form ≡ ArrowStream → n ≡ message_end head - length head → GivenUpTo n head bytes old new → Given form head bytes old new
 by_size form head bytes old new n form_is size_is (more, is, given) =
     (more, is, subst (λ f. GivesSchema f head old new more) (sym form_is) (subst (λ n. GivesUpTo n old new more) size_is given))
 

@@ -1,5 +1,5 @@
 -- Which columns the bytes of a file denote, with all that is read of it beside them; or why they denote none.
-use Rattle.std.specs.Prelude.{◌≡◌, ◌≢◌, ◌⊎◌, ℕ, ◌+◌, ◌-◌, ◌^◌, ◌≤◌, min, true, List, [], ◌∷◌, ◌++◌, length, drop, map, Option, option_map, string_bytes, Result, Ok, Err, ⊤}
+use Rattle.std.specs.Prelude.{◌≡◌, ◌≢◌, ◌⊎◌, ℕ, ◌+◌, ◌-◌, ◌^◌, ◌≤◌, min, true, List, [], ◌∷◌, ◌++◌, length, drop, map, Option, option_map, string_bytes, if◌then◌else◌, Result, Ok, Err, ⊤}
 use Rattle.std.specs.Int.{w32, from_le_bytes}
 use Rattle.arrow_values.specs.Tree.{Text as Words}
 use Rattle.arrow_values.specs.Texts.{text_at}
@@ -17,8 +17,9 @@ use Rattle.std.specs.declared.vec.Vec.{Vec}
 use Rattle.std.specs.declared.alloc.Global.{Global}
 use Rattle.column_files.specs.Forms.{IsForm, unmarked}
 use Rattle.column_files.specs.ForeignFound.{foreign_found}
+use Rattle.column_files.specs.LineFaults.{later_fault}
 use Rattle.column_files.specs.LineFindings.{lines_findings}
-use Rattle.column_files.specs.LineItems.{LineItem, LinesGive, bad_in, refuses_file, AreKept, IsOfItems}
+use Rattle.column_files.specs.LineItems.{LineItem, LinesGive, bad_in, refuses_file, are_refused, AreKept, IsOfItems}
 use Rattle.column_files.specs.Geo.{Geo, absent, geo_of, of_footer, of_schema}
 use Rattle.column_files.specs.declared.bad_lines.BadLine.{BadLine}
 use Rattle.column_files.specs.declared.foreign.Foreign.{Foreign as Format}
@@ -63,11 +64,16 @@ AreUnmarkedRead text (Err fault) = ⊥
 abbrev pub AreAllRead : List ℕ → Result LinesRead FileFault → Type 0
 AreAllRead text r = AreUnmarkedRead (unmarked text) r
 
+-- why a bad line among these is told: its fault, where it is the first of all and refuses a file; else that of a later line
+abbrev pub told_among : List LineItem → LineFault → LineFault
+told_among items fault = if are_refused items then fault else later_fault fault
+
 -- what is read of lines each of which is to be a column: the columns, where all lines that are not blank denote one; or the first that denotes none, and why
 abbrev pub AreLinesRead : List ℕ → Result (Vec SchemaColumn Global) FileFault → Type 0
 AreLinesRead text (Ok columns) = LinesGive (unmarked text) (map Ok (map column_tree columns.items)) []
 AreLinesRead text (Err (NoField n fault)) =
-    (items : List LineItem) × (rest : List ℕ) × (others : List BadLine) × LinesGive (unmarked text) items rest × (bad_in items ≡ bad_line n fault ∷ others)
+    (items : List LineItem) × (rest : List ℕ) × (others : List BadLine) × (first : LineFault) × LinesGive (unmarked text) items rest
+    × (bad_in items ≡ bad_line n first ∷ others) × (fault ≡ told_among items first)
 AreLinesRead text (Err OutOfMemory) = ⊤
 AreLinesRead text (Err fault) = ⊥
 

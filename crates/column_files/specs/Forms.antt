@@ -126,9 +126,15 @@ text_form (code ∷ rest) = form_by (first_text text_rows (code ∷ rest)) (code
 abbrev pub is_duck : List ℕ → Bool
 is_duck head = stands 8 (codes "DUCK") head && not (is_words head)
 
+-- an Arrow stream without the marker, as written before version 0.15: its first message has less than 2^24 bytes, and more than none, and the table of the
+-- message stands less than 256 bytes behind its begin
+abbrev pub is_unmarked_stream : List ℕ → Bool
+is_unmarked_stream head = not (stands 0 (0 ∷ 0 ∷ 0 ∷ []) head) && (stands 3 (0 ∷ []) head && stands 5 (0 ∷ 0 ∷ 0 ∷ []) head)
+
 abbrev pub form_or_text : Option Form → List ℕ → Form
 form_or_text (Some form) head = form
-form_or_text None head = if is_duck head then OfOther DuckDb else text_form (behind_blanks (unmarked head))
+form_or_text None head =
+    if is_duck head then OfOther DuckDb else (if is_unmarked_stream head then ArrowStream else text_form (behind_blanks (unmarked head)))
 
 abbrev pub head_form : List ℕ → Form
 head_form head = form_or_text (first_row rows head) head

@@ -1,5 +1,5 @@
 -- Why a line denotes no column.
-use Rattle.std.specs.Prelude.{◌≡◌, ◌==◌, ◌&&◌, ◌||◌, ℕ, Bool, true, false, not, List, [], ◌∷◌, bytes_eq, Option, Some, None, option_and_then, is_some, Result, Ok, Err, IsSome, codes}
+use Rattle.std.specs.Prelude.{◌≡◌, ◌==◌, ◌&&◌, ◌||◌, ℕ, Bool, true, false, not, List, [], ◌∷◌, bytes_eq, Option, Some, None, option_and_then, is_some, Result, Ok, Err, IsSome, codes, if◌then◌else◌}
 use Rattle.std.specs.Str.{IsUtf8}
 use Rattle.std.specs.Str.Lossy.{utf8_valid_len}
 use Rattle.serde_json.specs.Data.{Data, object, Members}
@@ -43,15 +43,20 @@ has_geojson_type (Some s) = is_geojson_type s
 abbrev pub is_geojson : Data → Bool
 is_geojson d = has_geojson_type (option_and_then as_str (get (codes "type") d)) && not (is_some (get (codes "nullable") d))
 
--- the members are those of GeoJSON; or the first of a field's keys that they lack, or at which stands what denotes nothing: its name, its nullability, its
+-- the members are those of GeoJSON, with a name or without; or the first of a field's keys that they lack, or at which stands what denotes nothing: its name, its nullability, its
 -- metadata and its type
 abbrev pub IsKeyFault : Members → LineFault → Type 0
-IsKeyFault ms GeoJson = is_geojson (object ms) ≡ true
+IsKeyFault ms (GeoJson named) = (is_geojson (object ms) ≡ true) × (named ≡ is_some (under as_str (codes "name") ms))
 IsKeyFault ms Name = (is_geojson (object ms) ≡ false) × ¬ HasName ms
 IsKeyFault ms Nullable = (is_geojson (object ms) ≡ false) × HasName ms × ¬ HasNullable ms
 IsKeyFault ms Metadata = HasName ms × HasNullable ms × ¬ HasMetadata ms
 IsKeyFault ms TypeUnknown = HasName ms × HasNullable ms × HasMetadata ms × ¬ HasType ms × (under other_of_value (codes "type") ms ≡ None)
 IsKeyFault ms fault = ⊥
+
+-- why a line that is not the first of its file: GeoJSON is told of the first alone, and of another the name or the nullability that it lacks
+abbrev pub later_fault : LineFault → LineFault
+later_fault (GeoJson named) = if named then Nullable else Name
+later_fault fault = fault
 
 -- why a value denotes no column: it is no object, or lacks a key
 abbrev pub IsValueFault : Data → LineFault → Type 0

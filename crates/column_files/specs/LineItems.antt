@@ -51,7 +51,7 @@ bad_in (Err bad ∷ items) = bad ∷ bad_in items
 abbrev pub refuses_file : LineFault → Bool
 refuses_file (OpenObject at) = true
 refuses_file (OpenArray at) = true
-refuses_file GeoJson = true
+refuses_file (GeoJson named) = true
 refuses_file fault = false
 
 abbrev pub are_refused : List LineItem → Bool

@@ -1,5 +1,5 @@
 -- What is read of a source: its lines one after another, and the bytes that hold its schema.
-use Rattle.std.specs.Prelude.{◌≡◌, ◌≢◌, ℕ, ◌+◌, ◌-◌, ◌≤◌, ◌⊎◌, ◌↔◌, min, Bool, true, false, List, [], ◌∷◌, ◌++◌, length, drop, Option, Some, None, IfSome, Result, Ok, Err, ⊤}
+use Rattle.std.specs.Prelude.{◌≡◌, ◌≢◌, ◌==◌, ℕ, ◌+◌, ◌-◌, ◌≤◌, ◌⊎◌, ◌↔◌, min, Bool, true, false, List, [], ◌∷◌, ◌++◌, length, drop, Option, Some, None, IfSome, if◌then◌else◌, Result, Ok, Err, ⊤}
 use Rattle.std.specs.List.{All}
 use Rattle.std.specs.Io.KnownBytes.{Consumes, IsAtEnd, prepend_known}
 use Rattle.std.specs.IoError.{error_kind}
@@ -85,10 +85,14 @@ is_item r = false
 abbrev pub GivesAll : Option (List ℕ) → Option (List ℕ) → List ℕ → Type 0
 GivesAll old new bytes = Consumes old new bytes × IsAtEnd new
 
--- the source gives, behind the first bytes, those that belong to its schema: of a stream what the first message has beyond these, whose size stands
--- behind its marker; of a format that is not read those that tell what is found in it; else all
+-- where the first message of a stream ends: its size stands at the begin, or behind the marker, which is no size
+abbrev pub message_end : List ℕ → ℕ
+message_end head = if size_in head == 0xffff_ffff then 8 + size_in (drop 4 head) else 4 + size_in head
+
+-- the source gives, behind the first bytes, those that belong to its schema: of a stream what the first message has beyond these; of a format that is not
+-- read those that tell what is found in it; else all
 abbrev pub GivesSchema : Form → List ℕ → Option (List ℕ) → Option (List ℕ) → List ℕ → Type 0
-GivesSchema ArrowStream head old new more = GivesUpTo (8 + size_in (drop 4 head) - length head) old new more
+GivesSchema ArrowStream head old new more = GivesUpTo (message_end head - length head) old new more
 GivesSchema (Foreign foreign) head old new more = GivesUpTo (looked_at foreign - length head) old new more
 GivesSchema form head old new more = GivesAll old new more
 

@@ -15,6 +15,7 @@ use Rattle.parquet_columns.specs.declared.error.SchemaError.{SchemaError}
 use Rattle.parquet_columns.specs.declared.error.SchemaError.TheVariants as schemas
 use Rattle.parquet_footer.specs.declared.fault.FooterError.TheVariants as footers
 use Rattle.column_files.specs.Foreigns.{format_name, format_help}
+use Rattle.column_files.specs.LineFaults.{later_fault}
 use Rattle.column_files.specs.declared.bad_lines.BadLine.{BadLine}
 use Rattle.column_files.specs.declared.columns.FileFault.{FileFault}
 use Rattle.column_files.specs.declared.columns.FileFault.TheVariants.{NoField, Empty, Foreign, ReportTooLarge, Ipc, Parquet, OutOfMemory}
@@ -29,7 +30,7 @@ use Rattle.column_files.specs.declared.refusal.Place.TheVariants.{File, Line, Li
 -- ---- codes
 
 abbrev pub line_code : LineFault → Text
-line_code lines.GeoJson = codes "ForeignFormat"
+line_code (lines.GeoJson named) = codes "ForeignFormat"
 line_code fault = codes "BadLine"
 
 -- an Arrow file ends with its magic, behind a footer and its size; a stream begins with a whole message, which is a schema
@@ -70,7 +71,7 @@ fault_code form OutOfMemory = codes "OutOfMemory"
 abbrev pub line_found : LineFault → Text
 line_found (lines.NotUtf8 before) = codes "bytes that are not UTF-8"
 line_found lines.NotObject = codes "JSON that is no object"
-line_found lines.GeoJson = codes "GeoJSON"
+line_found (lines.GeoJson named) = codes "GeoJSON"
 line_found lines.Name = codes "no string at \"name\""
 line_found lines.Nullable = codes "neither true nor false at \"nullable\""
 line_found lines.Metadata = codes "no object of strings at \"metadata\""
@@ -94,7 +95,7 @@ read_formats = codes "an Arrow file, an Arrow stream, a Parquet file or lines of
 
 abbrev pub line_expected : LineFault → Text
 line_expected (lines.NotUtf8 before) = codes "UTF-8"
-line_expected lines.GeoJson = read_formats
+line_expected (lines.GeoJson named) = read_formats
 line_expected lines.Name = codes "a string at \"name\""
 line_expected lines.Nullable = codes "true or false at \"nullable\""
 line_expected lines.Metadata = codes "an object of strings at \"metadata\""
@@ -115,7 +116,7 @@ fault_expected OutOfMemory = codes "more memory"
 abbrev pub line_help : LineFault → Option Text
 line_help (lines.OpenObject at) = Some (codes "One object on each line: try jq -c . FILE")
 line_help (lines.OpenArray at) = Some (codes "One object on each line: try jq -c '.[]' FILE")
-line_help lines.GeoJson = Some (codes "Try ogr2ogr out.parquet FILE")
+line_help (lines.GeoJson named) = Some (codes "Try ogr2ogr out.parquet FILE")
 line_help fault = None
 
 abbrev pub cut_off : Text
@@ -209,15 +210,19 @@ file_told form fault = record {
   help = fault_help fault;
 }
 
--- of a bad line
-abbrev pub bad_told : BadLine → Told
-bad_told bad = record {
-  code = line_code bad.fault;
-  place = line_place (behind bad.before) bad.fault;
-  found = line_found bad.fault;
-  expected = line_expected bad.fault;
-  help = line_help bad.fault;
+-- of a line behind so many
+abbrev pub line_told : ℕ → LineFault → Told
+line_told before fault = record {
+  code = line_code fault;
+  place = line_place (behind before) fault;
+  found = line_found fault;
+  expected = line_expected fault;
+  help = line_help fault;
 }
+
+-- of a bad line, which is told of a file that its first line does not refuse
+abbrev pub bad_told : BadLine → Told
+bad_told bad = line_told bad.before (later_fault bad.fault)
 
 -- of a line that is too long, behind so many
 abbrev pub long_told : ℕ → Told

@@ -1,7 +1,7 @@
 //! The format of a file, by its first bytes.
 ghost use Rattle.std.specs.Prelude.{◌≡◌, drop, take, map};
 ghost use Rattle.column_files.specs.Forms.{IsForm, head_form, stands, first_row, begins, first_text};
-ghost use Rattle.column_files.specs.Forms.{is_marked, mark_len, unmarked, behind_blanks, text_form, is_tag, is_words, is_duck};
+ghost use Rattle.column_files.specs.Forms.{is_marked, mark_len, unmarked, behind_blanks, text_form, is_tag, is_words, is_duck, is_unmarked_stream};
 
 use crate::foreign::Foreign;
 
@@ -10,7 +10,8 @@ use crate::foreign::Foreign;
 pub enum Form {
     /// An Arrow file, also named Feather: it begins with `ARROW1`.
     ArrowFile,
-    /// An Arrow stream: it begins with the continuation marker, four bytes 255.
+    /// An Arrow stream: it begins with the continuation marker, four bytes 255; or, as written before
+    /// version 0.15, with the size of its first message.
     ArrowStream,
     /// A Parquet file: it begins with `PAR1`, or with `PARE` where its footer is encrypted.
     Parquet,
@@ -81,6 +82,7 @@ const TEXT_ROWS: &[TextRow] = &[
 /// assert_eq!(rt; form_of(b"[{}]"), Form::Foreign(Foreign::JsonArray));
 /// assert_eq!(rt; form_of(b"\x01\x02\x03\0\x05\x06\x07\x08DUCK\x40\0"), Form::Foreign(Foreign::DuckDb));
 /// assert_eq!(rt; form_of(b"{\"abc\":\"DUCK\"}"), Form::Lines);
+/// assert_eq!(rt; form_of(b"\x70\x01\0\0\x10\0\0\0"), Form::ArrowStream);
 /// ```
 pub fn form_of(bytes: &[u8]) -> Form
     ensures { IsForm bytes.now result }
@@ -102,6 +104,7 @@ fn head_form(head: &[u8]) -> Form
     match first_row(ROWS, head) {
         Some(form) => form,
         None if is_duck(head) => Form::Foreign(Foreign::DuckDb),
+        None if is_unmarked_stream(head) => Form::ArrowStream,
         None => text_form(behind_blanks(unmarked(head))),
     }
 }
@@ -111,6 +114,14 @@ fn is_duck(head: &[u8]) -> bool
     ensures { result ≡ is_duck head.now }
 {
     stands(8, b"DUCK", head) && !is_words(head)
+}
+
+/// Whether bytes begin with the size of a message, and the place of its table, of which both are
+/// small.
+fn is_unmarked_stream(head: &[u8]) -> bool
+    ensures { result ≡ is_unmarked_stream head.now }
+{
+    !stands(0, b"\0\0\0", head) && stands(3, b"\0", head) && stands(5, b"\0\0\0", head)
 }
 
 /// The format of the first row whose bytes stand at their place.

@@ -8,7 +8,7 @@ ghost use Rattle.field_lines.specs.FieldOfValue.{texts_in, metadata_of_value};
 ghost use Rattle.field_lines.specs.ColumnOfValue.{column_of_value, column_of_line};
 ghost use Rattle.column_files.specs.ColumnLines.{line_of_column, FitsLine};
 ghost use Rattle.column_files.specs.LineItems.{refuses_file};
-ghost use Rattle.column_files.specs.LineFaults.{IsLineRead, IsLineFault, IsJsonFault, is_lone, IsValueFault, IsKeyFault, is_geojson, is_geojson_type};
+ghost use Rattle.column_files.specs.LineFaults.{IsLineRead, IsLineFault, later_fault, IsJsonFault, is_lone, IsValueFault, IsKeyFault, is_geojson, is_geojson_type};
 
 use crate::form::behind_blanks;
 use crate::lines::is_blank;
@@ -35,8 +35,10 @@ pub enum LineFault {
     OpenArray(usize),
     /// The line is JSON, but no object.
     NotObject,
-    /// The line is GeoJSON: an object with one of its types at the key `type`, and nothing at the key `nullable`.
-    GeoJson,
+    /// The line is GeoJSON: an object with one of its types at the key `type`, and nothing at the
+    /// key `nullable`; and whether a text stands at the key `name`. It is told of the first line of
+    /// a file that is not blank alone.
+    GeoJson(bool),
     /// There is no text at the key `name`.
     Name,
     /// Neither true nor false stands at the key `nullable`.
@@ -55,8 +57,25 @@ impl LineFault {
     {
         matches!(
             self,
-            LineFault::OpenObject(_) | LineFault::OpenArray(_) | LineFault::GeoJson
+            LineFault::OpenObject(_) | LineFault::OpenArray(_) | LineFault::GeoJson(_)
         )
+    }
+
+    /// Returns the fault as it is told of a line that is not the first of a file which is not blank:
+    /// of GeoJSON that there is no name, or no nullability (docs/FORMAT.md, 2.7).
+    ///
+    /// ```rust
+    /// assert_eq!(rt; LineFault::GeoJson(false).of_later_line(), LineFault::Name);
+    /// assert_eq!(rt; LineFault::GeoJson(true).of_later_line(), LineFault::Nullable);
+    /// ```
+    pub fn of_later_line(self) -> LineFault
+        ensures { result ≡ later_fault self }
+    {
+        match self {
+            LineFault::GeoJson(true) => LineFault::Nullable,
+            LineFault::GeoJson(false) => LineFault::Name,
+            _ => self,
+        }
     }
 }
 
@@ -188,10 +207,11 @@ fn key_fault(value: &Value) -> LineFault
     ensures { (ms : Members) → view value.now ≡ object ms → IsKeyFault ms result }
 {
     field_is_column();
+    let has_name = value.get("name").and_then(Value::as_str).is_some();
     if is_geojson(value) {
-        return LineFault::GeoJson;
+        return LineFault::GeoJson(has_name);
     }
-    if value.get("name").and_then(Value::as_str).is_none() {
+    if !has_name {
         return LineFault::Name;
     }
     if value.get("nullable").and_then(Value::as_bool).is_none() {

@@ -48,7 +48,7 @@ pub fn columns_of_lines(alloc: Global, text: &[u8]) -> Result<Vec<SchemaColumn>,
 {
     match read_lines(alloc, text) {
         Ok(LinesRead { columns, bad_lines }) => match bad_lines.first.as_slice() {
-            [bad, ..] => Err(FileFault::NoField(bad.before, bad.fault)),
+            [bad, ..] => Err(FileFault::NoField(bad.before, bad.fault.of_later_line())),
             [] => Ok(columns),
         },
         Err(fault) => Err(fault),

@@ -11,7 +11,7 @@ use crate::geo::{GeoText, geo_of_footer};
 use crate::lines::read_lines;
 use arrow_columns::SchemaColumn;
 use arrow_ipc::{read_file_footer, read_schema};
-use parquet_columns::{ElementClaim, FileFinding, GEO_KEY, read_file};
+use parquet_columns::{FileFinding, GEO_KEY, RootElement, read_file};
 use parquet_footer::FooterFinding;
 use std::alloc::Global;
 
@@ -24,9 +24,9 @@ pub struct File<'a> {
     pub columns: Vec<SchemaColumn>,
     /// Of lines, those that are not blank and denote no column (docs/FORMAT.md, 2.7); else none.
     pub bad_lines: BadLines,
-    /// Of a Parquet file, what the elements say beside its columns (docs/FORMAT.md, 4.6), one claim
+    /// Of a Parquet file, what is known of the elements of its columns (docs/FORMAT.md, 4.6, 5.1), one
     /// for each; else none.
-    pub elements: Vec<ElementClaim>,
+    pub elements: Vec<RootElement>,
     /// Of a Parquet file whose columns are those at `ARROW:schema`, for each of them whether its
     /// element refutes a name of GeoArrow on it (docs/FORMAT.md, 4.5); else none.
     pub refuted: Vec<bool>,

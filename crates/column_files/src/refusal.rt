@@ -81,7 +81,7 @@ pub fn fault_of<'a>(form: Form, fault: &'a FileFault) -> Fault<'a>
     }
 }
 
-/// Returns the fault of a bad line. Allocates nothing.
+/// Returns the fault of a bad line, which does not refuse its file. Allocates nothing.
 ///
 /// ```rust
 /// let fault = bad_line_fault(BadLine { before: 1, fault: LineFault::NotObject });
@@ -91,12 +91,13 @@ pub fn fault_of<'a>(form: Form, fault: &'a FileFault) -> Fault<'a>
 pub fn bad_line_fault(bad: BadLine) -> Fault<'static>
     ensures { told result ≡ bad_told bad }
 {
+    let fault = bad.fault.of_later_line();
     Fault {
-        code: line_code(bad.fault),
-        place: line_place(line_number(bad.before), bad.fault),
-        found: line_found(bad.fault),
-        expected: line_expected(bad.fault),
-        help: line_help(bad.fault),
+        code: line_code(fault),
+        place: line_place(line_number(bad.before), fault),
+        found: line_found(fault),
+        expected: line_expected(fault),
+        help: line_help(fault),
     }
 }
 
@@ -135,7 +136,7 @@ fn line_code(fault: LineFault) -> &'static str
     ensures { result.now ≡ line_code fault }
 {
     match fault {
-        LineFault::GeoJson => "ForeignFormat",
+        LineFault::GeoJson(_) => "ForeignFormat",
         _ => "BadLine",
     }
 }
@@ -150,7 +151,7 @@ fn line_found(fault: LineFault) -> &'static str
             "no JSON, or more than 127 levels of it"
         }
         LineFault::NotObject => "JSON that is no object",
-        LineFault::GeoJson => "GeoJSON",
+        LineFault::GeoJson(_) => "GeoJSON",
         LineFault::Name => "no string at \"name\"",
         LineFault::Nullable => "neither true nor false at \"nullable\"",
         LineFault::Metadata => "no object of strings at \"metadata\"",
@@ -168,7 +169,7 @@ fn line_expected(fault: LineFault) -> &'static str
         | LineFault::OpenObject(_)
         | LineFault::OpenArray(_)
         | LineFault::NotObject => "a JSON object",
-        LineFault::GeoJson => READ_FORMATS,
+        LineFault::GeoJson(_) => READ_FORMATS,
         LineFault::Name => "a string at \"name\"",
         LineFault::Nullable => "true or false at \"nullable\"",
         LineFault::Metadata => "an object of strings at \"metadata\"",
@@ -181,7 +182,7 @@ fn line_help(fault: LineFault) -> Option<&'static str>
     ensures { text_of result ≡ line_help fault }
 {
     match fault {
-        LineFault::GeoJson => Some("Try ogr2ogr out.parquet FILE"),
+        LineFault::GeoJson(_) => Some("Try ogr2ogr out.parquet FILE"),
         LineFault::OpenObject(_) => Some("One object on each line: try jq -c . FILE"),
         LineFault::OpenArray(_) => Some("One object on each line: try jq -c '.[]' FILE"),
         _ => None,
@@ -340,7 +341,7 @@ fn line_place(line: u64, fault: LineFault) -> Place
             Place::LineByte(line, at as u64)
         }
         LineFault::NotObject
-        | LineFault::GeoJson
+        | LineFault::GeoJson(_)
         | LineFault::Name
         | LineFault::Nullable
         | LineFault::Metadata

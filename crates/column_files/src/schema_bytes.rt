@@ -7,7 +7,7 @@ ghost use Rattle.line_reader.specs.Sources.{GivesUpTo};
 ghost use Rattle.column_files.specs.Faults.{IsReadError};
 ghost use Rattle.column_files.specs.ForeignFound.{looked_at};
 ghost use Rattle.column_files.specs.Files.{size_in, HasFooter};
-ghost use Rattle.column_files.specs.Reading.{GivesSchema, GivesEnd, IsEnd, IsHead, ReadAs};
+ghost use Rattle.column_files.specs.Reading.{GivesSchema, GivesEnd, IsEnd, IsHead, ReadAs, message_end};
 
 use crate::fault::ReadFault;
 use crate::foreign::Foreign;
@@ -16,8 +16,8 @@ use line_reader::read_up_to;
 use std::alloc::Global;
 use std::io::{Read, Seek, SeekFrom};
 
-/// How many bytes stand before the first message of a stream: its marker, and its size.
-const STREAM_HEAD: u64 = 8;
+/// What stands before the size of a stream's first message, where anything does: four bytes 255.
+const MARKER: u32 = 0xffff_ffff;
 
 /// How many bytes stand behind the footer of an Arrow file, and of a Parquet file: its size in four bytes, and the magic.
 const ARROW_TAIL: usize = 10;
@@ -50,6 +50,10 @@ pub fn read_head<R: Read>(alloc: Global, source: &mut R) -> Result<Vec<u8>, Read
 /// let head = Vec::from_slice(alloc, b"\xff\xff\xff\xff\x02\0\0\0a")?;
 /// let read = read_schema_bytes(Form::ArrowStream, head, &mut source);
 /// assert!(rt; matches!(read, Ok(bytes) if bytes.as_slice() == b"\xff\xff\xff\xff\x02\0\0\0ab".as_slice()));
+/// let mut source = b"bcdef".as_slice();
+/// let head = Vec::from_slice(alloc, b"\x02\0\0\0a")?;
+/// let read = read_schema_bytes(Form::ArrowStream, head, &mut source);
+/// assert!(rt; matches!(read, Ok(bytes) if bytes.as_slice() == b"\x02\0\0\0ab".as_slice()));
 /// ```
 pub fn read_schema_bytes<R: Read>(
     form: Form,
@@ -72,10 +76,21 @@ pub fn read_schema_bytes<R: Read>(
 
 /// How many bytes the first message of a stream has behind the first ones of the stream.
 fn left_of_message(head: &[u8]) -> u64
-    ensures { result ≡ 8 + size_in (drop 4 head.now) - length head.now }
+    ensures { result ≡ message_end head.now - length head.now }
 {
-    let size = u64::from(size_of_four(rest_of(head, 4)));
-    (STREAM_HEAD + size).saturating_sub(head.len() as u64)
+    message_end(head).saturating_sub(head.len() as u64)
+}
+
+/// Where the first message of a stream ends, which has the marker before its size, or has none.
+fn message_end(head: &[u8]) -> u64
+    ensures is { result ≡ message_end head.now }
+{
+    let first = size_of_four(head);
+    if first == MARKER {
+        8 + u64::from(size_of_four(rest_of(head, 4)))
+    } else {
+        4 + u64::from(first)
+    }
 }
 
 /// How many bytes behind the first ones of a file tell what is found in it.

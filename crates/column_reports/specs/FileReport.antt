@@ -21,7 +21,7 @@ use Rattle.geoparquet.specs.GeoFindings.{AreGeoFindings}
 use Rattle.geoparquet.specs.Sources.{Source, unasked, missing, value}
 use Rattle.geoparquet.specs.declared.finding.GeoReport.{GeoReport}
 use Rattle.parquet_columns.specs.Budget.{budget}
-use Rattle.parquet_columns.specs.Claims.{claim}
+use Rattle.parquet_columns.specs.Layouts.{root_element}
 use Rattle.column_reports.specs.Columns.{IsColumnReport}
 use Rattle.column_reports.specs.Faults.{kept_text}
 use Rattle.column_reports.specs.FindingLines.{findings_text}
@@ -57,12 +57,12 @@ pub record IsReport (infer : Bool) (w : Weighing) (opened : File) (r : FileRepor
   -- its columns by the metadata, each with its report, which has the facts of the columns that the file denotes, and tells of whoever names them
   pub by : List ColumnTree
   pub are_by : AreColumnsBy (source_in opened.form opened.geo) (map column_tree opened.columns.items) by
-  pub columns : AreReported infer w (zip by (all_known (facts_of (source_in opened.form opened.geo) (map column_tree opened.columns.items) (map claim opened.elements.items))
-      (nobody_where opened.refuted.items (all_named (map column_tree opened.columns.items) (map claim opened.elements.items))))) r.columns.items
+  pub columns : AreReported infer w (zip by (all_known (facts_of (source_in opened.form opened.geo) (map column_tree opened.columns.items) (map root_element opened.elements.items))
+      (nobody_where opened.refuted.items (all_named (map column_tree opened.columns.items) (map root_element opened.elements.items))))) r.columns.items
   -- what the metadata are found to be, of the columns that the file denotes
   pub geo : GeoReport
-  pub is_geo : AreGeoFindings (source_in opened.form opened.geo) (map column_tree opened.columns.items) (map claim opened.elements.items) geo.version (map finding geo.findings.items)
-  pub findings : r.findings.items ≡ weighed w (of_file opened.texts.items opened.findings.items geo)
+  pub is_geo : AreGeoFindings (source_in opened.form opened.geo) (map column_tree opened.columns.items) (map root_element opened.elements.items) geo.version (map finding geo.findings.items)
+  pub findings : r.findings.items ≡ weighed w (of_file opened.form opened.texts.items opened.findings.items geo)
   pub bad_lines : r.bad_lines ≡ opened.bad_lines
   pub summary : IsSummary r.columns.items r.findings.items r.bad_lines.first.items r.summary
 

@@ -2,6 +2,8 @@
 use Rattle.std.specs.Prelude.{◌&&◌, Bool, true, false, List, [], ◌∷◌, ◌++◌, flat_map, map, if◌then◌else◌}
 use Rattle.arrow_columns.specs.Column.{ColumnTree}
 use Rattle.std.specs.List.{list_any}
+use Rattle.column_files.specs.declared.form.Form.{Form}
+use Rattle.column_files.specs.declared.form.Form.TheVariants.{Lines}
 use Rattle.column_check.specs.declared.code.WarningCode.{WarningCode}
 use Rattle.column_check.specs.declared.code.WarningCode.TheVariants.{CrsMalformed, CrsEmpty, CrsTypeContradicts, CrsWkt1, CrsWithoutType, CrsNumber, CrsNotWhole, CoordinatesNotFloat, CoordinatesNotDouble, AxisOrder, AxisNames, NullableInner, UnionMode, NestedGeometry}
 use Rattle.column_check.specs.declared.warning.Warning.{Warning}
@@ -85,6 +87,11 @@ if_first said version f = if said && is_no_metadata f.code then [] else Geo vers
 abbrev pub of_geo : Bool → GeoReport → List Finding
 of_geo said report = flat_map (if_first said report.version) report.findings.items
 
+-- of lines nothing is told of those metadata, nor against them: of a line the report of its column says all
+abbrev pub geo_told : Form → Bool → GeoReport → List Finding
+geo_told Lines said report = []
+geo_told form said report = of_geo said report
+
 -- all that is found of a file, beside its columns
-abbrev pub of_file : List FooterFinding → List FileFinding → GeoReport → List Finding
-of_file texts found report = of_texts texts ++ (of_footer found ++ of_geo (list_any is_of_letters found) report)
+abbrev pub of_file : Form → List FooterFinding → List FileFinding → GeoReport → List Finding
+of_file form texts found report = of_texts texts ++ (of_footer found ++ geo_told form (list_any is_of_letters found) report)

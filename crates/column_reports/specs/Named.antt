@@ -4,7 +4,9 @@ use Rattle.std.specs.List.{zip}
 use Rattle.arrow_values.specs.Tree.{Text}
 use Rattle.arrow_values.specs.Texts.{text_of}
 use Rattle.arrow_columns.specs.Column.{ColumnTree, name_on}
-use Rattle.parquet_columns.specs.Claims.{Claim, gives, beside}
+use Rattle.parquet_columns.specs.Claims.{Claim, silent, gives, beside}
+use Rattle.parquet_columns.specs.Layouts.{RootElement}
+use Rattle.parquet_columns.specs.Reserved.{is_reserved}
 use Rattle.parquet_columns.specs.Unreadable.{is_unreadable}
 use Rattle.geoparquet.specs.Sources.{with_elements}
 use Rattle.geoparquet.specs.Facts.{FactsOf, facts_alone}
@@ -15,23 +17,28 @@ use Rattle.column_reports.specs.declared.named.Named.{Named}
 use Rattle.column_reports.specs.declared.named.NamedBy.{NamedBy}
 use Rattle.column_reports.specs.declared.named.NamedBy.TheVariants.{Nobody, Field, Element, Geo}
 
--- nobody, where it is not read, or its element refutes the field; the geometry type of its element; or its field; or the member of `columns`, if anything does
+-- nobody, where it is not read, or its element refutes the field; the geometry type of its element; or its field, where GeoArrow or OGC would have to give
+-- the name; or the member of `columns`, if anything does
 abbrev pub field_or_geo : Option Text → NamedBy
-field_or_geo None = Geo
-field_or_geo (Some name) = Field
+field_or_geo name = if is_reserved name then Field else Geo
 
 abbrev pub named_beside : ColumnTree → Claim → NamedBy
-named_beside c (gives names_crs knows_edges) = Element
+named_beside c (gives names_crs edges) = Element
 named_beside c e = field_or_geo (name_on c)
 
-abbrev pub named_by : ColumnTree → Option Claim → NamedBy
+abbrev pub named_by : ColumnTree → Option RootElement → NamedBy
 named_by c None = field_or_geo (name_on c)
-named_by c (Some e) = if is_unreadable c.data_type then Nobody else named_beside c e
+named_by c (Some e) = if is_unreadable c.data_type then Nobody else named_beside c e.claim
 
 -- the extension metadata that the geometry type of its element denotes beside a field with an extension name of its own
-abbrev pub said_beside : Option Claim → Option Text
-said_beside (Some (beside text knows_edges)) = Some text
-said_beside e = None
+abbrev pub claimed_beside : Claim → Option Text
+claimed_beside silent = None
+claimed_beside (gives names_crs edges) = None
+claimed_beside (beside text edges) = Some text
+
+abbrev pub said_beside : Option RootElement → Option Text
+said_beside None = None
+said_beside (Some e) = claimed_beside e.claim
 
 -- both
 pub record NamedOf : Type 0 where
@@ -41,11 +48,11 @@ pub record NamedOf : Type 0 where
 abbrev pub named_view : Named → NamedOf
 named_view n = record { by = n.by; beside = text_of n.beside }
 
-abbrev pub naming : ColumnTree → Option Claim → NamedOf
+abbrev pub naming : ColumnTree → Option RootElement → NamedOf
 naming c e = record { by = named_by c e; beside = said_beside e }
 
 -- of the columns of a file, beside which its elements say that
-abbrev pub all_named : List ColumnTree → List Claim → List NamedOf
+abbrev pub all_named : List ColumnTree → List RootElement → List NamedOf
 all_named cs es = map (λ x. naming x.0 x.1) (with_elements cs es)
 
 -- nobody, where a flag of a column says that its element refutes the field; a flag that is missing does not

@@ -89,7 +89,7 @@ pub fn weighed_report<'a>(
     let flags = refuted.as_slice();
     let named = named_in(alloc, columns.as_slice(), elements.as_slice(), flags)?;
     let answer = inspect_geo(alloc, source, columns, elements.as_slice())?;
-    let found = of_file(alloc, texts, findings, answer.report)?;
+    let found = of_file(alloc, form, texts, findings, answer.report)?;
     let findings = weigh(alloc, weights, found)?;
     let columns = report_columns(alloc, answer.columns, answer.facts, named, infer, weights)?;
     let bad = bad_lines.first.as_slice();

@@ -27,6 +27,7 @@ use value_tokens::text_of;
 ///     pointer: String::from_str(alloc, "/version")?,
 ///     found: Some(String::from_str(alloc, "1")?),
 ///     wanted: None,
+///     more: 0,
 /// };
 /// let finding = Finding::Geo(Version::V1_1, finding);
 /// let line = finding_line(alloc, None, &Weighed { severity: Severity::Error, finding })?;

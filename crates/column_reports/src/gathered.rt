@@ -4,12 +4,13 @@ ghost use Rattle.std.specs.List.{list_any};
 ghost use Rattle.arrow_columns.specs.Column.{column_tree};
 ghost use Rattle.geoparquet.specs.Facts.{facts_view};
 ghost use Rattle.column_reports.specs.Named.{is_told, is_told_beside_geo, known, named_view};
-ghost use Rattle.column_reports.specs.Gathered.{if_told, if_before, if_behind, if_malformed, is_behind, of_column, of_texts, of_footer, is_of_letters, if_first, of_geo, of_file};
+ghost use Rattle.column_reports.specs.Gathered.{if_told, if_before, if_behind, if_malformed, is_behind, of_column, of_texts, of_footer, is_of_letters, if_first, of_geo, geo_told, of_file};
 
 use crate::finding::Finding;
 use crate::named::{Named, NamedBy};
 use arrow_columns::SchemaColumn;
 use column_check::{Warning, WarningCode};
+use column_files::Form;
 use geoparquet::{ColumnFacts, GeoCode, GeoFinding, GeoReport, Version};
 use parquet_columns::{FileCode, FileFinding};
 use parquet_footer::FooterFinding;
@@ -153,21 +154,40 @@ fn is_told(named: Named<'_>, facts: &ColumnFacts, column: &SchemaColumn, warning
     }
 }
 
-/// Returns what is found of a file beside its columns: of the texts of its footer, of its schemas
-/// and keys, and of its GeoParquet metadata. Errs only when out of memory.
+/// Returns what is found of a file of that format beside its columns: of the texts of its footer, of
+/// its schemas and keys, and, but of lines, of its GeoParquet metadata. Errs only when out of memory.
 pub(crate) fn of_file<'a>(
     alloc: Global,
+    form: Form,
     texts: Vec<FooterFinding<'a>>,
     found: Vec<FileFinding>,
     report: GeoReport,
 ) -> Result<Vec<Finding<'a>>, AllocError>
-    ensures { IfOk result (λ all. all.items ≡ of_file texts.entry.items found.items report) }
+    ensures { IfOk result (λ all. all.items ≡ of_file form texts.entry.items found.items report) }
 {
     let mut all = of_texts(alloc, texts.as_slice())?;
     let said = has_letters(found.as_slice());
     add_footer(&mut all, found)?;
-    add_geo(&mut all, said, report)?;
+    add_geo_of(&mut all, form, said, report)?;
     Ok(all)
+}
+
+/// Adds what is found in GeoParquet metadata, and against them; of lines nothing.
+fn add_geo_of<'a>(
+    all: &mut Vec<Finding<'a>>,
+    form: Form,
+    said: bool,
+    report: GeoReport,
+) -> Result<(), AllocError>
+    ensures { OnOk result (all.new.items ≡ all.old.items ++ geo_told form said report) }
+{
+    match form {
+        Form::Lines => {
+            drop(report);
+            Ok(())
+        }
+        _ => add_geo(all, said, report),
+    }
 }
 
 /// What is found of the texts of a footer.

@@ -1,13 +1,13 @@
 //! Who gives a column its extension name and metadata, and what its element says beside them.
 ghost use Rattle.std.specs.Prelude.{◌≡◌, ◌∷◌, ◌++◌, IfOk, List, OnOk, map, option_map};
 ghost use Rattle.arrow_columns.specs.Column.{ColumnTree, column_tree, name_on};
-ghost use Rattle.parquet_columns.specs.Claims.{claim};
+ghost use Rattle.parquet_columns.specs.Layouts.{root_element};
 ghost use Rattle.geoparquet.specs.Sources.{with_elements};
 ghost use Rattle.arrow_values.specs.Texts.{text_of};
 ghost use Rattle.column_reports.specs.Named.{NamedOf, all_named, field_or_geo, named_by, named_view, naming, nobody_if, nobody_where, said_beside};
 
 use arrow_columns::SchemaColumn;
-use parquet_columns::{ElementClaim, is_unreadable};
+use parquet_columns::{ElementClaim, RootElement, is_reserved, is_unreadable};
 use std::alloc::{AllocError, Global};
 
 /// Who gives a column its extension name and metadata, if it has any (docs/FORMAT.md, 2.6).
@@ -34,69 +34,84 @@ pub(crate) struct Named<'e> {
     pub(crate) beside: Option<&'e str>,
 }
 
-/// Whether the field of a column, or its member of `columns`, gives it its name.
-fn field_or_geo(column: &SchemaColumn) -> NamedBy
-    ensures { result ≡ field_or_geo (name_on (column_tree column.now)) }
+/// Whether the field of a column, or its member of `columns`, gives it its name. Errs only when out of
+/// memory.
+fn field_or_geo(alloc: Global, column: &SchemaColumn) -> Result<NamedBy, AllocError>
+    ensures { IfOk result (λ by. by ≡ field_or_geo (name_on (column_tree column.now))) }
 {
-    match column.extension_type_name() {
-        Some(_) => NamedBy::Field,
-        None => NamedBy::Geo,
+    if is_reserved(alloc, column.extension_type_name())? {
+        return Ok(NamedBy::Field);
     }
+    Ok(NamedBy::Geo)
 }
 
-/// Who gives a column its name, by what its element says, if it says something.
-fn named_by(column: &SchemaColumn, element: Option<&ElementClaim>) -> NamedBy
-    ensures { result ≡ named_by (column_tree column.now) (option_map (λ e. claim e.now) element.entry) }
+/// Who gives a column its name, by what its element says, if it says something. Errs only when out of
+/// memory.
+fn named_by(
+    alloc: Global,
+    column: &SchemaColumn,
+    element: Option<&RootElement>,
+) -> Result<NamedBy, AllocError>
+    ensures { IfOk result (λ by. by ≡ named_by (column_tree column.now) (option_map (λ e. root_element e.now) element.entry)) }
 {
     let Some(element) = element else {
-        return field_or_geo(column);
+        return field_or_geo(alloc, column);
     };
     if is_unreadable(&column.data_type) {
-        return NamedBy::Nobody;
+        return Ok(NamedBy::Nobody);
     }
-    match element {
-        ElementClaim::Given { .. } => NamedBy::Element,
-        ElementClaim::Silent | ElementClaim::Beside { .. } => field_or_geo(column),
+    match &element.claim {
+        ElementClaim::Given { .. } => Ok(NamedBy::Element),
+        ElementClaim::Silent | ElementClaim::Beside { .. } => field_or_geo(alloc, column),
     }
 }
 
 /// Returns the extension metadata that an element says beside a field, if it says some.
-fn said_beside(element: Option<&ElementClaim>) -> Option<&str>
-    ensures { text_of result ≡ said_beside (option_map (λ e. claim e.now) element.entry) }
+fn said_beside(element: Option<&RootElement>) -> Option<&str>
+    ensures { text_of result ≡ said_beside (option_map (λ e. root_element e.now) element.entry) }
 {
-    match element {
-        Some(ElementClaim::Beside { metadata, .. }) => Some(metadata.as_str()),
-        _ => None,
+    let Some(element) = element else {
+        return None;
+    };
+    match &element.claim {
+        ElementClaim::Beside { metadata, .. } => Some(metadata.as_str()),
+        ElementClaim::Silent | ElementClaim::Given { .. } => None,
     }
 }
 
-/// Returns who names a column, and what its element says, if it says something.
-fn naming<'e>(column: &SchemaColumn, element: Option<&'e ElementClaim>) -> Named<'e>
-    ensures { named_view result ≡ naming (column_tree column.now) (option_map (λ e. claim e.now) element.entry) }
+/// Returns who names a column, and what its element says, if it says something. Errs only when out of
+/// memory.
+fn naming<'e>(
+    alloc: Global,
+    column: &SchemaColumn,
+    element: Option<&'e RootElement>,
+) -> Result<Named<'e>, AllocError>
+    ensures { IfOk result (λ named. named_view named ≡ naming (column_tree column.now) (option_map (λ e. root_element e.now) element.entry)) }
 {
-    Named {
-        by: named_by(column, element),
+    Ok(Named {
+        by: named_by(alloc, column, element)?,
         beside: said_beside(element),
-    }
+    })
 }
 
 /// Adds who names a column, by the first of what the elements say, if one is left; and returns what
 /// the others say. Errs only when out of memory.
 fn push_named<'e>(
+    alloc: Global,
     all: &mut Vec<Named<'e>>,
     column: &SchemaColumn,
-    elements: &'e [ElementClaim],
-) -> Result<&'e [ElementClaim], AllocError>
-    ensures { IfOk result (λ rest. (cs : List ColumnTree) → map named_view all.new.items ++ all_named cs (map claim rest.now)
-        ≡ map named_view all.old.items ++ all_named (column_tree column.now ∷ cs) (map claim elements.now)) }
+    elements: &'e [RootElement],
+) -> Result<&'e [RootElement], AllocError>
+    ensures { IfOk result (λ rest. (cs : List ColumnTree) → map named_view all.new.items ++ all_named cs (map root_element rest.now)
+        ≡ map named_view all.old.items ++ all_named (column_tree column.now ∷ cs) (map root_element elements.now)) }
 {
     match elements {
         [element, rest @ ..] => {
-            all.push(naming(column, Some(element)))?;
+            all.push(naming(alloc, column, Some(element))?)?;
             Ok(rest)
         }
         [] => {
-            all.push(naming(column, None))?;
+            all.push(naming(alloc, column, None)?)?;
             Ok(elements)
         }
     }
@@ -107,15 +122,15 @@ fn push_named<'e>(
 fn all_named<'e>(
     alloc: Global,
     columns: &[SchemaColumn],
-    elements: &'e [ElementClaim],
+    elements: &'e [RootElement],
 ) -> Result<Vec<Named<'e>>, AllocError>
-    ensures { IfOk result (λ all. map named_view all.items ≡ all_named (map column_tree columns.now) (map claim elements.now)) }
+    ensures { IfOk result (λ all. map named_view all.items ≡ all_named (map column_tree columns.now) (map root_element elements.now)) }
 {
     let mut all = Vec::new(alloc);
     let mut left = columns;
     let mut said = elements;
     'columns: while let [column, rest @ ..] = left {
-        said = push_named(&mut all, column, said)?;
+        said = push_named(alloc, &mut all, column, said)?;
         left = rest;
     }
     Ok(all)
@@ -176,10 +191,10 @@ fn nobody_where<'e>(
 pub(crate) fn named_in<'e>(
     alloc: Global,
     columns: &[SchemaColumn],
-    elements: &'e [ElementClaim],
+    elements: &'e [RootElement],
     refuted: &[bool],
 ) -> Result<Vec<Named<'e>>, AllocError>
-    ensures { IfOk result (λ all. map named_view all.items ≡ nobody_where refuted.now (all_named (map column_tree columns.now) (map claim elements.now))) }
+    ensures { IfOk result (λ all. map named_view all.items ≡ nobody_where refuted.now (all_named (map column_tree columns.now) (map root_element elements.now))) }
 {
     let named = all_named(alloc, columns, elements)?;
     nobody_where(alloc, refuted, named.as_slice())

@@ -29,6 +29,7 @@ use std::alloc::{AllocError, Global};
 ///     pointer: String::from_str(alloc, "/columns/geom/epoch")?,
 ///     found: Some(String::from_str(alloc, "\"2020\"")?),
 ///     wanted: None,
+///     more: 0,
 /// };
 /// let finding = Finding::Geo(Version::V1_1, finding);
 /// let words = finding_words(alloc, &Weighed { severity: Severity::Error, finding })?;

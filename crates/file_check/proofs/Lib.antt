@@ -4,3 +4,4 @@ pub mod Blanks
 pub mod Rows
 pub mod Wanted
 pub mod Made
+mod Errors

@@ -43,6 +43,8 @@ pub struct Flags {
     pub problems: bool,
     /// `--require-geometry`: a file has a column of geometries.
     pub require_geometry: bool,
+    /// `--same`: each file has the columns of the first.
+    pub same: bool,
 }
 
 /// A format of a report: `--format`.

@@ -16,6 +16,7 @@ use std::alloc::{AllocError, Global};
 ///     pointer: String::from_str(alloc, "/version")?,
 ///     found: Some(String::from_str(alloc, "1")?),
 ///     wanted: None,
+///     more: 0,
 /// };
 /// let finding = Finding::Geo(Version::V1_1, finding);
 /// let findings = vec![in alloc; Weighed { severity: Severity::Error, finding }]?;

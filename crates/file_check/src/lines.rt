@@ -40,6 +40,8 @@ struct LineReport<'a> {
     rows: Vec<Row>,
     /// The columns for a stream.
     columns: Vec<SchemaColumn>,
+    /// The columns with what is said of them, where files are to be the same.
+    reported: Vec<ColumnReport>,
     counted: Counted,
     bad_lines: BadLines,
     /// What is found of the file and shown.
@@ -49,10 +51,10 @@ struct LineReport<'a> {
 }
 
 /// Reports the lines of a source, of which the first bytes are read. Returns the status.
-pub(crate) fn check_lines<R: Read + Drop, W: Write, E: Write>(
+pub(crate) fn check_lines<'x, R: Read + Drop, W: Write, E: Write>(
     alloc: Global,
-    asked: &Asked,
-    file: &str,
+    asked: &'x Asked,
+    file: &'x str,
     lines: LineColumns<R>,
     tally: &mut Tally,
     out: &mut W,
@@ -62,6 +64,7 @@ pub(crate) fn check_lines<R: Read + Drop, W: Write, E: Write>(
     match report.add_all(lines, tally, out)? {
         None if report.bad_lines.is_empty() => {
             let found = report.found_text(tally)?;
+            tally.keep(asked, mem::replace(&mut report.reported, Vec::new(alloc)));
             let mut made = report.made()?;
             made.text.push_str(found.as_str())?;
             print_made(alloc, asked, file, made, tally, out, err)
@@ -100,6 +103,7 @@ impl<'a> LineReport<'a> {
             text: String::new(alloc),
             rows: Vec::new(alloc),
             columns: Vec::new(alloc),
+            reported: Vec::new(alloc),
             counted: Counted {
                 summary,
                 found,
@@ -151,13 +155,27 @@ impl<'a> LineReport<'a> {
             Output::Json => self.add_json(&said)?,
             Output::Table => self.add_row(&said)?,
             Output::Errors | Output::Github | Output::Sarif => self.add_told(&said, tally)?,
+            Output::Lines | Output::Ipc => {}
+        }
+        self.keep(said)?;
+        self.count = self.count.saturating_add(1);
+        Ok(())
+    }
+
+    /// Adds the line of a column; or keeps it for a stream, or to be compared.
+    fn keep(&mut self, said: ColumnReport) -> Result<(), AllocError> {
+        match self.asked.flags.output() {
             Output::Lines => {
                 let line = column_line(self.alloc, said.column)?;
                 push_line(&mut self.text, line.as_str())?;
             }
             Output::Ipc => self.columns.push(said.column)?,
+            Output::Json | Output::Table | Output::Errors | Output::Github | Output::Sarif => {
+                if self.asked.flags.same {
+                    self.reported.push(said)?;
+                }
+            }
         }
-        self.count = self.count.saturating_add(1);
         Ok(())
     }
 
@@ -267,6 +285,7 @@ impl<'a> LineReport<'a> {
             text,
             rows,
             columns,
+            reported: _,
             counted,
             bad_lines: _,
             findings,

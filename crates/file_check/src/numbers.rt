@@ -1,4 +1,5 @@
 //! How many columns and findings there are: of a file, and of all files.
+use crate::asked::Asked;
 use crate::rules::Rule;
 use column_check::Severity;
 use column_reports::{ColumnReport, Weighed};
@@ -44,11 +45,16 @@ impl Numbers {
     /// Adds findings.
     pub(crate) fn add_findings(&mut self, findings: &[Weighed<'_>]) {
         for found in findings {
-            match found.severity {
-                Severity::Error => raise(&mut self.errors, 1),
-                Severity::Warning => raise(&mut self.warnings, 1),
-                Severity::Note => raise(&mut self.notes, 1),
-            }
+            self.add_one(found.severity);
+        }
+    }
+
+    /// Adds a finding of that severity.
+    pub(crate) fn add_one(&mut self, severity: Severity) {
+        match severity {
+            Severity::Error => raise(&mut self.errors, 1),
+            Severity::Warning => raise(&mut self.warnings, 1),
+            Severity::Note => raise(&mut self.notes, 1),
         }
     }
 
@@ -92,6 +98,12 @@ pub struct Tally {
     rules: Vec<Rule>,
     /// Whether a result is printed in it.
     pub(crate) has_results: bool,
+    /// With `--same` the columns of the first file that is read.
+    pub(crate) first: Option<Vec<ColumnReport>>,
+    /// With `--same` the columns of the file that was read last, until they are compared.
+    pub(crate) last: Option<Vec<ColumnReport>>,
+    /// Whether something is found of the file that was read last.
+    is_last_found: bool,
 }
 
 impl Tally {
@@ -104,6 +116,16 @@ impl Tally {
             numbers: Numbers::new(),
             rules: Vec::new(alloc),
             has_results: false,
+            first: None,
+            last: None,
+            is_last_found: false,
+        }
+    }
+
+    /// Keeps the columns of a file that is read, where files are to be the same.
+    pub(crate) fn keep(&mut self, asked: &Asked, columns: Vec<ColumnReport>) {
+        if asked.flags.same {
+            self.last = Some(columns);
         }
     }
 
@@ -125,7 +147,14 @@ impl Tally {
         let mut numbers = numbers;
         numbers.add_errors(unmet);
         raise(&mut self.files, 1);
-        if numbers.has_findings() {
+        self.is_last_found = false;
+        self.add_found(numbers);
+    }
+
+    /// Adds what is found of the file that was read last.
+    pub(crate) fn add_found(&mut self, numbers: Numbers) {
+        if numbers.has_findings() && !self.is_last_found {
+            self.is_last_found = true;
             raise(&mut self.found_in, 1);
         }
         self.numbers.add(numbers);

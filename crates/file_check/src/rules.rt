@@ -33,6 +33,12 @@ pub(crate) const BAD_LINE: Rule = Rule {
     words: "a line is no column",
 };
 
+/// A file that has other columns than the first, where they are to be the same (docs/FORMAT.md, 2.9).
+pub const NOT_SAME: Rule = Rule {
+    code: "NotSame",
+    words: "a column is not as in the first file",
+};
+
 /// Why a file is not read, or not whole (docs/FORMAT.md, 2.8).
 pub const REFUSALS: [Rule; 13] = [
     Rule {

@@ -55,7 +55,7 @@ fn made_of(
     match text_of_report(alloc, asked, file, &report, limit, tally) {
         Ok(text) => Ok(Made {
             text,
-            columns: kept_columns(alloc, asked.flags.output(), report.columns)?,
+            columns: kept_columns(alloc, asked, report.columns, tally)?,
             counted: Counted {
                 summary,
                 found,
@@ -97,16 +97,23 @@ fn text_of_report(
     }
 }
 
-/// The columns that are printed behind that text: as lines of fields, or as a stream.
+/// The columns that are printed behind that text: as lines of fields, or as a stream. Where none
+/// are, the tally keeps them with what is said of them, if files are to be the same.
 fn kept_columns(
     alloc: Global,
-    output: Output,
+    asked: &Asked,
     reported: Vec<ColumnReport>,
+    tally: &mut Tally,
 ) -> Result<Vec<SchemaColumn>, AllocError> {
     let mut columns = Vec::new(alloc);
-    if matches!(output, Output::Lines | Output::Ipc) {
-        for said in reported {
-            columns.push(said.column)?;
+    match asked.flags.output() {
+        Output::Lines | Output::Ipc => {
+            for said in reported {
+                columns.push(said.column)?;
+            }
+        }
+        Output::Json | Output::Table | Output::Errors | Output::Github | Output::Sarif => {
+            tally.keep(asked, reported);
         }
     }
     Ok(columns)

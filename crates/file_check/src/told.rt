@@ -44,6 +44,22 @@ impl Told {
         })
     }
 
+    /// What is said of a column by that rule.
+    pub(crate) fn column(
+        alloc: Global,
+        severity: Severity,
+        rule: Rule,
+        name: &str,
+        words: &str,
+    ) -> Result<Told, AllocError> {
+        Ok(Told {
+            severity,
+            rule,
+            behind: format!(in alloc; " column {name}: {words}")?,
+            region: None,
+        })
+    }
+
     /// A fault of a file.
     pub(crate) fn fault(alloc: Global, fault: &Fault<'_>) -> Result<Told, AllocError> {
         let words = fault_words(alloc, fault)?;

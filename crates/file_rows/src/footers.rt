@@ -2,8 +2,8 @@
 //! hexadecimal digits.
 use arrow_columns::SchemaColumn;
 use parquet_columns::{
-    ColumnsError, ElementClaim, ElementColumns, ElementFault, FileColumns, FileFinding,
-    SchemaError, columns_of, read_file,
+    ColumnsError, EdgesClaim, ElementClaim, ElementColumns, ElementFault, ElementLayout,
+    FileColumns, FileFinding, SchemaError, columns_of, read_file,
 };
 use parquet_footer::{
     Footer, FooterError, FooterFinding, FooterText, KeyValue, LogicalType, SchemaElement,
@@ -51,6 +51,10 @@ fn answer_bytes(it: &mut Asked<'_>, bytes: &[u8], key: &str) {
         "elements_of_file" => {
             let read = ManuallyDrop::new(read_file(it.alloc, bytes, key));
             say_elements(&mut it.said, &read);
+        }
+        "layouts_of_file" => {
+            let read = ManuallyDrop::new(read_file(it.alloc, bytes, key));
+            say_layouts(&mut it.said, &read);
         }
         "footer_length" => match bytes.first_chunk::<8>() {
             Some(tail) => {
@@ -102,6 +106,13 @@ fn say_or_dash<T: Debug>(said: &mut Said, value: &Option<T>) {
 fn say_logical(said: &mut Said, logical: &Option<LogicalType<'_>>) {
     match logical {
         None => said.push(" -"),
+        Some(LogicalType::Decimal(scale, precision)) => {
+            said.push(" Decimal(scale");
+            say_or_dash(said, scale);
+            said.push(", precision");
+            say_or_dash(said, precision);
+            said.push(")");
+        }
         Some(LogicalType::Time(utc, unit)) => say!(said, " Time({utc}, {unit:?})"),
         Some(LogicalType::Timestamp(utc, unit)) => say!(said, " Timestamp({utc}, {unit:?})"),
         Some(LogicalType::Integer(bits, signed)) => say!(said, " Integer({bits}, {signed})"),
@@ -282,21 +293,60 @@ fn say_file(said: &mut Said, read: &Result<FileColumns<'_>, SchemaError>) {
     }
 }
 
+/// Says how edges are said.
+fn say_edges(said: &mut Said, edges: EdgesClaim) {
+    match edges {
+        EdgesClaim::Said => {}
+        EdgesClaim::Default => said.push(", edges by default"),
+        EdgesClaim::Broken => said.push(", edges not known"),
+    }
+}
+
 /// Says what an element says beside its column.
-fn say_claim(said: &mut Said, element: &ElementClaim) {
-    let (words, is_known) = match element {
-        ElementClaim::Silent => ("silent", true),
-        ElementClaim::Given {
-            names_crs,
-            knows_edges,
-        } => (if *names_crs { "given CRS" } else { "given" }, *knows_edges),
-        ElementClaim::Beside {
-            metadata,
-            knows_edges,
-        } => (metadata.as_str(), *knows_edges),
-    };
-    said.push(words);
-    said.push(if is_known { "" } else { ", edges not known" });
+fn say_claim(said: &mut Said, claim: &ElementClaim) {
+    match claim {
+        ElementClaim::Silent => said.push("silent"),
+        ElementClaim::Given { names_crs, edges } => {
+            said.push(if *names_crs { "given CRS" } else { "given" });
+            say_edges(said, *edges);
+        }
+        ElementClaim::Beside { metadata, edges } => {
+            said.push(metadata.as_str());
+            say_edges(said, *edges);
+        }
+    }
+}
+
+/// Says the layout of an element.
+fn say_layout(said: &mut Said, layout: ElementLayout) {
+    match layout {
+        ElementLayout::Bytes => said.push("bytes"),
+        ElementLayout::Coordinates(lists, has_z) => {
+            for _ in 0..lists {
+                said.push("LIST of ");
+            }
+            said.push(if has_z { "x, y, z" } else { "x, y" });
+        }
+        ElementLayout::Other(repetition, kind) => {
+            said.push(repetition);
+            said.push(" ");
+            said.push(kind);
+        }
+        ElementLayout::Unjudged => said.push("not judged"),
+    }
+}
+
+/// Says the layouts of the elements of a file, or why there are none.
+fn say_layouts(said: &mut Said, read: &Result<FileColumns<'_>, SchemaError>) {
+    match read {
+        Ok(read) => {
+            for (at, element) in read.elements.iter().enumerate() {
+                said.push(if at > 0 { "; " } else { "" });
+                say_layout(said, element.layout);
+            }
+        }
+        Err(error) => say_fault(said, error),
+    }
 }
 
 /// Says what the elements of a file say beside its columns, or why there are none.
@@ -305,7 +355,7 @@ fn say_elements(said: &mut Said, read: &Result<FileColumns<'_>, SchemaError>) {
         Ok(read) => {
             for (at, element) in read.elements.iter().enumerate() {
                 said.push(if at > 0 { "; " } else { "" });
-                say_claim(said, element);
+                say_claim(said, &element.claim);
             }
         }
         Err(error) => say_fault(said, error),

@@ -3,11 +3,12 @@
 //! `check_unasked` nothing; and then lines of fields, each with ` & ` before it. Behind the line of a
 //! field may stand what its element says beside the column: `element given`, where it gives the
 //! column all that this has, and ` CRS` behind that where it names a CRS; or `element` and extension
-//! metadata, beside those of a field that has an extension name of its own.
+//! metadata, beside those of a field that has an extension name of its own; `element silent`, where
+//! it says nothing. Its layout is that of bytes, or stands behind `; layout`.
 use arrow_columns::SchemaColumn;
 use column_files::{column_line, columns_of_lines};
 use geoparquet::{GeoAnswer, GeoFinding, GeoReport, GeoSource, inspect_geo};
-use parquet_columns::ElementClaim;
+use parquet_columns::{EdgesClaim, ElementClaim, ElementLayout, RootElement};
 use rows::asked::Asked;
 use rows::said::Said;
 use std::alloc::AllocError;
@@ -36,16 +37,22 @@ pub fn answer(it: &mut Asked<'_>) {
     }
 }
 
-/// The lines of fields, each with a line feed, and what the element of each says beside it.
-fn asked(said: &mut Said, text: &str) -> (String, Vec<ElementClaim>) {
+/// The lines of fields, each with a line feed, and what the element of each says beside it, as far as
+/// one says something.
+fn asked(said: &mut Said, text: &str) -> (String, Vec<RootElement>) {
     let mut lines = String::new(said.alloc);
     let mut elements = Vec::new(said.alloc);
+    let mut before = 0usize;
     for part in text.split(" & ") {
         match part.strip_prefix("element ") {
             Some(words) => {
-                let claim = claim_of(said, words);
-                elements.pop();
-                said.put(&mut elements, claim);
+                for _ in elements.len() + 1..before {
+                    let layout = ElementLayout::Unjudged;
+                    let claim = ElementClaim::Silent;
+                    said.put(&mut elements, RootElement { claim, layout });
+                }
+                let element = element_of(said, words);
+                said.put(&mut elements, element);
             }
             None if part.is_empty() => {}
             None => {
@@ -53,31 +60,65 @@ fn asked(said: &mut Said, text: &str) -> (String, Vec<ElementClaim>) {
                 said.note(done);
                 let done = lines.push_str("\n");
                 said.note(done);
-                said.put(&mut elements, ElementClaim::Silent);
+                before = before.saturating_add(1);
             }
         }
     }
     (lines, elements)
 }
 
+/// What is known of an element, by the words behind `element`: what it says, and its layout.
+fn element_of(said: &mut Said, words: &str) -> RootElement {
+    let (words, layout) = words.split_once("; layout ").unwrap_or((words, "bytes"));
+    RootElement {
+        claim: claim_of(said, words),
+        layout: layout_of(layout),
+    }
+}
+
+/// The layout that words name.
+fn layout_of(words: &str) -> ElementLayout {
+    match words {
+        "bytes" => ElementLayout::Bytes,
+        "group of x, y" => ElementLayout::Coordinates(0, false),
+        "group of x, y, z" => ElementLayout::Coordinates(0, true),
+        "LIST of x, y" => ElementLayout::Coordinates(1, false),
+        "LIST of x, y, z" => ElementLayout::Coordinates(1, true),
+        "LIST of LIST of x, y" => ElementLayout::Coordinates(2, false),
+        "LIST of LIST of LIST of x, y" => ElementLayout::Coordinates(3, false),
+        "OPTIONAL DOUBLE" => ElementLayout::Other("OPTIONAL", "DOUBLE"),
+        "REPEATED BYTE_ARRAY" => ElementLayout::Other("REPEATED", "BYTE_ARRAY"),
+        _ => ElementLayout::Unjudged,
+    }
+}
+
+/// How edges are said, by the words behind what an element says.
+fn edges_of(words: &str) -> (&str, EdgesClaim) {
+    if let Some(words) = words.strip_suffix(", edges not known") {
+        return (words, EdgesClaim::Broken);
+    }
+    match words.strip_suffix(", edges by default") {
+        Some(words) => (words, EdgesClaim::Default),
+        None => (words, EdgesClaim::Said),
+    }
+}
+
 /// What an element says, by the words behind `element`.
 fn claim_of(said: &mut Said, words: &str) -> ElementClaim {
-    let (words, knows_edges) = match words.strip_suffix(", edges not known") {
-        Some(words) => (words, false),
-        None => (words, true),
-    };
+    let (words, edges) = edges_of(words);
     match words {
+        "silent" => ElementClaim::Silent,
         "given" => ElementClaim::Given {
             names_crs: false,
-            knows_edges,
+            edges,
         },
         "given CRS" => ElementClaim::Given {
             names_crs: true,
-            knows_edges,
+            edges,
         },
         metadata => ElementClaim::Beside {
             metadata: said.owned(metadata),
-            knows_edges,
+            edges,
         },
     }
 }
@@ -87,7 +128,7 @@ fn say_answer(
     it: &mut Asked<'_>,
     geo: GeoSource<'_>,
     columns: Vec<SchemaColumn>,
-    elements: &[ElementClaim],
+    elements: &[RootElement],
 ) {
     let Ok(answer) = inspect_geo(it.alloc, geo, columns, elements) else {
         return it.said.fail();
@@ -136,6 +177,11 @@ fn say_finding(said: &mut Said, finding: &GeoFinding) {
     say_part(said, &finding.found);
     said.push("|");
     say_part(said, &finding.wanted);
+    if finding.more > 0 {
+        said.push("|");
+        said.shown(&finding.more);
+        said.push(" more");
+    }
 }
 
 /// Says a part of a finding, or `-` where it is absent.

@@ -1,7 +1,8 @@
 //! Rows of reports: calls of `column_reports`, and so of the crates that read files and say what
 //! columns hold. A row's text is lines of fields, with ` & ` between them in place of line feeds;
 //! under `report_file`, `report_file_noted`, `file_words` and `report_size` it is the bytes of a file
-//! in hexadecimal digits, under `columns_of_end` those of the end of an Arrow file, behind the number
+//! in hexadecimal digits, under `differences` and `differences_inferred` such lines of two files with
+//! ` | ` between them, under `columns_of_end` those of the end of an Arrow file, behind the number
 //! of bytes before it, and under `crs` a metadata text.
 use column_check::read_metadata;
 use column_files::{FileFault, Form, open, open_end};
@@ -11,6 +12,7 @@ use column_reports::{
 use json::Scratch;
 use parquet_columns::SchemaError;
 use rows::asked::Asked;
+use same_columns::{Difference, differences};
 use std::alloc::{AllocError, Global};
 
 /// What is asked of a report in which notes stand and no type is inferred.
@@ -45,6 +47,8 @@ pub fn answer(it: &mut Asked<'_>) {
         },
         "columns_of_end" => end(it),
         "crs" => crs(it),
+        "differences" => differing(it, text.as_str(), false),
+        "differences_inferred" => differing(it, text.as_str(), true),
         "column_words" => words(it, column_words(it.alloc, text.as_str())),
         _ => it.no_command(),
     }
@@ -148,6 +152,36 @@ fn words(it: &mut Asked<'_>, words: Result<Vec<String>, FileFault>) {
         }
         Err(fault) => say_fault(it, &fault),
     }
+}
+
+/// Says the differences of two files of lines, with ` & ` between them, or `none`.
+fn differing(it: &mut Asked<'_>, text: &str, infer: bool) {
+    let (first, other) = text.split_once(" | ").unwrap_or((text, ""));
+    match differences_of(it.alloc, first, other, infer) {
+        Ok(found) if found.is_empty() => it.said.push("none"),
+        Ok(found) => {
+            for (place, one) in found.iter().enumerate() {
+                if place > 0 {
+                    it.said.push(" & ");
+                }
+                it.said.name(one);
+            }
+        }
+        Err(fault) => say_fault(it, &fault),
+    }
+}
+
+/// The differences of two files of lines.
+fn differences_of(
+    alloc: Global,
+    first: &str,
+    other: &str,
+    infer: bool,
+) -> Result<Vec<Difference>, FileFault> {
+    let options = Options { infer, notes: true };
+    let first = report_of(alloc, open(alloc, first.as_bytes())?, options)?;
+    let other = report_of(alloc, open(alloc, other.as_bytes())?, options)?;
+    Ok(differences(alloc, first.columns.as_slice(), other.columns.as_slice())?)
 }
 
 /// Says why a file is not read.

@@ -3,7 +3,9 @@
 
 use check_options::{Said, asked_by};
 use column_files::{Form, ReadFault};
-use file_check::{Asked, Tally, begin_output, check_file, check_source, end_output, refuse};
+use file_check::{
+    Asked, Tally, begin_output, check_file, check_source, compare_columns, end_output, refuse,
+};
 use std::io::{ErrorKind, Write};
 use std::process::ExitCode;
 use std::{env, fs, io};
@@ -28,6 +30,13 @@ fn check(rt: &HostRuntime, file: &str, asked: &Asked, tally: &mut Tally) -> io::
     }
 }
 
+/// Compares the columns of a file that was read with those of the first one, with `--same`. Returns
+/// the status.
+fn compare(rt: &HostRuntime, file: &str, asked: &Asked, tally: &mut Tally) -> io::Result<u8> {
+    let (alloc, mut out, mut err) = (rt.alloc(), rt.stdout(), rt.stderr());
+    compare_columns(alloc, asked, file, tally, &mut out, &mut err)
+}
+
 /// Does what the words ask. Returns the status.
 fn run(rt: &HostRuntime) -> io::Result<u8> {
     let words: Vec<String> = env::args(rt)?.skip(1).collect(rt.alloc())?;
@@ -44,6 +53,7 @@ fn check_all(rt: &HostRuntime, asked: &Asked) -> io::Result<u8> {
     begin_output(asked, &mut rt.stdout())?;
     for file in &asked.files {
         status = check(rt, file.as_str(), asked, &mut tally)?.max(status);
+        status = compare(rt, file.as_str(), asked, &mut tally)?.max(status);
     }
     end_output(rt.alloc(), asked, &tally, &mut rt.stdout())?;
     Ok(status)

@@ -1,5 +1,5 @@
 -- The facts of columns, one after another.
-use Rattle.std.proofs.Common.{◌≡◌, ℕ, ◌+◌, ◌<◌, ◌≤◌, List, [], ◌∷◌, ◌++◌, Option, Some, None, IfSome, Global, length, get_or, take, drop, map, refl, sym, ap, ◌∙◌, append_assoc}
+use Rattle.std.proofs.Common.{◌≡◌, ℕ, ◌+◌, ◌<◌, ◌≤◌, List, [], ◌∷◌, ◌++◌, Option, Some, None, IfSome, Global, length, get_or, take, drop, map, sym, ap, ◌∙◌, append_assoc}
 use Rattle.std.specs.Borrow.{Bor}
 use Rattle.std.proofs.lemmas.List.{append-nil, at_drop_more, drop_all, map-append, take_more}
 use Rattle.json.specs.Json.{Json}
@@ -8,7 +8,7 @@ use Rattle.json.specs.declared.value.Value.{Value}
 use Rattle.arrow_columns.specs.Column.{ColumnTree}
 use Rattle.value_tokens.specs.Values.{IsReadable}
 use Rattle.geoparquet.specs.Extensions.{IsRead}
-use Rattle.geoparquet.specs.Facts.{FactsOf, column_facts, facts_behind, facts_view, member_for}
+use Rattle.geoparquet.specs.Facts.{column_facts, facts_behind, facts_view, member_for}
 use Rattle.geoparquet.specs.Sources.{sourced}
 use Rattle.geoparquet.specs.Versions.{version_of}
 use Rattle.geoparquet.specs.declared.facts.ColumnFacts.{ColumnFacts}

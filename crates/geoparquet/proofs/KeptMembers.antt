@@ -1,7 +1,5 @@
 -- The members of a value that was read: what `serde_json` reads of them, and how deep they nest.
 use Rattle.std.proofs.Common.{◌≡◌, ℕ, ◌<◌, ◌≤◌, Bool, true, false, cond, bytes_eq, [], append-nil, Option, None, Some, option_map, option_and_then, codes, refl, sym, ap, ◌∙◌, subst, arith}
-use Rattle.std.specs.Cmp.Lexicographic.{nat_list_eq_equiv}
-use Rattle.std.proofs.lemmas.Option.{option_and_then_some}
 use Rattle.json.specs.Json as json
 use Rattle.json.specs.Find as find
 use Rattle.json.specs.Json.{value}
@@ -11,8 +9,8 @@ use Rattle.json.specs.Tree.{depth, json_tokens, members_depth}
 use Rattle.json.proofs.Numbered.{HasNumbers-get}
 use Rattle.json.proofs.Printed.Tokens.{tokens-print}
 use Rattle.json.proofs.Printed.Trees.{ArePrintable-json_tokens, value-json_tokens}
-use Rattle.serde_json.specs.Data.{Data, number, array, object, Members, no_members, put}
-use Rattle.serde_json.specs.Find.{get, get_member, as_str}
+use Rattle.serde_json.specs.Data.{Data, number, array, object, no_members}
+use Rattle.serde_json.specs.Find.{get, as_str}
 use Rattle.serde_json.specs.Read.{of_json, of_items, of_members, number_of, converted}
 use Rattle.arrow_values.specs.Tree.{Text}
 use Rattle.geoarrow_meta.specs.declared.edges.Edges.{Edges}

@@ -4,6 +4,7 @@ pub mod Marking
 pub mod Putting
 pub mod Naming
 pub mod Among
+pub mod Capping
 pub mod Claims
 pub mod Counted
 pub mod Sourcing

@@ -10,17 +10,17 @@ use Rattle.std.proofs.lemmas.List.Folds.{find-append}
 use Rattle.std.proofs.lemmas.Slice.Eq.{bytes_eq-Decides}
 use Rattle.arrow_values.specs.Tree.{Text}
 use Rattle.arrow_columns.specs.Column.{ColumnTree}
-use Rattle.parquet_columns.specs.declared.claim.ElementClaim.{ElementClaim}
-use Rattle.geoparquet.specs.Sources.{Element, element_view, sourced, source_named, element_at, element_first, AreElements}
+use Rattle.parquet_columns.specs.declared.layouts.RootElement.{RootElement}
+use Rattle.geoparquet.specs.Sources.{Element, element_view, sourced, source_named, element_first, AreElements}
 use Rattle.geoparquet.specs.declared.sources.Sourced.{Sourced}
 
 abbrev pub Named : Type 0
-Named = BTreeMap (Bor Text) (Option (Bor ElementClaim))
+Named = BTreeMap (Bor Text) (Option (Bor RootElement))
 
-abbrev pub at : Named → Text → Option (Option (Bor ElementClaim))
+abbrev pub at : Named → Text → Option (Option (Bor RootElement))
 at m name = get_by (λ k. slice_cmp nat_cmp name k.now) m
 
-abbrev said : Option (Option (Bor ElementClaim)) → Option (Option Element)
+abbrev said : Option (Option (Bor RootElement)) → Option (Option Element)
 said o = option_map (option_map (λ e. element_view e.now)) o
 
 abbrev first : Option (ColumnTree × Option Element) → Option (Option Element)
@@ -32,7 +32,7 @@ one_behind : (xs : List (ColumnTree × Option Element)) (x : ColumnTree × Optio
 one_behind xs x name = find-append (λ y. bytes_eq y.0.name name) xs (x ∷ [])
 
 -- the map has the name already
-stays : (b : Bool) (x : ColumnTree × Option Element) (old : Option (Option (Bor ElementClaim))) (o : Option (ColumnTree × Option Element)) → (b ≡ true → is_some old ≡ true)
+stays : (b : Bool) (x : ColumnTree × Option Element) (old : Option (Option (Bor RootElement))) (o : Option (ColumnTree × Option Element)) → (b ≡ true → is_some old ≡ true)
     → said old ≡ first o → said old ≡ first (option_or o (cond b (Some x) None))
 stays false x old None there is = is
 stays false x old (Some y) there is = is
@@ -50,7 +50,7 @@ element_stays ss s m key same there are name =
     ∙ ap first (sym (one_behind xs x name)) ∙ ap (λ ys. element_first ys name) (sym (map-append sourced ss (s ∷ [])))
 
 -- the map takes the name
-takes : (b : Bool) (x : ColumnTree × Option Element) (v : Option (Bor ElementClaim)) (old : Option (Option (Bor ElementClaim))) (o : Option (ColumnTree × Option Element))
+takes : (b : Bool) (x : ColumnTree × Option Element) (v : Option (Bor RootElement)) (old : Option (Option (Bor RootElement))) (o : Option (ColumnTree × Option Element))
     → option_map (λ e. element_view e.now) v ≡ x.1 → (b ≡ true → is_some old ≡ false)
     → said old ≡ first o → said (cond b (Some v) old) ≡ first (option_or o (cond b (Some x) None))
 takes false x v old None value none is = is

@@ -1,5 +1,5 @@
 -- What `geo` says of a column against the column itself (docs/FORMAT.md, 5.1).
-use Rattle.std.specs.Prelude.{◌&&◌, ◌||◌, Bool, true, false, not, List, [], ◌∷◌, codes, bytes_eq, Option, None, Some, is_some, option_and_then, if◌then◌else◌}
+use Rattle.std.specs.Prelude.{◌||◌, Bool, true, false, not, List, [], codes, bytes_eq, Option, None, Some, is_some, option_and_then, if◌then◌else◌}
 use Rattle.json.specs.Json.{Json}
 use Rattle.json.specs.Find.{get, as_str}
 use Rattle.serde_json.specs.Data as own
@@ -12,41 +12,42 @@ use Rattle.geoarrow_layout.specs.declared.native_kinds.NativeKind.{NativeKind}
 use Rattle.geoarrow_layout.specs.declared.native_kinds.NativeKind.TheVariants.{Point, LineString, Polygon, MultiPoint, MultiLineString, MultiPolygon}
 use Rattle.geoparquet.specs.Findings.{Finding}
 use Rattle.geoparquet.specs.Pairs.{text_findings}
-use Rattle.geoparquet.specs.Sources.{Element, silent, gives, beside}
-use Rattle.geoparquet.specs.Rules.{found_at, part_place, items_findings, unless}
+use Rattle.geoparquet.specs.Sources.{Claim, silent, gives, beside, Element}
+use Rattle.geoparquet.specs.Capped.{capped}
+use Rattle.geoparquet.specs.Rules.{part_place, items_findings, unless}
 use Rattle.geoparquet.specs.MemberRules.{encoding_of, is_edges, is_edges_value}
-use Rattle.geoparquet.specs.StrictLayouts.{layout_of}
+use Rattle.parquet_columns.specs.declared.geometry.EdgesClaim.{EdgesClaim}
+use Rattle.parquet_columns.specs.declared.geometry.EdgesClaim.TheVariants as edges
+use Rattle.geoparquet.specs.StrictLayouts.{layout_by, is_laid_out, layout_text}
 use Rattle.geoparquet.specs.TypeNames.{type_text}
 use Rattle.geoparquet.specs.TypeRules.{types_in, type_of, is_text}
 use Rattle.geoparquet.specs.Values.{geo_value}
 use Rattle.geoparquet.specs.declared.layout.Layout.{Layout}
-use Rattle.geoparquet.specs.declared.layout.Layout.TheVariants.{Binary, Native}
-use Rattle.geoparquet.specs.declared.code.GeoCode.{GeoCode}
+use Rattle.geoparquet.specs.declared.layout.Layout.TheVariants.{Native}
 use Rattle.geoparquet.specs.declared.code.GeoCode.TheVariants.{Layout as NoLayout, TypesContradict, EncodingContradicts, EdgesContradict}
 use Rattle.geoparquet.specs.declared.finding.Version.{Version}
 use Rattle.geoparquet.specs.declared.finding.Version.TheVariants.{V2}
 
 -- ---- the layout
 
--- the layout of the encoding, where the column has it
-abbrev pub layout_in : Option Text → Option ColumnTree → Option Layout
-layout_in (Some s) (Some c) = layout_of s c.data_type
-layout_in _ _ = None
+-- the layout of the encoding, where the column has it: its element, if there is one, or else its type
+abbrev pub layout_in : Option Text → Option ColumnTree → Option Element → Option Layout
+layout_in (Some s) (Some c) e = layout_by s c e
+layout_in _ _ e = None
 
-abbrev pub stored_layout : Version → Option ColumnTree → Json → Option Layout
-stored_layout version c j = layout_in (encoding_of version j) c
-
--- a finding at `encoding`
-abbrev pub encoding_finding : GeoCode → Text → Json → Text → Finding
-encoding_finding code key j wanted = found_at code (Some key) (part_place key (codes "encoding")) (get (codes "encoding") j) (Some wanted)
+abbrev pub stored_layout : Version → Option ColumnTree → Option Element → Json → Option Layout
+stored_layout version c e j = layout_in (encoding_of version j) c e
 
 -- the column has another layout than that of its encoding; not judged where there is no column, or no encoding
-abbrev pub encoding_layout_findings : Text → Option Text → Option ColumnTree → Json → List Finding
-encoding_layout_findings key (Some s) (Some c) j = unless (is_some (layout_of s c.data_type)) (encoding_finding NoLayout key j s)
-encoding_layout_findings key _ _ j = []
+abbrev pub layout_finding : Text → Text → Text → Finding
+layout_finding key found wanted = record { code = NoLayout; column = Some key; pointer = part_place key (codes "encoding"); found = Some found; wanted = Some wanted; more = 0 }
 
-abbrev pub layout_findings : Version → Text → Option ColumnTree → Json → List Finding
-layout_findings version key c j = encoding_layout_findings key (encoding_of version j) c j
+abbrev pub encoding_layout_findings : Text → Option Text → Option ColumnTree → Option Element → List Finding
+encoding_layout_findings key (Some s) (Some c) e = unless (is_laid_out s c e) (layout_finding key (layout_text c e) s)
+encoding_layout_findings key _ _ e = []
+
+abbrev pub layout_findings : Version → Text → Option ColumnTree → Option Element → Json → List Finding
+layout_findings version key c e j = encoding_layout_findings key (encoding_of version j) c e
 
 -- ---- the geometry types, against a native layout
 
@@ -62,15 +63,15 @@ abbrev pub goes_with : NativeKind → Dimension → List Json → Json → Bool
 goes_with k d before j = not (is_some (type_of j)) || (is_text (type_text k d) j || is_text (type_text (single_of k) d) j)
 
 abbrev pub types_beside_findings : Text → NativeKind → Dimension → Option (List Json) → List Finding
-types_beside_findings key k d (Some js) = items_findings (goes_with k d) TypesContradict key (part_place key (codes "geometry_types")) [] js
+types_beside_findings key k d (Some js) = capped (items_findings (goes_with k d) TypesContradict key (part_place key (codes "geometry_types")) [] js)
 types_beside_findings key k d None = []
 
 abbrev pub types_of_layout_findings : Text → Option Layout → Json → List Finding
 types_of_layout_findings key (Some (Native k d)) j = types_beside_findings key k d (types_in j)
 types_of_layout_findings key _ j = []
 
-abbrev pub types_contradict_findings : Version → Text → Option ColumnTree → Json → List Finding
-types_contradict_findings version key c j = types_of_layout_findings key (stored_layout version c j) j
+abbrev pub types_contradict_findings : Version → Text → Option ColumnTree → Option Element → Json → List Finding
+types_contradict_findings version key c e j = types_of_layout_findings key (stored_layout version c e j) j
 
 -- ---- the extension name
 
@@ -97,22 +98,28 @@ named_encoding None = None
 named_encoding (Some c) = option_and_then own_encoding (name_on c)
 
 -- the encoding that an element says: that of well-known binary, if it is of a geometry type
+abbrev pub claimed_encoding : Claim → Option Text
+claimed_encoding silent = None
+claimed_encoding (gives names_crs edges) = Some (codes "WKB")
+claimed_encoding (beside s edges) = Some (codes "WKB")
+
 abbrev pub element_encoding : Option Element → Option Text
 element_encoding None = None
-element_encoding (Some silent) = None
-element_encoding (Some (gives names_crs knows_edges)) = Some (codes "WKB")
-element_encoding (Some (beside s knows_edges)) = Some (codes "WKB")
+element_encoding (Some e) = claimed_encoding e.claim
 
 -- the encoding that a field says: none where its column has its name from the element
+abbrev pub encoding_beside : Claim → Option ColumnTree → Option Text
+encoding_beside silent c = named_encoding c
+encoding_beside (gives names_crs edges) c = None
+encoding_beside (beside s edges) c = named_encoding c
+
 abbrev pub field_encoding : Option Element → Option ColumnTree → Option Text
 field_encoding None c = named_encoding c
-field_encoding (Some silent) c = named_encoding c
-field_encoding (Some (gives names_crs knows_edges)) c = None
-field_encoding (Some (beside s knows_edges)) c = named_encoding c
+field_encoding (Some e) c = encoding_beside e.claim c
 
 -- the encoding that a member says, where the column has the layout of it
-abbrev pub layout_encoding : Version → Option ColumnTree → Json → Option Text
-layout_encoding version c j = if is_some (stored_layout version c j) then encoding_of version j else None
+abbrev pub layout_encoding : Version → Option ColumnTree → Option Element → Json → Option Text
+layout_encoding version c e j = if is_some (stored_layout version c e j) then encoding_of version j else None
 
 -- two of the element, the field and `encoding` say two
 abbrev pub encodings_findings : Text → Option Json → Option ColumnTree → Option Element → Option Text → List Finding
@@ -121,7 +128,7 @@ encodings_findings key found c e said =
 
 abbrev pub encoding_contradicts_findings : Version → Text → Option ColumnTree → Option Element → Json → List Finding
 encoding_contradicts_findings version key c e j =
-    encodings_findings key (get (codes "encoding") j) c e (layout_encoding version c j)
+    encodings_findings key (get (codes "encoding") j) c e (layout_encoding version c e j)
 
 -- ---- the edges
 
@@ -162,11 +169,14 @@ own_edges (own.object ms) = edges_at (get_data (codes "edges") (own.object ms))
 own_edges d = None
 
 -- the metadata of an element: those of its column, or those beside
+abbrev pub claimed_metadata : Claim → Option ColumnTree → Data
+claimed_metadata silent c = own.null
+claimed_metadata (gives names_crs edges) c = own_metadata c
+claimed_metadata (beside s edges) c = geo_value s
+
 abbrev pub element_metadata : Option Element → Option ColumnTree → Data
 element_metadata None c = own.null
-element_metadata (Some silent) c = own.null
-element_metadata (Some (gives names_crs knows_edges)) c = own_metadata c
-element_metadata (Some (beside s knows_edges)) c = geo_value s
+element_metadata (Some e) c = claimed_metadata e.claim c
 
 -- the edges in the metadata of an element: planar where there are none
 abbrev pub edges_in : Data → Option Text
@@ -175,22 +185,44 @@ edges_in (own.object ms) = own_edges (own.object ms)
 edges_in d = None
 
 -- the edges that an element says, if it is of a geometry type; those of an algorithm that is not known say nothing
-abbrev pub edges_if : Bool → Data → Option Text
-edges_if true d = edges_in d
-edges_if false d = None
+abbrev pub edges_if : EdgesClaim → Data → Option Text
+edges_if edges.Said d = edges_in d
+edges_if edges.Default d = edges_in d
+edges_if edges.Broken d = None
+
+abbrev pub claimed_edges : Claim → Data → Option Text
+claimed_edges silent d = None
+claimed_edges (gives names_crs said) d = edges_if said d
+claimed_edges (beside s said) d = edges_if said d
 
 abbrev pub element_edges : Option Element → Data → Option Text
 element_edges None d = None
-element_edges (Some silent) d = None
-element_edges (Some (gives names_crs knows_edges)) d = edges_if knows_edges d
-element_edges (Some (beside s knows_edges)) d = edges_if knows_edges d
+element_edges (Some e) d = claimed_edges e.claim d
+
+-- whether they are the format's default
+abbrev pub is_default : EdgesClaim → Bool
+is_default edges.Said = false
+is_default edges.Default = true
+is_default edges.Broken = false
+
+abbrev pub claims_default : Claim → Bool
+claims_default silent = false
+claims_default (gives names_crs said) = is_default said
+claims_default (beside s said) = is_default said
+
+abbrev pub are_default_edges : Option Element → Bool
+are_default_edges None = false
+are_default_edges (Some e) = claims_default e.claim
 
 -- the edges that a field says: none where its column has its metadata from the element
+abbrev pub edges_beside : Claim → Data → Option Text
+edges_beside silent d = own_edges d
+edges_beside (gives names_crs edges) d = None
+edges_beside (beside s edges) d = own_edges d
+
 abbrev pub field_edges : Option Element → Data → Option Text
 field_edges None d = own_edges d
-field_edges (Some silent) d = own_edges d
-field_edges (Some (gives names_crs knows_edges)) d = None
-field_edges (Some (beside s knows_edges)) d = own_edges d
+field_edges (Some e) d = edges_beside e.claim d
 
 -- two of the element, the field and `edges` say two
 abbrev pub edges_claims_findings : Text → Option Json → Option ColumnTree → Option Element → Option Text → List Finding

@@ -1,5 +1,5 @@
 -- The CRS and the edges that count: by which a column is judged where its element, its member and its field say some (docs/FORMAT.md, 5).
-use Rattle.std.specs.Prelude.{◌&&◌, ◌||◌, is_some, Bool, true, false, not, List, codes, bytes_eq, Option, None, Some, if◌then◌else◌}
+use Rattle.std.specs.Prelude.{[], ◌&&◌, ◌||◌, is_some, Bool, true, false, not, List, codes, bytes_eq, Option, None, Some, if◌then◌else◌}
 use Rattle.json.specs.Json.{Json}
 use Rattle.json.specs.Find.{get}
 use Rattle.arrow_values.specs.Tree.{Text}
@@ -7,8 +7,9 @@ use Rattle.arrow_columns.specs.Column.{ColumnTree}
 use Rattle.crs_identity.specs.Verdicts.{Claimed, class_said, form_said, has_paired}
 use Rattle.crs_identity.specs.declared.class.Class.{Class}
 use Rattle.crs_identity.specs.declared.class.Class.TheVariants as classes
-use Rattle.geoparquet.specs.Contradictions.{element_edges, element_metadata, field_edges, own_metadata, said_edges}
+use Rattle.geoparquet.specs.Contradictions.{element_metadata, own_metadata}
 use Rattle.geoparquet.specs.CrsClaims.{element_crs, element_json, field_json, own_crs_in, said_crs}
+use Rattle.geoparquet.specs.EdgesClaims.{edges_counting}
 use Rattle.geoparquet.specs.Findings.{Finding}
 use Rattle.geoparquet.specs.Rules.{found_at, part_place, unless}
 use Rattle.geoparquet.specs.Sources.{Element}
@@ -17,6 +18,7 @@ use Rattle.geoparquet.specs.declared.code.GeoCode.TheVariants.{EdgesOnProjected}
 use Rattle.geoparquet.specs.declared.counting.Asked.{Asked}
 use Rattle.geoparquet.specs.declared.counting.Asked.TheVariants.{Projected, Paired}
 use Rattle.geoparquet.specs.declared.finding.Version.{Version}
+use Rattle.geoparquet.specs.declared.finding.Version.TheVariants.{V1_1}
 
 -- ---- the CRS
 
@@ -33,6 +35,10 @@ crs_counting e element field said = counting (counting (element_crs e element) s
 abbrev pub crs_that_counts : Version → Option ColumnTree → Option Element → Json → Option Claimed
 crs_that_counts version c e j =
     crs_counting e (element_json e c) (field_json e c) (said_crs version (get (codes "crs") j))
+
+-- where there is no member
+abbrev pub crs_alone : Option ColumnTree → Option Element → Option Claimed
+crs_alone c e = crs_counting e (element_json e c) (field_json e c) None
 
 -- whether it is known to be projected
 abbrev pub is_projected_class : Option Class → Bool
@@ -64,28 +70,21 @@ is_crs_paired version c e j =
 
 -- ---- the edges
 
--- those that a member says: its text, where that is one of the version's
-abbrev pub member_edges : Version → Option Json → Option Text
-member_edges version None = None
-member_edges version (Some j) = said_edges version (Some j)
-
--- the first that are said
-abbrev pub edges_that_count : Option Text → Option Text → Option Text
-edges_that_count (Some said) other = Some said
-edges_that_count None other = other
-
 -- planar where none are said
 abbrev pub is_planar : Option Text → Bool
 is_planar None = true
 is_planar (Some s) = bytes_eq s (codes "planar")
 
--- in the order of the element, the member and the field
 abbrev pub are_planar : Version → Option ColumnTree → Option Element → Option Json → Bool
-are_planar version c e found =
-    is_planar (edges_that_count (element_edges e (element_metadata e c)) (edges_that_count (member_edges version found) (field_edges e (own_metadata c))))
+are_planar version c e member = is_planar (edges_counting version member e (element_metadata e c) (own_metadata c))
 
 -- edges that are not planar, and a projected CRS; not judged before 1.0.0
 abbrev pub edges_on_projected_findings : Version → Text → Option ColumnTree → Option Element → Json → List Finding
 edges_on_projected_findings version key c e j =
-    unless (not (is_judged version) || (are_planar version c e (get (codes "edges") j) || not (is_projected (crs_that_counts version c e j))))
+    unless (not (is_judged version) || (are_planar version c e (Some j) || not (is_projected (crs_that_counts version c e j))))
     (found_at EdgesOnProjected (Some key) (part_place key (codes "edges")) (get (codes "edges") j) None)
+
+-- those of a column that has no member, of which no place in the metadata tells
+abbrev pub own_on_projected_findings : Text → Option ColumnTree → Option Element → List Finding
+own_on_projected_findings key c e =
+    unless (are_planar V1_1 c e None || not (is_projected (crs_alone c e))) (found_at EdgesOnProjected (Some key) [] None None)

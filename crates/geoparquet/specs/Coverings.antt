@@ -2,13 +2,13 @@
 use Rattle.std.specs.Prelude.{◌&&◌, ◌||◌, Bool, true, false, not, List, [], ◌∷◌, ◌++◌, codes, bytes_eq, Option, None, Some, is_some, option_map, option_and_then, flat_map, find, IfSome, ⊤, if◌then◌else◌}
 use Rattle.std.specs.Bool.{beq}
 use Rattle.std.specs.List.{list_all}
-use Rattle.json.specs.Json.{Json, object, Items, no_items, item}
+use Rattle.json.specs.Json.{Json, Items, no_items, item}
 use Rattle.json.specs.Find.{get, at, as_str, as_array}
 use Rattle.json.specs.Value.{value_view}
 use Rattle.value_tokens.specs.Values.{IsReadable, is_object}
 use Rattle.arrow_values.specs.Tree.{Text, Tree, plain, float32, float64, struct, FieldTrees, no_fields, field}
 use Rattle.arrow_values.specs.View.{field_trees}
-use Rattle.arrow_columns.specs.Column.{TypeTree, known, other, ColumnTree}
+use Rattle.arrow_columns.specs.Column.{TypeTree, known, ColumnTree}
 use Rattle.arrow_columns.specs.Names.{first_of, is_one}
 use Rattle.geoparquet.specs.Findings.{Finding, member_place, item_place}
 use Rattle.geoparquet.specs.Rules.{found_at, part_place, unless}

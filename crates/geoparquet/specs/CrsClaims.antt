@@ -13,7 +13,7 @@ use Rattle.geoparquet.specs.Findings.{Finding, shown_value}
 use Rattle.geoparquet.specs.Identifiers.{default_identifier}
 use Rattle.geoparquet.specs.Malformed.{is_malformed, is_projjson}
 use Rattle.geoparquet.specs.Pairs.{first_pair, pair_findings}
-use Rattle.geoparquet.specs.Sources.{Element, silent, gives, beside}
+use Rattle.geoparquet.specs.Sources.{Claim, silent, gives, beside, Element}
 use Rattle.geoparquet.specs.Versions.{is_judged}
 use Rattle.geoparquet.specs.declared.code.GeoCode.TheVariants.{CrsContradicts, CrsNotCompared}
 use Rattle.geoparquet.specs.declared.finding.Version.{Version}
@@ -100,18 +100,24 @@ own_crs_in (Some j) = whole_crs j
 -- ---- what an element and a field say
 
 -- the extension metadata of an element: those of its column, or those beside
+abbrev pub claimed_json : Claim → Option ColumnTree → Option Json
+claimed_json silent c = None
+claimed_json (gives names_crs edges) c = own_json c
+claimed_json (beside s edges) c = json_in s
+
 abbrev pub element_json : Option Element → Option ColumnTree → Option Json
 element_json None c = None
-element_json (Some silent) c = None
-element_json (Some (gives names_crs knows_edges)) c = own_json c
-element_json (Some (beside s knows_edges)) c = json_in s
+element_json (Some e) c = claimed_json e.claim c
 
 -- those of a field: none where its column has them from the element
+abbrev pub json_beside : Claim → Option ColumnTree → Option Json
+json_beside silent c = own_json c
+json_beside (gives names_crs edges) c = None
+json_beside (beside s edges) c = own_json c
+
 abbrev pub field_json : Option Element → Option ColumnTree → Option Json
 field_json None c = own_json c
-field_json (Some silent) c = own_json c
-field_json (Some (gives names_crs knows_edges)) c = None
-field_json (Some (beside s knows_edges)) c = own_json c
+field_json (Some e) c = json_beside e.claim c
 
 -- whether an element denotes null: it names a key that has no PROJJSON, of which `CrsKeyMissing` is found (docs/FORMAT.md, 4.6)
 abbrev pub is_null : Option Json → Bool
@@ -127,12 +133,15 @@ abbrev pub named_crs : Option Json → Option Claimed
 named_crs None = Some default_claim
 named_crs (Some j) = if is_null (get (codes "crs") j) || is_broken j then None else or_default (own_crs j)
 
+abbrev pub claimed_crs : Claim → Option Json → Option Claimed
+claimed_crs silent own = None
+claimed_crs (gives false edges) own = Some default_claim
+claimed_crs (gives true edges) own = named_crs own
+claimed_crs (beside s edges) own = named_crs own
+
 abbrev pub element_crs : Option Element → Option Json → Option Claimed
 element_crs None own = None
-element_crs (Some silent) own = None
-element_crs (Some (gives false knows_edges)) own = Some default_claim
-element_crs (Some (gives true knows_edges)) own = named_crs own
-element_crs (Some (beside s knows_edges)) own = named_crs own
+element_crs (Some e) own = claimed_crs e.claim own
 
 -- ---- findings
 

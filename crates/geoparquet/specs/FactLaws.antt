@@ -25,5 +25,5 @@ IsJudgedByFact =
 -- of a column with a member `GeoLayout` is found exactly where its facts say so
 abbrev pub IsLayoutFound : Type 0
 IsLayoutFound =
-    (version : Version) (key : Text) (c : ColumnTree) (j : Json)
-    → are_kept (layout_findings version key (Some c) j) ≡ not (layout_contradicts version (Some j) c)
+    (version : Version) (key : Text) (c : ColumnTree) (e : Option Element) (j : Json)
+    → are_kept (layout_findings version key (Some c) e j) ≡ not (layout_contradicts version (Some j) c e)

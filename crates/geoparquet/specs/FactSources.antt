@@ -1,5 +1,5 @@
 -- Which of the three sources of a fact counts, and what the others say against it (docs/FORMAT.md, 5).
-use Rattle.std.specs.Prelude.{Bool, true, false, not, Option, None, Some, is_some, option_and_then, bytes_eq, codes, if◌then◌else◌}
+use Rattle.std.specs.Prelude.{Bool, true, false, not, Option, None, Some, is_some, bytes_eq, codes, if◌then◌else◌}
 use Rattle.std.specs.Option.{option_or}
 use Rattle.arrow_values.specs.Tree.{Text}
 use Rattle.crs_identity.specs.declared.verdict.Verdict.{Verdict}

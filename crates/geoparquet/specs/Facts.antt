@@ -1,22 +1,21 @@
 -- The facts of a column: of its CRS, its edges and its encoding what counts, by which source, and what the others say against it (docs/FORMAT.md, 5).
 use Rattle.std.specs.Prelude.{Bool, true, false, not, List, [], ◌∷◌, ◌++◌, codes, string_bytes, Option, None, Some, is_some, option_and_then, option_map, unwrap_or, if◌then◌else◌}
 use Rattle.std.specs.Str.{is_utf8}
-use Rattle.json.specs.Json.{Json, null, object, string}
+use Rattle.json.specs.Json.{Json, null, string}
 use Rattle.json.specs.Find.{get, as_str}
-use Rattle.serde_json.specs.Data as own
 use Rattle.serde_json.specs.Data.{Data}
-use Rattle.serde_json.specs.Find.{get as get_data}
 use Rattle.value_tokens.specs.Values.{is_object}
 use Rattle.arrow_values.specs.Tree.{Text}
 use Rattle.arrow_columns.specs.Column.{ColumnTree}
 use Rattle.crs_identity.specs.Forms.{json_in}
 use Rattle.crs_identity.specs.Verdicts.{Claimed, crs_verdict}
-use Rattle.geoparquet.specs.Contradictions.{element_edges, element_encoding, element_metadata, field_edges, field_encoding, layout_encoding, own_metadata, said_edges}
+use Rattle.geoparquet.specs.Contradictions.{element_encoding, element_metadata, field_encoding, layout_encoding, own_metadata}
 use Rattle.geoparquet.specs.CrsClaims.{crs_at, element_crs, element_json, field_json, own_crs_in, said_crs}
+pub use Rattle.geoparquet.specs.EdgesClaims.{are_absent, edges_claims, edges_counting, edges_defaults, has_no_edges, is_default_if, member_edges}
 use Rattle.geoparquet.specs.FactSources.{BySource, against, of_source, source_counting, text_verdict}
 use Rattle.geoparquet.specs.GeoColumns.{left_for}
 use Rattle.geoparquet.specs.MemberRules.{encoding_of}
-use Rattle.geoparquet.specs.StrictLayouts.{layout_of}
+use Rattle.geoparquet.specs.StrictLayouts.{is_laid_out}
 use Rattle.geoparquet.specs.MemberFacts.{SaidOf, member_facts, member_facts_view}
 use Rattle.geoparquet.specs.Identifiers.{default_identifier}
 use Rattle.geoparquet.specs.Sources.{Element, Source, unasked, missing, value, with_elements}
@@ -125,36 +124,6 @@ crs_fact version member c e = crs_fact_in version e (json_sources member c e)
 
 -- ---- the edges
 
--- what a member says of them
-abbrev pub member_edges : Version → Option Json → Option Text
-member_edges version None = None
-member_edges version (Some j) = said_edges version (get (codes "edges") j)
-
--- what each source says, by the extension metadata of the element, the member and those of the field
-abbrev pub edges_claims : Version → Option Json → Option Element → Data → Data → BySource Text
-edges_claims version member e element field =
-    record { element = element_edges e element; geo = member_edges version member; field = field_edges e field }
-
--- a source that says something says the default where it has no `edges`; an element always says them
-abbrev pub is_default_if : Bool → Option Text → Option Bool
-is_default_if is_default said = option_map (λ s. is_default) said
-
-abbrev pub are_absent : Option Data → Bool
-are_absent None = true
-are_absent (Some own.null) = true
-are_absent (Some d) = false
-
-abbrev pub has_no_edges : Option Json → Bool
-has_no_edges None = true
-has_no_edges (Some j) = if is_some (get (codes "edges") j) then false else true
-
-abbrev pub edges_defaults : Option Json → Data → BySource Text → BySource Bool
-edges_defaults member field ts = record {
-  element = is_default_if false ts.element;
-  geo = is_default_if (has_no_edges member) ts.geo;
-  field = is_default_if (are_absent (get_data (codes "edges") field)) ts.field;
-}
-
 abbrev pub edges_from : BySource Text → FactSource → Option EdgesOf
 edges_from ts from = option_map (λ s. record { from = from; edges = s; against = against text_verdict from ts }) (of_source from ts)
 
@@ -163,7 +132,7 @@ edges_fact_of ts ds = option_and_then (edges_from ts) (source_counting ds)
 
 abbrev pub edges_fact_in : Version → Option Json → Option Element → Data → Data → Option EdgesOf
 edges_fact_in version member e element field =
-    edges_fact_of (edges_claims version member e element field) (edges_defaults member field (edges_claims version member e element field))
+    edges_fact_of (edges_claims version member e element field) (edges_defaults member e field (edges_claims version member e element field))
 
 abbrev pub edges_fact : Version → Option Json → ColumnTree → Option Element → Option EdgesOf
 edges_fact version member c e = edges_fact_in version member e (element_metadata e (Some c)) (own_metadata (Some c))
@@ -171,13 +140,13 @@ edges_fact version member c e = edges_fact_in version member e (element_metadata
 -- ---- the encoding
 
 -- what a member says, where the column has its layout
-abbrev pub member_encoding : Version → ColumnTree → Option Json → Option Text
-member_encoding version c None = None
-member_encoding version c (Some j) = layout_encoding version (Some c) j
+abbrev pub member_encoding : Version → ColumnTree → Option Element → Option Json → Option Text
+member_encoding version c e None = None
+member_encoding version c e (Some j) = layout_encoding version (Some c) e j
 
 abbrev pub encodings : Version → Option Json → ColumnTree → Option Element → BySource Text
 encodings version member c e =
-    record { element = element_encoding e; geo = member_encoding version c member; field = field_encoding e (Some c) }
+    record { element = element_encoding e; geo = member_encoding version c e member; field = field_encoding e (Some c) }
 
 -- that of the field, else of the member, else of the element
 abbrev pub encoding_from : BySource Text → Option FactSource
@@ -194,20 +163,20 @@ abbrev pub encoding_fact : Version → Option Json → ColumnTree → Option Ele
 encoding_fact version member c e = encoding_fact_of (encodings version member c e)
 
 -- whether the column has another layout than that of the encoding that its member says: of it `GeoLayout` is found
-abbrev pub has_other_layout : Option Text → ColumnTree → Bool
-has_other_layout None c = false
-has_other_layout (Some s) c = not (is_some (layout_of s c.data_type))
+abbrev pub has_other_layout : Option Text → ColumnTree → Option Element → Bool
+has_other_layout None c e = false
+has_other_layout (Some s) c e = not (is_laid_out s c e)
 
-abbrev pub layout_contradicts : Version → Option Json → ColumnTree → Bool
-layout_contradicts version None c = false
-layout_contradicts version (Some j) c = has_other_layout (encoding_of version j) c
+abbrev pub layout_contradicts : Version → Option Json → ColumnTree → Option Element → Bool
+layout_contradicts version None c e = false
+layout_contradicts version (Some j) c e = has_other_layout (encoding_of version j) c e
 
 -- ---- of columns
 
 -- the facts of a column with a member of `geo`, or none, and what its element says, if it says something
 abbrev pub column_facts : Version → Option Json → ColumnTree → Option Element → FactsOf
 column_facts version member c e =
-    record { crs = crs_fact version member c e; edges = edges_fact version member c e; encoding = encoding_fact version member c e; layout_contradicts = layout_contradicts version member c; member = member_facts version member }
+    record { crs = crs_fact version member c e; edges = edges_fact version member c e; encoding = encoding_fact version member c e; layout_contradicts = layout_contradicts version member c e; member = member_facts version member }
 
 -- the JSON that a file has at the key `geo`; null where there is none
 abbrev pub json_at_geo : Source → Option Json

@@ -1,5 +1,5 @@
 -- A finding as contracts see it, its place and what stands there.
-use Rattle.std.specs.Prelude.{Option, option_map, string_bytes}
+use Rattle.std.specs.Prelude.{ℕ, Option, option_map, string_bytes}
 use Rattle.json.specs.Json.{Json}
 use Rattle.json.specs.Print.{print}
 use Rattle.json.specs.Tree.{json_tokens}
@@ -15,9 +15,10 @@ pub record Finding : Type 0 where
   pub pointer : Text
   pub found : Option Text
   pub wanted : Option Text
+  pub more : ℕ
 
 abbrev pub finding : GeoFinding → Finding
-finding f = record { code = f.code; column = option_map string_bytes f.column; pointer = string_bytes f.pointer; found = option_map string_bytes f.found; wanted = option_map string_bytes f.wanted }
+finding f = record { code = f.code; column = option_map string_bytes f.column; pointer = string_bytes f.pointer; found = option_map string_bytes f.found; wanted = option_map string_bytes f.wanted; more = f.more }
 
 -- a value as it is shown: its text without blanks
 abbrev pub value_text : Json → Text

@@ -1,5 +1,5 @@
 -- The columns of a file with GeoParquet metadata (docs/FORMAT.md, 5.2).
-use Rattle.std.specs.Prelude.{◌≡◌, ◌⊎◌, ⊤, List, [], ◌∷◌, ◌++◌, codes, Option, None, Some, is_some, option_map, if◌then◌else◌}
+use Rattle.std.specs.Prelude.{◌≡◌, ◌⊎◌, ⊤, false, List, [], ◌∷◌, ◌++◌, codes, Option, None, Some, is_some, option_map, if◌then◌else◌}
 use Rattle.std.specs.Borrow.{Bor}
 use Rattle.std.specs.BTreeMap.{BTreeMap, get_by}
 use Rattle.std.specs.Cmp.Lexicographic.{slice_cmp}
@@ -15,16 +15,17 @@ use Rattle.arrow_values.specs.Texts.{set_extension}
 use Rattle.arrow_columns.specs.Column.{ColumnTree, name_on}
 use Rattle.geoarrow_layout.specs.Kinds.{name_text}
 use Rattle.geoarrow_layout.specs.declared.names.ExtensionName.{ExtensionName}
+use Rattle.parquet_columns.specs.Reserved.{is_reserved}
 use Rattle.geoparquet.specs.Encodings.{IsEncodedAs}
 use Rattle.arrow_columns.specs.Names.{first_of}
 use Rattle.geoparquet.specs.Values.{at, text_of_value}
 use Rattle.geoparquet.specs.Extensions.{member_named, named_in, text_at, member_text, IsExtensionText}
 use Rattle.geoparquet.specs.Sources.{Source, unasked, missing, value}
 
--- the column, of which the metadata have that member, takes that extension name by its encoding: it has none, no column before it has its name, and the rule
--- `GeoEncoding` holds of the member and it
+-- the column, of which the metadata have that member, takes that extension name by its encoding: it has none that GeoArrow or OGC would have to give, no
+-- column before it has its name, and it is stored so
 pub record IsNamed (member : Option Data) (before : List ColumnTree) (c : ColumnTree) (n : ExtensionName) : Type 0 where
-  pub unnamed : name_on c ≡ None
+  pub unnamed : is_reserved (name_on c) ≡ false
   pub first : first_of before c.name ≡ None
   pub encoded : IsEncodedAs (text_of_value (at (codes "encoding") member)) n c
 
@@ -62,8 +63,8 @@ AreColumnsBy (value bytes) cs ds = AreValueColumns bytes cs ds
 
 -- the extension name that a column takes by that encoding, if it takes one, where it is the first of its name
 abbrev pub IsNameFor : Option Text → ColumnTree → Option ExtensionName → Type 0
-IsNameFor encoding c None = (n : ExtensionName) → (name_on c ≡ None) → ¬ IsEncodedAs encoding n c
-IsNameFor encoding c (Some n) = (name_on c ≡ None) × IsEncodedAs encoding n c
+IsNameFor encoding c None = (n : ExtensionName) → (is_reserved (name_on c) ≡ false) → ¬ IsEncodedAs encoding n c
+IsNameFor encoding c (Some n) = (is_reserved (name_on c) ≡ false) × IsEncodedAs encoding n c
 
 -- what becomes of a column by the member of `columns` that is left for it, if one is
 abbrev pub IsGeoColumnOf : Option Json → ColumnTree → ColumnTree → Type 0

@@ -1,7 +1,7 @@
 -- What is found of the metadata at the key `geo`, against the columns of a file (docs/FORMAT.md, 5).
-use Rattle.std.specs.Prelude.{◌≡◌, ◌⊎◌, ◌||◌, Bool, true, false, not, List, [], ◌∷◌, ◌++◌, codes, Option, None, Some, is_some, flat_map, option_and_then, if◌then◌else◌}
+use Rattle.std.specs.Prelude.{◌≡◌, ◌⊎◌, ◌||◌, Bool, false, not, List, [], ◌∷◌, ◌++◌, codes, Option, None, Some, is_some, flat_map, option_and_then, if◌then◌else◌}
 use Rattle.std.specs.Str.{IsUtf8}
-use Rattle.json.specs.Json.{Json}
+use Rattle.json.specs.Json.{Json, string}
 use Rattle.json.specs.Find.{get, as_str}
 use Rattle.serde_json.specs.Read.{read}
 use Rattle.value_tokens.specs.Values.{IsReadable, is_object}
@@ -17,7 +17,7 @@ use Rattle.geoparquet.specs.MemberRules.{encoding_findings, crs_findings, edges_
 use Rattle.geoparquet.specs.TypeRules.{types_findings, types_version_findings}
 use Rattle.geoparquet.specs.BoxRules as box
 use Rattle.geoparquet.specs.BoxRange.{bbox_range_findings}
-use Rattle.geoparquet.specs.Counting.{edges_on_projected_findings}
+use Rattle.geoparquet.specs.Counting.{edges_on_projected_findings, own_on_projected_findings}
 use Rattle.geoparquet.specs.CoveringAbsent.{covering_absent_findings}
 use Rattle.geoparquet.specs.Coverings.{covering_findings}
 use Rattle.geoparquet.specs.Contradictions.{layout_findings, types_contradict_findings, encodings_findings, encoding_contradicts_findings, edges_claims_findings, edges_contradict_findings}
@@ -58,19 +58,23 @@ primary_findings j =
 abbrev pub key_finding : GeoCode → Text → Json → Finding
 key_finding code key j = found_at code (Some key) (column_place key) (Some j) None
 
+-- a key that is the name of no column, or of several
+abbrev pub name_finding : GeoCode → Text → Finding
+name_finding code key = found_at code (Some key) (column_place key) (Some (string key)) None
+
 -- a key: the name of one column
-abbrev pub key_findings : List ColumnTree → Text → Json → List Finding
-key_findings cs key j =
-    if is_some (first_of cs key) then unless (is_one cs key) (key_finding ColumnRepeated key j)
-    else key_finding ColumnMissing key j ∷ []
+abbrev pub key_findings : List ColumnTree → Text → List Finding
+key_findings cs key =
+    if is_some (first_of cs key) then unless (is_one cs key) (name_finding ColumnRepeated key)
+    else name_finding ColumnMissing key ∷ []
 
 -- how the geometries are stored
-abbrev pub storage_findings : Version → Text → Option ColumnTree → Json → List Finding
-storage_findings version key c j =
+abbrev pub storage_findings : Version → Text → Option ColumnTree → Option Element → Json → List Finding
+storage_findings version key c e j =
     encoding_findings version key j
-    ++ layout_findings version key c j
+    ++ layout_findings version key c e j
     ++ (types_findings version key j ++ types_version_findings version key j)
-    ++ types_contradict_findings version key c j
+    ++ types_contradict_findings version key c e j
 
 -- what is said of them
 abbrev pub fact_findings : Version → Text → Json → List Finding
@@ -104,18 +108,19 @@ covered_findings cs version key c j =
 
 abbrev pub part_findings : List ColumnTree → Version → Text → Option ColumnTree → Option Element → Json → List Finding
 part_findings cs version key c e j =
-    storage_findings version key c j
+    storage_findings version key c e j
     ++ fact_findings version key j
     ++ box_findings version key c e j
     ++ covered_findings cs version key c j
     ++ claim_findings version key c e j
 
 -- what the element and the field say of one fact, without a member
-abbrev pub own_findings : Text → Option ColumnTree → Option Element → List Finding
+unfoldable pub own_findings : Text → Option ColumnTree → Option Element → List Finding
 own_findings key c e =
     encodings_findings key None c e None
     ++ crs_claims_findings key None c e None
     ++ edges_claims_findings key None c e None
+    ++ own_on_projected_findings key c e
 
 -- of the value of a key, by a column of that name, if there is one
 abbrev pub value_findings : List ColumnTree → Version → Text → Option ColumnTree → Option Element → Json → List Finding
@@ -126,7 +131,7 @@ value_findings cs version key c e j =
 -- the rules of a column are judged of the first column of that name
 abbrev pub member_findings : List ColumnTree → List (ColumnTree × Option Element) → Version → Text × Json → List Finding
 member_findings cs xs version m =
-    key_findings cs m.0 m.1 ++ value_findings cs version m.0 (first_of cs m.0) (element_named xs m.0) m.1
+    key_findings cs m.0 ++ value_findings cs version m.0 (first_of cs m.0) (element_named xs m.0) m.1
 
 abbrev pub members_findings : List ColumnTree → List (ColumnTree × Option Element) → Version → List (Text × Json) → List Finding
 members_findings cs xs version ms = flat_map (member_findings cs xs version) ms
@@ -164,7 +169,7 @@ geo_findings cs xs j = json_findings cs xs j ++ alone_findings (columns_of j) xs
 
 -- what is found of a value that is no JSON, as it is shown
 abbrev pub unread_finding : Text → Finding
-unread_finding text = record { code = NotJson; column = None; pointer = []; found = Some (shown text); wanted = None }
+unread_finding text = record { code = NotJson; column = None; pointer = []; found = Some (shown text); wanted = None; more = 0 }
 
 -- the version and the findings are those of the text: of the value that it is, where it is JSON
 abbrev pub AreTextFindings : Text → List ColumnTree → List (ColumnTree × Option Element) → Version → List Finding → Type 0

@@ -6,6 +6,7 @@ pub mod Weights
 pub mod Nearest
 pub mod Words
 pub mod Rules
+pub mod Capped
 pub mod Pairs
 pub mod Versions
 pub mod MemberRules
@@ -27,6 +28,7 @@ pub mod RepeatedKeys
 pub mod CrsClaims
 pub mod Counting
 pub mod FactSources
+pub mod EdgesClaims
 pub mod Facts
 pub mod FactLaws
 pub mod BoxRules

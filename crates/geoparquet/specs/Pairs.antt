@@ -1,5 +1,5 @@
 -- Of what three sources say of one fact, the first pair that does not go together (docs/FORMAT.md, 5.1).
-use Rattle.std.specs.Prelude.{◌++◌, Bool, true, false, not, List, [], ◌∷◌, codes, bytes_eq, Option, None, Some, option_map, if◌then◌else◌}
+use Rattle.std.specs.Prelude.{◌++◌, Bool, false, not, List, [], ◌∷◌, codes, bytes_eq, Option, None, Some, option_map, if◌then◌else◌}
 use Rattle.json.specs.Json.{Json, string}
 use Rattle.arrow_values.specs.Tree.{Text}
 use Rattle.geoparquet.specs.Findings.{Finding}

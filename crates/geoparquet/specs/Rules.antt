@@ -15,7 +15,7 @@ part_place key name = member_place (column_place key) name
 -- what is found at a place where that stands, if something does; and what the rule wants there
 abbrev pub found_at : GeoCode → Option Text → Text → Option Json → Option Text → Finding
 found_at code column place found wanted =
-    record { code = code; column = column; pointer = place; found = option_map shown_value found; wanted = wanted }
+    record { code = code; column = column; pointer = place; found = option_map shown_value found; wanted = wanted; more = 0 }
 
 -- what is found of a member of a column's member
 abbrev pub part_finding : GeoCode → Text → Text → Option Json → Finding

@@ -6,8 +6,9 @@ use Rattle.std.specs.Cmp.Lexicographic.{slice_cmp}
 use Rattle.std.specs.Ordering.{nat_cmp}
 use Rattle.arrow_values.specs.Tree.{Text}
 use Rattle.arrow_columns.specs.Column.{ColumnTree, column_tree}
-use Rattle.parquet_columns.specs.declared.claim.ElementClaim.{ElementClaim}
-pub use Rattle.parquet_columns.specs.Claims.{Claim as Element, silent, gives, beside, claim as element_view}
+use Rattle.parquet_columns.specs.declared.layouts.RootElement as declared
+pub use Rattle.parquet_columns.specs.Claims.{Claim, silent, gives, beside}
+pub use Rattle.parquet_columns.specs.Layouts.{RootElement as Element, root_element as element_view}
 use Rattle.geoparquet.specs.declared.source.GeoSource.{GeoSource}
 use Rattle.geoparquet.specs.declared.source.GeoSource.TheVariants.{Unasked, Missing, Value}
 use Rattle.geoparquet.specs.declared.sources.Sourced.{Sourced}
@@ -43,7 +44,7 @@ abbrev pub sourced : Sourced → ColumnTree × Option Element
 sourced s = (column_tree s.column.now, option_map (λ e. element_view e.now) s.element)
 
 -- what a map has at a name
-abbrev pub element_at : BTreeMap (Bor Text) (Option (Bor ElementClaim)) → Text → Option (Option Element)
+abbrev pub element_at : BTreeMap (Bor Text) (Option (Bor declared.RootElement)) → Text → Option (Option Element)
 element_at m name = option_map (option_map (λ e. element_view e.now)) (get_by (λ k. slice_cmp nat_cmp name k.now) m)
 
 -- of the first column of a name
@@ -51,5 +52,5 @@ abbrev pub element_first : List (ColumnTree × Option Element) → Text → Opti
 element_first xs name = option_map (λ x. x.1) (source_named xs name)
 
 -- the map has at each name what the element of the first column of that name says
-abbrev pub AreElements : List (ColumnTree × Option Element) → BTreeMap (Bor Text) (Option (Bor ElementClaim)) → Type 0
+abbrev pub AreElements : List (ColumnTree × Option Element) → BTreeMap (Bor Text) (Option (Bor declared.RootElement)) → Type 0
 AreElements xs m = (name : Text) → element_at m name ≡ element_first xs name

@@ -1,7 +1,12 @@
--- The strict layouts of encodings (docs/FORMAT.md, 5.1), and the extension names of the same encodings.
-use Rattle.std.specs.Prelude.{◌&&◌, ℕ, zero, suc, Bool, true, false, not, codes, bytes_eq, Option, None, Some, option_map, option_and_then, if◌then◌else◌}
-use Rattle.arrow_values.specs.Tree.{Text, Tree, plain, list, large_list, fixed_size_list, struct, float64, binary, large_binary, binary_view, FieldTrees, no_fields, field}
-use Rattle.arrow_columns.specs.Column.{TypeTree, known, other}
+-- The strict layouts of encodings (docs/FORMAT.md, 5.5), and the extension names of the same encodings.
+use Rattle.std.specs.Prelude.{◌&&◌, ◌||◌, ◌==◌, ◌++◌, [], is_some, ℕ, zero, suc, Bool, true, false, not, codes, bytes_eq, Option, None, Some, option_map, option_and_then, if◌then◌else◌}
+use Rattle.arrow_values.specs.Tree.{Text, Tree, plain, list, large_list, struct, float64, binary, large_binary, binary_view, FieldTrees, no_fields, field}
+use Rattle.arrow_columns.specs.Column.{TypeTree, known, other, ColumnTree}
+use Rattle.arrow_columns.specs.Notation.{type_text}
+use Rattle.parquet_columns.specs.Layouts as elements
+use Rattle.parquet_columns.specs.Unreadable.{is_unreadable}
+use Rattle.geoparquet.specs.Findings.{shown}
+use Rattle.geoparquet.specs.Sources.{Element}
 use Rattle.geoarrow_layout.specs.Kinds.{levels_of}
 use Rattle.geoarrow_layout.specs.declared.dimensions.Dimension.{Dimension}
 use Rattle.geoarrow_layout.specs.declared.dimensions.Dimension.TheVariants.{XY, XYZ}
@@ -50,7 +55,6 @@ coordinate t = None
 abbrev pub item_of : Tree → Option Tree
 item_of (list n t b m) = Some t
 item_of (large_list n t b m) = Some t
-item_of (fixed_size_list n t b m size) = Some t
 item_of t = None
 
 -- a coordinate below that many lists
@@ -77,3 +81,57 @@ layout_of_tree s t =
 abbrev pub layout_of : Text → TypeTree → Option Layout
 layout_of s (known t) = layout_of_tree s t
 layout_of s (other n) = None
+
+-- ---- of elements (docs/FORMAT.md, 5.5)
+
+-- the strict layout of an encoding that an element has
+abbrev pub dimension_with : Bool → Dimension
+dimension_with false = XY
+dimension_with true = XYZ
+
+abbrev pub native_below : ℕ → Bool → NativeKind → Option Layout
+native_below lists z k = if levels_of k == lists then Some (Native k (dimension_with z)) else None
+
+abbrev pub element_layout : Text → elements.Layout → Option Layout
+element_layout s elements.bytes = if bytes_eq s (codes "WKB") then Some Binary else None
+element_layout s (elements.coordinates lists z) = option_and_then (native_below lists z) (kind_encoded s)
+element_layout s (elements.other repetition kind) = None
+element_layout s elements.unjudged = None
+
+-- of a column: by its element, if there is one, and the column is read; else by its type
+abbrev pub layout_by : Text → ColumnTree → Option Element → Option Layout
+layout_by s c None = layout_of s c.data_type
+layout_by s c (Some e) = if is_unreadable c.data_type then None else element_layout s e.layout
+
+-- whether a column has the layout of an encoding, or is not judged
+abbrev pub is_not_judged : elements.Layout → Bool
+is_not_judged elements.bytes = false
+is_not_judged (elements.coordinates lists z) = false
+is_not_judged (elements.other repetition kind) = false
+is_not_judged elements.unjudged = true
+
+abbrev pub is_laid_out : Text → ColumnTree → Option Element → Bool
+is_laid_out s c None = is_some (layout_of s c.data_type)
+is_laid_out s c (Some e) = is_unreadable c.data_type || (is_not_judged e.layout || is_some (element_layout s e.layout))
+
+-- the layout of a column as a finding shows it
+abbrev pub lists_text : ℕ → Text
+lists_text lists =
+    if lists == 0 then codes "group of "
+    else if lists == 1 then codes "LIST of "
+    else if lists == 2 then codes "LIST of LIST of "
+    else codes "LIST of LIST of LIST of "
+
+abbrev pub ordinates_text : Bool → Text
+ordinates_text false = codes "x, y"
+ordinates_text true = codes "x, y, z"
+
+abbrev pub element_text : elements.Layout → Text
+element_text elements.bytes = codes "BYTE_ARRAY"
+element_text (elements.coordinates lists z) = lists_text lists ++ ordinates_text z
+element_text (elements.other repetition kind) = repetition ++ (codes " " ++ kind)
+element_text elements.unjudged = []
+
+abbrev pub layout_text : ColumnTree → Option Element → Text
+layout_text c None = shown (type_text c.data_type)
+layout_text c (Some e) = element_text e.layout

@@ -1,5 +1,5 @@
 -- `geometry_types`: which values it may have, by version (docs/FORMAT.md, 5).
-use Rattle.std.specs.Prelude.{◌&&◌, not, Bool, true, false, List, [], ◌∷◌, ◌++◌, Option, None, Some, codes, bytes_eq, is_some, option_map, option_and_then, if◌then◌else◌}
+use Rattle.std.specs.Prelude.{◌&&◌, not, Bool, true, false, List, [], ◌∷◌, Option, None, Some, codes, bytes_eq, is_some, option_and_then, if◌then◌else◌}
 use Rattle.std.specs.List.{list_any}
 use Rattle.json.specs.Json.{Json, string}
 use Rattle.json.specs.Find.{get, as_str}
@@ -7,6 +7,7 @@ use Rattle.arrow_values.specs.Tree.{Text}
 use Rattle.geoarrow_layout.specs.declared.dimensions.Dimension.{Dimension}
 use Rattle.geoarrow_layout.specs.declared.native_kinds.NativeKind.{NativeKind}
 use Rattle.geoparquet.specs.Findings.{Finding}
+use Rattle.geoparquet.specs.Capped.{capped}
 use Rattle.geoparquet.specs.Rules.{part_place, part_finding, items_in, items_findings}
 use Rattle.geoparquet.specs.TypeNames.{type_named, has_m}
 use Rattle.geoparquet.specs.Versions.{is_judged}
@@ -49,7 +50,7 @@ takes_m V2 = true
 
 -- an array of different names of types
 abbrev pub types_or_other : Text → Option Json → Option (List Json) → List Finding
-types_or_other key found (Some js) = items_findings is_new_type Types key (part_place key (codes "geometry_types")) [] js
+types_or_other key found (Some js) = capped (items_findings is_new_type Types key (part_place key (codes "geometry_types")) [] js)
 types_or_other key found None = part_finding Types key (codes "geometry_types") found ∷ []
 
 abbrev pub found_types : Text → Option Json → List Finding
@@ -61,7 +62,7 @@ types_findings version key member =
 
 -- no type with an m before version 2
 abbrev pub found_with_m : Text → Option (List Json) → List Finding
-found_with_m key (Some js) = items_findings is_without_m TypesVersion key (part_place key (codes "geometry_types")) [] js
+found_with_m key (Some js) = capped (items_findings is_without_m TypesVersion key (part_place key (codes "geometry_types")) [] js)
 found_with_m key None = []
 
 abbrev pub types_version_findings : Version → Text → Json → List Finding

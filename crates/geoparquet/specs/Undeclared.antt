@@ -1,5 +1,5 @@
 -- Columns that hold geometries by their extension name or their element, and have no member of `columns` (docs/FORMAT.md, 5.1).
-use Rattle.std.specs.Prelude.{◌&&◌, ◌||◌, Bool, true, false, not, List, [], codes, bytes_eq, Option, None, Some, is_some, flat_map, option_and_then}
+use Rattle.std.specs.Prelude.{◌&&◌, ◌||◌, Bool, false, not, List, [], codes, bytes_eq, Option, None, Some, is_some, flat_map}
 use Rattle.std.specs.List.{list_any}
 use Rattle.json.specs.Json.{Json, string}
 use Rattle.parquet_columns.specs.GeoNames.{covers}

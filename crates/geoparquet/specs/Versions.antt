@@ -2,7 +2,7 @@
 use Rattle.std.specs.Prelude.{◌&&◌, ◌||◌, ◌==◌, Bool, true, false, not, List, [], ◌∷◌, ℕ, Option, None, Some, codes, bytes_eq, nat_lt, option_and_then, if◌then◌else◌}
 use Rattle.std.specs.Bool.{nat_eq}
 use Rattle.std.specs.List.{starts_with}
-use Rattle.json.specs.Json.{Json, string}
+use Rattle.json.specs.Json.{Json}
 use Rattle.json.specs.Find.{get, as_str}
 use Rattle.arrow_values.specs.Tree.{Text}
 use Rattle.geoparquet.specs.Findings.{Finding}

@@ -23,7 +23,7 @@ rule_of Member = codes "a member of columns is no object"
 rule_of ColumnUndeclared = codes "a column holds geometries, and has no member of columns"
 rule_of PrimaryColumn = codes "primary_column is absent, no text, or no key of columns"
 rule_of Encoding = codes "encoding is absent, no text, or no encoding of the version"
-rule_of Layout = codes "the type of the column is not the layout of its encoding"
+rule_of Layout = codes "the column is not laid out as its encoding asks"
 rule_of Types = codes "geometry_types is absent or no array, or an item is no text, no name of a type, or there twice"
 rule_of TypesVersion = codes "a type has a dimension that the version does not have"
 rule_of TypesContradict = codes "a type does not go with the layout of the column"
@@ -128,8 +128,8 @@ advice_of version Epoch = Some (codes "A number has no quotes.")
 advice_of version BboxOrder = Some (codes "Only a box of a geographic CRS has an xmin above its xmax, where it crosses the antimeridian.")
 advice_of version CoveringName = Some (codes "Where bounds are exchanged, filters by this covering drop rows.")
 advice_of version CoveringAbsent = Some (codes "Add \"covering\":{\"bbox\":{\"xmin\":[NAME,\"xmin\"],\"ymin\":[NAME,\"ymin\"],\"xmax\":[NAME,\"xmax\"],\"ymax\":[NAME,\"ymax\"]}}, where NAME is the name found.")
-advice_of version CrsContradicts = Some (codes "That of the element counts first, then that of geo, then that of the field.")
-advice_of version EdgesContradict = Some (codes "Those of the element count first, then those of geo, then those of the field.")
+advice_of version CrsContradicts = Some (codes "That of the element counts first, then that of geo, then that of the field; a default counts last.")
+advice_of version EdgesContradict = Some (codes "Those of the element count first, then those of geo, then those of the field; a default counts last.")
 advice_of version _ = None
 
 -- the names that are expected where a code is found, each as JSON

@@ -18,7 +18,7 @@ use crate::place::{finding_at, part_place};
 use arrow_columns::SchemaColumn;
 use column_check::item_place;
 use json::Value;
-use parquet_columns::ElementClaim;
+use parquet_columns::RootElement;
 use std::alloc::{AllocError, Global};
 
 /// Returns the nearest float of a number's text.
@@ -165,7 +165,7 @@ fn add_judged(
     findings: &mut Vec<GeoFinding>,
     version: Version,
     column: Option<&SchemaColumn>,
-    element: Option<&ElementClaim>,
+    element: Option<&RootElement>,
     member: &Value<'_>,
     beyond: Vec<GeoFinding>,
 ) -> Result<(), AllocError>
@@ -191,7 +191,7 @@ pub(crate) fn add_bbox_range(
     version: Version,
     key: &str,
     column: Option<&SchemaColumn>,
-    element: Option<&ElementClaim>,
+    element: Option<&RootElement>,
     member: &Value<'_>,
 ) -> Result<(), AllocError>
     requires { IsReadable (value_view member.now) }

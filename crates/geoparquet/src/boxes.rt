@@ -24,7 +24,7 @@ use arrow_columns::SchemaColumn;
 use column_check::item_place;
 use geoarrow_layout::Dimension;
 use json::Value;
-use parquet_columns::ElementClaim;
+use parquet_columns::RootElement;
 use std::alloc::{AllocError, Global};
 use value_tokens::member_of;
 
@@ -155,7 +155,7 @@ pub(crate) fn add_bbox_order(
     version: Version,
     key: &str,
     column: Option<&SchemaColumn>,
-    element: Option<&ElementClaim>,
+    element: Option<&RootElement>,
     member: &Value<'_>,
 ) -> Result<(), AllocError>
     requires { IsReadable (value_view member.now) }
@@ -177,7 +177,7 @@ fn add_x_order(
     version: Version,
     key: &str,
     column: Option<&SchemaColumn>,
-    element: Option<&ElementClaim>,
+    element: Option<&RootElement>,
     member: &Value<'_>,
     numbers: &[Value<'_>],
 ) -> Result<(), AllocError>
@@ -210,7 +210,7 @@ fn add_x_axis(
     version: Version,
     key: &str,
     column: Option<&SchemaColumn>,
-    element: Option<&ElementClaim>,
+    element: Option<&RootElement>,
     member: &Value<'_>,
     numbers: &[Value<'_>],
     greatest: usize,
@@ -234,7 +234,7 @@ fn add_x(
     version: Version,
     key: &str,
     column: Option<&SchemaColumn>,
-    element: Option<&ElementClaim>,
+    element: Option<&RootElement>,
     member: &Value<'_>,
     least: &Value<'_>,
     greatest: &Value<'_>,

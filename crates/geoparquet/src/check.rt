@@ -101,6 +101,7 @@ fn not_json_report(alloc: Global, text: &str, all: &[Sourced<'_>]) -> Result<Geo
         pointer: String::new(alloc),
         found: Some(shown(alloc, text)?),
         wanted: None,
+        more: 0,
     };
     let mut findings = Vec::new(alloc);
     findings.push(found)?;

@@ -7,7 +7,7 @@ ghost use Rattle.arrow_columns.specs.Column.{column_tree};
 ghost use Rattle.geoparquet.specs.CoveringAbsent.{first_box};
 ghost use Rattle.geoparquet.specs.Findings.{finding};
 ghost use Rattle.geoparquet.specs.declared.code.GeoCode.{GeoCode};
-ghost use Rattle.geoparquet.specs.GeoFindings.{key_finding, key_findings, storage_findings, fact_findings, box_findings, claim_findings, covered_findings, part_findings, own_findings, value_findings, member_findings};
+ghost use Rattle.geoparquet.specs.GeoFindings.{key_finding, name_finding, key_findings, storage_findings, fact_findings, box_findings, claim_findings, covered_findings, part_findings, own_findings, value_findings, member_findings};
 ghost use Rattle.geoparquet.specs.Sources.{element_view, element_named, sourced, AreElements};
 ghost use Rattle.arrow_columns.specs.Names.{first_of};
 
@@ -19,7 +19,7 @@ use crate::contradictions::{
     add_edges_claims, add_edges_contradict, add_encoding_contradicts, add_encodings, add_layout,
     add_types_contradict,
 };
-use crate::counting::add_edges_on_projected;
+use crate::counting::{add_edges_on_projected, add_own_on_projected};
 use crate::covering::add_covering;
 use crate::covering_absent::add_covering_absent;
 use crate::crs_claims::{add_crs_claims, add_crs_contradicts};
@@ -31,7 +31,7 @@ use crate::sources::Sources;
 use crate::types::add_types;
 use arrow_columns::{ColumnNames, SchemaColumn};
 use json::Value;
-use parquet_columns::ElementClaim;
+use parquet_columns::RootElement;
 use std::alloc::{AllocError, Global};
 
 /// Adds a finding of a key. Errs only when out of memory.
@@ -58,25 +58,36 @@ fn add_key_finding(
     )
 }
 
+/// Adds a finding of a key that is the name of no column, or of several. Errs only when out of memory.
+fn add_name_finding(
+    alloc: Global,
+    findings: &mut Vec<GeoFinding>,
+    code: GeoCode,
+    key: &str,
+) -> Result<(), AllocError>
+    ensures { OnOk result (map finding findings.new.items ≡ map finding findings.old.items
+        ++ name_finding code key.now ∷ []) }
+{
+    add_key_finding(alloc, findings, code, key, &Value::String(key))
+}
+
 /// Adds what is found of a key: whether it is the name of one column. Errs only when out of memory.
 fn add_key(
     alloc: Global,
     findings: &mut Vec<GeoFinding>,
     columns: &ColumnNames<'_>,
     key: &str,
-    member: &Value<'_>,
 ) -> Result<(), AllocError>
-    requires { IsReadable (value_view member.now) }
     ensures { OnOk result (map finding findings.new.items ≡ map finding findings.old.items
-        ++ key_findings (map column_tree columns.now) key.now (value_view member.now)) }
+        ++ key_findings (map column_tree columns.now) key.now) }
 {
     let Some(_column) = columns.first(key) else {
-        return add_key_finding(alloc, findings, GeoCode::ColumnMissing, key, member);
+        return add_name_finding(alloc, findings, GeoCode::ColumnMissing, key);
     };
     if columns.is_one(key) {
         return Ok(());
     }
-    add_key_finding(alloc, findings, GeoCode::ColumnRepeated, key, member)
+    add_name_finding(alloc, findings, GeoCode::ColumnRepeated, key)
 }
 
 /// Adds what is found of how the geometries are stored. Errs only when out of memory.
@@ -86,16 +97,17 @@ fn add_storage(
     version: Version,
     key: &str,
     column: Option<&SchemaColumn>,
+    element: Option<&RootElement>,
     member: &Value<'_>,
 ) -> Result<(), AllocError>
     requires { IsReadable (value_view member.now) }
     ensures { OnOk result (map finding findings.new.items ≡ map finding findings.old.items
-        ++ storage_findings version key.now (option_map (λ c. column_tree c.now) column.entry) (value_view member.now)) }
+        ++ storage_findings version key.now (option_map (λ c. column_tree c.now) column.entry) (option_map (λ e. element_view e.now) element.entry) (value_view member.now)) }
 {
     add_encoding(alloc, findings, version, key, member)?;
-    add_layout(alloc, findings, version, key, column, member)?;
+    add_layout(alloc, findings, version, key, column, element, member)?;
     add_types(alloc, findings, version, key, member)?;
-    add_types_contradict(alloc, findings, version, key, column, member)
+    add_types_contradict(alloc, findings, version, key, column, element, member)
 }
 
 /// Adds what is found of what is said of the geometries. Errs only when out of memory.
@@ -124,7 +136,7 @@ fn add_box(
     version: Version,
     key: &str,
     column: Option<&SchemaColumn>,
-    element: Option<&ElementClaim>,
+    element: Option<&RootElement>,
     member: &Value<'_>,
 ) -> Result<(), AllocError>
     requires { IsReadable (value_view member.now) }
@@ -165,7 +177,7 @@ fn add_claims(
     version: Version,
     key: &str,
     column: Option<&SchemaColumn>,
-    element: Option<&ElementClaim>,
+    element: Option<&RootElement>,
     member: &Value<'_>,
 ) -> Result<(), AllocError>
     requires { IsReadable (value_view member.now) }
@@ -187,7 +199,7 @@ fn add_parts(
     version: Version,
     key: &str,
     column: Option<&SchemaColumn>,
-    element: Option<&ElementClaim>,
+    element: Option<&RootElement>,
     member: &Value<'_>,
 ) -> Result<(), AllocError>
     requires boxed { text_of boxed ≡ first_box (map column_tree columns.now) }
@@ -195,7 +207,7 @@ fn add_parts(
     ensures { OnOk result (map finding findings.new.items ≡ map finding findings.old.items
         ++ part_findings (map column_tree columns.now) version key.now (option_map (λ c. column_tree c.now) column.entry) (option_map (λ e. element_view e.now) element.entry) (value_view member.now)) }
 {
-    add_storage(alloc, findings, version, key, column, member)?;
+    add_storage(alloc, findings, version, key, column, element, member)?;
     add_facts(alloc, findings, version, key, member)?;
     add_box(alloc, findings, version, key, column, element, member)?;
     add_coverings(
@@ -206,19 +218,21 @@ fn add_parts(
 
 /// Adds what is found of what the element and the field say of one fact, without a member. Errs only
 /// when out of memory.
+#[tactic(auto, unfolding(crate::specs::GeoFindings::own_findings))]
 pub(crate) fn add_own(
     alloc: Global,
     findings: &mut Vec<GeoFinding>,
     key: &str,
     column: Option<&SchemaColumn>,
-    element: Option<&ElementClaim>,
+    element: Option<&RootElement>,
 ) -> Result<(), AllocError>
     ensures { OnOk result (map finding findings.new.items ≡ map finding findings.old.items
         ++ own_findings key.now (option_map (λ c. column_tree c.now) column.entry) (option_map (λ e. element_view e.now) element.entry)) }
 {
     add_encodings(alloc, findings, key, None, column, element, None)?;
     add_crs_claims(alloc, findings, key, None, column, element, None)?;
-    add_edges_claims(alloc, findings, key, None, column, element, None)
+    add_edges_claims(alloc, findings, key, None, column, element, None)?;
+    add_own_on_projected(alloc, findings, key, column, element)
 }
 
 /// Whether a value is an object.
@@ -234,7 +248,7 @@ fn add_no_object(
     findings: &mut Vec<GeoFinding>,
     key: &str,
     column: Option<&SchemaColumn>,
-    element: Option<&ElementClaim>,
+    element: Option<&RootElement>,
     member: &Value<'_>,
 ) -> Result<(), AllocError>
     requires { IsReadable (value_view member.now) }
@@ -255,7 +269,7 @@ fn add_value_of(
     version: Version,
     key: &str,
     column: Option<&SchemaColumn>,
-    element: Option<&ElementClaim>,
+    element: Option<&RootElement>,
     member: &Value<'_>,
 ) -> Result<(), AllocError>
     requires boxed { text_of boxed ≡ first_box (map column_tree columns.now) }
@@ -312,7 +326,7 @@ pub(crate) fn add_member(
     ensures { OnOk result (map finding findings.new.items ≡ map finding findings.old.items
         ++ member_findings (map column_tree columns.now) (map sourced sources.now.all.now) version (key.now, value_view member.now)) }
 {
-    add_key(alloc, findings, columns, key, member)?;
+    add_key(alloc, findings, columns, key)?;
     add_value(
         alloc, findings, columns, sources, boxed, version, key, member,
     )

@@ -1,5 +1,5 @@
 //! What `geo` says of a column against the column itself.
-ghost use Rattle.std.specs.Prelude.{◌≡◌, ◌∷◌, ◌++◌, [], IfOk, IfSome, OnOk, map, option_map};
+ghost use Rattle.std.specs.Prelude.{string_bytes, ◌≡◌, ◌∷◌, ◌++◌, [], IfOk, IfSome, OnOk, map, option_map};
 ghost use Rattle.json.specs.Value.{value_view};
 ghost use Rattle.serde_json.specs.View.{view};
 ghost use Rattle.value_tokens.specs.Values.{IsReadable};
@@ -10,13 +10,14 @@ ghost use Rattle.geoparquet.specs.Findings.{finding};
 ghost use Rattle.std.specs.List.{All};
 ghost use Rattle.geoparquet.specs.Rules.{item_finding, items_findings, unless};
 ghost use Rattle.geoparquet.specs.TypeRules.{is_text};
-ghost use Rattle.geoparquet.specs.Contradictions.{layout_in, stored_layout, encoding_finding, encoding_layout_findings, layout_findings, single_of, goes_with, types_contradict_findings, own_encoding, named_encoding, element_encoding, field_encoding, layout_encoding, encodings_findings, encoding_contradicts_findings, said_edges, geo_metadata, own_metadata, known_edges, edges_at, own_edges, element_metadata, edges_in, edges_if, element_edges, field_edges, edges_claims_findings, edges_contradict_findings};
+ghost use Rattle.geoparquet.specs.Contradictions.{layout_in, stored_layout, layout_finding, encoding_layout_findings, layout_findings, single_of, goes_with, types_contradict_findings, own_encoding, named_encoding, element_encoding, field_encoding, layout_encoding, encodings_findings, encoding_contradicts_findings, said_edges, geo_metadata, own_metadata, known_edges, edges_at, own_edges, element_metadata, edges_in, edges_if, element_edges, is_default, are_default_edges, field_edges, edges_claims_findings, edges_contradict_findings};
 ghost use Rattle.geoparquet.specs.Sources.{element_view};
 
 use crate::adding::add_part;
+use crate::capped::add_capped;
 use crate::code::GeoCode;
 use crate::finding::{GeoFinding, Version};
-use crate::layout::{Layout, layout_of};
+use crate::layout::{Layout, is_laid_out, layout_by, layout_text};
 use crate::members::{encoding_of, is_edges, is_edges_value};
 use crate::pairs::add_texts;
 use crate::place::{item_finding, part_place};
@@ -25,16 +26,20 @@ use crate::values::geo_value;
 use arrow_columns::SchemaColumn;
 use geoarrow_layout::{Dimension, NativeKind};
 use json::Value;
-use parquet_columns::ElementClaim;
+use parquet_columns::{EdgesClaim, ElementClaim, RootElement};
 use std::alloc::{AllocError, Global};
 use value_tokens::member_of;
 
 /// Returns the layout of an encoding, where a column has it.
-fn layout_in(encoding: Option<&str>, column: Option<&SchemaColumn>) -> Option<Layout>
-    ensures { result ≡ layout_in (text_of encoding.entry) (option_map (λ c. column_tree c.now) column.entry) }
+fn layout_in(
+    encoding: Option<&str>,
+    column: Option<&SchemaColumn>,
+    element: Option<&RootElement>,
+) -> Option<Layout>
+    ensures { result ≡ layout_in (text_of encoding.entry) (option_map (λ c. column_tree c.now) column.entry) (option_map (λ e. element_view e.now) element.entry) }
 {
     match (encoding, column) {
-        (Some(encoding), Some(column)) => layout_of(encoding, &column.data_type),
+        (Some(encoding), Some(column)) => layout_by(encoding, column, element),
         _ => None,
     }
 }
@@ -43,29 +48,54 @@ fn layout_in(encoding: Option<&str>, column: Option<&SchemaColumn>) -> Option<La
 pub(crate) fn stored_layout(
     version: Version,
     column: Option<&SchemaColumn>,
+    element: Option<&RootElement>,
     member: &Value<'_>,
 ) -> Option<Layout>
     requires { IsReadable (value_view member.now) }
-    ensures { result ≡ stored_layout version (option_map (λ c. column_tree c.now) column.entry) (value_view member.now) }
+    ensures { result ≡ stored_layout version (option_map (λ c. column_tree c.now) column.entry) (option_map (λ e. element_view e.now) element.entry) (value_view member.now) }
 {
-    layout_in(encoding_of(version, member), column)
+    layout_in(encoding_of(version, member), column, element)
 }
 
-/// Adds a finding at `encoding`. Errs only when out of memory.
-fn add_at_encoding(
+/// Returns what is found of a column that has another layout than that of its encoding. Errs only
+/// when out of memory.
+fn layout_finding(
+    alloc: Global,
+    key: &str,
+    found: String,
+    wanted: &str,
+) -> Result<GeoFinding, AllocError>
+    ensures { IfOk result (λ made. finding made ≡ layout_finding key.now (string_bytes found) wanted.now) }
+{
+    Ok(GeoFinding {
+        code: GeoCode::Layout,
+        column: Some(String::from_str(alloc, key)?),
+        pointer: part_place(alloc, key, "encoding")?,
+        found: Some(found),
+        wanted: Some(String::from_str(alloc, wanted)?),
+        more: 0,
+    })
+}
+
+/// Adds what is found where a column has another layout than that of an encoding. Errs only when out
+/// of memory.
+fn add_other_layout(
     alloc: Global,
     findings: &mut Vec<GeoFinding>,
-    code: GeoCode,
     key: &str,
-    member: &Value<'_>,
-    wanted: &str,
+    encoding: &str,
+    column: &SchemaColumn,
+    element: Option<&RootElement>,
 ) -> Result<(), AllocError>
-    requires { IsReadable (value_view member.now) }
     ensures { OnOk result (map finding findings.new.items ≡ map finding findings.old.items
-        ++ encoding_finding code key.now (value_view member.now) wanted.now ∷ []) }
+        ++ encoding_layout_findings key.now (Some encoding.now) (Some (column_tree column.now)) (option_map (λ e. element_view e.now) element.entry)) }
 {
-    let found = member_of(member, "encoding");
-    add_part(alloc, findings, code, key, "encoding", found, Some(wanted))
+    if is_laid_out(encoding, column, element) {
+        return Ok(());
+    }
+    let found = layout_text(alloc, column, element)?;
+    findings.push(layout_finding(alloc, key, found, encoding)?)?;
+    Ok(())
 }
 
 /// Adds what is found where a column has another layout than that of its encoding (docs/FORMAT.md,
@@ -76,11 +106,12 @@ pub(crate) fn add_layout(
     version: Version,
     key: &str,
     column: Option<&SchemaColumn>,
+    element: Option<&RootElement>,
     member: &Value<'_>,
 ) -> Result<(), AllocError>
     requires { IsReadable (value_view member.now) }
     ensures { OnOk result (map finding findings.new.items ≡ map finding findings.old.items
-        ++ layout_findings version key.now (option_map (λ c. column_tree c.now) column.entry) (value_view member.now)) }
+        ++ layout_findings version key.now (option_map (λ c. column_tree c.now) column.entry) (option_map (λ e. element_view e.now) element.entry) (value_view member.now)) }
 {
     let Some(encoding) = encoding_of(version, member) else {
         return Ok(());
@@ -88,10 +119,7 @@ pub(crate) fn add_layout(
     let Some(column) = column else {
         return Ok(());
     };
-    if layout_of(encoding, &column.data_type).is_some() {
-        return Ok(());
-    }
-    add_at_encoding(alloc, findings, GeoCode::Layout, key, member, encoding)
+    add_other_layout(alloc, findings, key, encoding, column, element)
 }
 
 /// Returns the other kind of which types may be in columns of a kind.
@@ -179,13 +207,15 @@ pub(crate) fn add_types_contradict(
     version: Version,
     key: &str,
     column: Option<&SchemaColumn>,
+    element: Option<&RootElement>,
     member: &Value<'_>,
 ) -> Result<(), AllocError>
     requires { IsReadable (value_view member.now) }
     ensures { OnOk result (map finding findings.new.items ≡ map finding findings.old.items
-        ++ types_contradict_findings version key.now (option_map (λ c. column_tree c.now) column.entry) (value_view member.now)) }
+        ++ types_contradict_findings version key.now (option_map (λ c. column_tree c.now) column.entry) (option_map (λ e. element_view e.now) element.entry) (value_view member.now)) }
 {
-    let Some(Layout::Native(kind, dimension)) = stored_layout(version, column, member) else {
+    let Some(Layout::Native(kind, dimension)) = stored_layout(version, column, element, member)
+    else {
         return Ok(());
     };
     let Some(items) = types_in(member) else {
@@ -193,7 +223,9 @@ pub(crate) fn add_types_contradict(
     };
     let place = part_place(alloc, key, "geometry_types")?;
     let place = place.as_str();
-    add_types_beside(alloc, findings, key, place, kind, dimension, items)
+    let mut found = Vec::new(alloc);
+    add_types_beside(alloc, &mut found, key, place, kind, dimension, items)?;
+    add_capped(findings, found)
 }
 
 /// Returns the encoding that an extension name says.
@@ -226,13 +258,13 @@ fn named_encoding(column: Option<&SchemaColumn>) -> Option<&'static str>
 }
 
 /// Returns the encoding that an element says.
-pub(crate) fn element_encoding(element: Option<&ElementClaim>) -> Option<&'static str>
+pub(crate) fn element_encoding(element: Option<&RootElement>) -> Option<&'static str>
     ensures { text_of result ≡ element_encoding (option_map (λ e. element_view e.now) element.entry) }
 {
     let Some(element) = element else {
         return None;
     };
-    match element {
+    match &element.claim {
         ElementClaim::Silent => None,
         ElementClaim::Given { .. } => Some("WKB"),
         ElementClaim::Beside { .. } => Some("WKB"),
@@ -241,7 +273,7 @@ pub(crate) fn element_encoding(element: Option<&ElementClaim>) -> Option<&'stati
 
 /// Returns the encoding that a field says.
 pub(crate) fn field_encoding(
-    element: Option<&ElementClaim>,
+    element: Option<&RootElement>,
     column: Option<&SchemaColumn>,
 ) -> Option<&'static str>
     ensures { text_of result ≡ field_encoding (option_map (λ e. element_view e.now) element.entry) (option_map (λ c. column_tree c.now) column.entry) }
@@ -249,7 +281,7 @@ pub(crate) fn field_encoding(
     let Some(element) = element else {
         return named_encoding(column);
     };
-    match element {
+    match &element.claim {
         ElementClaim::Silent => named_encoding(column),
         ElementClaim::Given { .. } => None,
         ElementClaim::Beside { .. } => named_encoding(column),
@@ -260,12 +292,13 @@ pub(crate) fn field_encoding(
 pub(crate) fn layout_encoding<'a>(
     version: Version,
     column: Option<&SchemaColumn>,
+    element: Option<&RootElement>,
     member: &Value<'a>,
 ) -> Option<&'a str>
     requires { IsReadable (value_view member.now) }
-    ensures { text_of result ≡ layout_encoding version (option_map (λ c. column_tree c.now) column.entry) (value_view member.now) }
+    ensures { text_of result ≡ layout_encoding version (option_map (λ c. column_tree c.now) column.entry) (option_map (λ e. element_view e.now) element.entry) (value_view member.now) }
 {
-    if stored_layout(version, column, member).is_some() {
+    if stored_layout(version, column, element, member).is_some() {
         encoding_of(version, member)
     } else {
         None
@@ -280,7 +313,7 @@ pub(crate) fn add_encodings(
     key: &str,
     found: Option<&Value<'_>>,
     column: Option<&SchemaColumn>,
-    element: Option<&ElementClaim>,
+    element: Option<&RootElement>,
     said: Option<&str>,
 ) -> Result<(), AllocError>
     requires { IfSome found (λ v. IsReadable (value_view v.now)) }
@@ -308,14 +341,14 @@ pub(crate) fn add_encoding_contradicts(
     version: Version,
     key: &str,
     column: Option<&SchemaColumn>,
-    element: Option<&ElementClaim>,
+    element: Option<&RootElement>,
     member: &Value<'_>,
 ) -> Result<(), AllocError>
     requires { IsReadable (value_view member.now) }
     ensures { OnOk result (map finding findings.new.items ≡ map finding findings.old.items
         ++ encoding_contradicts_findings version key.now (option_map (λ c. column_tree c.now) column.entry) (option_map (λ e. element_view e.now) element.entry) (value_view member.now)) }
 {
-    let said = layout_encoding(version, column, member);
+    let said = layout_encoding(version, column, element, member);
     let found = member_of(member, "encoding");
     add_encodings(alloc, findings, key, found, column, element, said)
 }
@@ -400,7 +433,7 @@ fn own_edges(own: &serde_json::Value) -> Option<&str>
 /// memory.
 pub(crate) fn element_metadata(
     alloc: Global,
-    element: Option<&ElementClaim>,
+    element: Option<&RootElement>,
     column: Option<&SchemaColumn>,
 ) -> Result<serde_json::Value, AllocError>
     ensures { IfOk result (λ value. view value ≡ element_metadata (option_map (λ e. element_view e.now) element.entry) (option_map (λ c. column_tree c.now) column.entry)) }
@@ -408,7 +441,7 @@ pub(crate) fn element_metadata(
     let Some(element) = element else {
         return Ok(serde_json::Value::Null);
     };
-    match element {
+    match &element.claim {
         ElementClaim::Silent => Ok(serde_json::Value::Null),
         ElementClaim::Given { .. } => own_metadata(alloc, column),
         ElementClaim::Beside { metadata, .. } => geo_value(alloc, metadata.as_str()),
@@ -426,20 +459,19 @@ fn edges_in(metadata: &serde_json::Value) -> Option<&str>
     }
 }
 
-/// Returns the edges in the metadata of an element, where they are known.
-fn edges_if(knows_edges: bool, metadata: &serde_json::Value) -> Option<&str>
-    ensures { text_of result ≡ edges_if knows_edges (view metadata.now) }
+/// Returns the edges in the metadata of an element, where it says them.
+fn edges_if(said: EdgesClaim, metadata: &serde_json::Value) -> Option<&str>
+    ensures { text_of result ≡ edges_if said (view metadata.now) }
 {
-    if knows_edges {
-        edges_in(metadata)
-    } else {
-        None
+    match said {
+        EdgesClaim::Said | EdgesClaim::Default => edges_in(metadata),
+        EdgesClaim::Broken => None,
     }
 }
 
 /// Returns the edges that an element says.
 pub(crate) fn element_edges<'v>(
-    element: Option<&ElementClaim>,
+    element: Option<&RootElement>,
     metadata: &'v serde_json::Value,
 ) -> Option<&'v str>
     ensures { text_of result ≡ element_edges (option_map (λ e. element_view e.now) element.entry) (view metadata.now) }
@@ -447,16 +479,37 @@ pub(crate) fn element_edges<'v>(
     let Some(element) = element else {
         return None;
     };
-    match element {
+    match &element.claim {
         ElementClaim::Silent => None,
-        ElementClaim::Given { knows_edges, .. } => edges_if(*knows_edges, metadata),
-        ElementClaim::Beside { knows_edges, .. } => edges_if(*knows_edges, metadata),
+        ElementClaim::Given { edges, .. } => edges_if(*edges, metadata),
+        ElementClaim::Beside { edges, .. } => edges_if(*edges, metadata),
+    }
+}
+
+/// Whether edges are said by the format's default.
+fn is_default(said: EdgesClaim) -> bool
+    ensures { result ≡ is_default said }
+{
+    matches!(said, EdgesClaim::Default)
+}
+
+/// Whether the edges that an element says are the format's default.
+pub(crate) fn are_default_edges(element: Option<&RootElement>) -> bool
+    ensures { result ≡ are_default_edges (option_map (λ e. element_view e.now) element.entry) }
+{
+    let Some(element) = element else {
+        return false;
+    };
+    match &element.claim {
+        ElementClaim::Silent => false,
+        ElementClaim::Given { edges, .. } => is_default(*edges),
+        ElementClaim::Beside { edges, .. } => is_default(*edges),
     }
 }
 
 /// Returns the edges that a field says.
 pub(crate) fn field_edges<'v>(
-    element: Option<&ElementClaim>,
+    element: Option<&RootElement>,
     metadata: &'v serde_json::Value,
 ) -> Option<&'v str>
     ensures { text_of result ≡ field_edges (option_map (λ e. element_view e.now) element.entry) (view metadata.now) }
@@ -464,7 +517,7 @@ pub(crate) fn field_edges<'v>(
     let Some(element) = element else {
         return own_edges(metadata);
     };
-    match element {
+    match &element.claim {
         ElementClaim::Silent => own_edges(metadata),
         ElementClaim::Given { .. } => None,
         ElementClaim::Beside { .. } => own_edges(metadata),
@@ -479,7 +532,7 @@ pub(crate) fn add_edges_claims(
     key: &str,
     found: Option<&Value<'_>>,
     column: Option<&SchemaColumn>,
-    element: Option<&ElementClaim>,
+    element: Option<&RootElement>,
     said: Option<&str>,
 ) -> Result<(), AllocError>
     requires { IfSome found (λ v. IsReadable (value_view v.now)) }
@@ -509,7 +562,7 @@ pub(crate) fn add_edges_contradict(
     version: Version,
     key: &str,
     column: Option<&SchemaColumn>,
-    element: Option<&ElementClaim>,
+    element: Option<&RootElement>,
     member: &Value<'_>,
 ) -> Result<(), AllocError>
     requires { IsReadable (value_view member.now) }

@@ -8,23 +8,22 @@ ghost use Rattle.arrow_columns.specs.Column.{column_tree};
 ghost use Rattle.crs_identity.specs.Verdicts.{claim};
 ghost use Rattle.geoparquet.specs.Findings.{finding};
 ghost use Rattle.geoparquet.specs.CrsClaims.{own_crs_in, said_crs};
-ghost use Rattle.geoparquet.specs.Counting.{counting, crs_counting, crs_that_counts, is_projected_class, is_projected, is_asked, is_paired_by, is_crs_paired, member_edges, edges_that_count, is_planar, are_planar, edges_on_projected_findings};
+ghost use Rattle.geoparquet.specs.Counting.{counting, crs_counting, crs_that_counts, is_projected_class, is_projected, is_asked, is_paired_by, is_crs_paired, are_planar, crs_alone, edges_on_projected_findings, own_on_projected_findings};
 ghost use Rattle.geoparquet.specs.Identifiers.{default_identifier};
 ghost use Rattle.geoparquet.specs.Sources.{element_view};
 ghost use Rattle.json.specs.Json.{string};
 
-use crate::adding::add_part;
+use crate::adding::{add_at, add_part};
 use crate::code::GeoCode;
-use crate::contradictions::{
-    element_edges, element_metadata, field_edges, own_metadata, said_edges,
-};
+use crate::contradictions::{element_metadata, own_metadata};
 use crate::crs_claims::{DEFAULT_CRS, element_crs, element_json, field_json, own_crs_in, said_crs};
 use crate::finding::{GeoFinding, Version};
+use crate::text_facts::are_planar_in;
 use crate::version::is_judged;
 use arrow_columns::SchemaColumn;
 use crs_identity::{Claim, Class, class_of, has_paired_identifier};
 use json::{Scratch, Value};
-use parquet_columns::ElementClaim;
+use parquet_columns::RootElement;
 use std::alloc::{AllocError, Global};
 use value_tokens::member_of;
 
@@ -126,7 +125,7 @@ fn is_asked_claimed(
 fn is_asked_beside(
     alloc: Global,
     asked: Asked,
-    element: Option<&ElementClaim>,
+    element: Option<&RootElement>,
     metadata: Option<&Value<'_>>,
     own: Option<&Value<'_>>,
     said: Option<Claim<'_, '_>>,
@@ -143,7 +142,7 @@ fn is_asked_beside(
 fn is_projected_beside(
     alloc: Global,
     version: Version,
-    element: Option<&ElementClaim>,
+    element: Option<&RootElement>,
     metadata: Option<&Value<'_>>,
     own: Option<&Value<'_>>,
     member: &Value<'_>,
@@ -161,7 +160,7 @@ pub(crate) fn counts_projected(
     alloc: Global,
     version: Version,
     column: Option<&SchemaColumn>,
-    element: Option<&ElementClaim>,
+    element: Option<&RootElement>,
     member: &Value<'_>,
 ) -> Result<bool, AllocError>
     ensures { IfOk result (λ is. is ≡ is_projected (crs_that_counts version (option_map (λ c. column_tree c.now) column.entry) (option_map (λ e. element_view e.now) element.entry) (value_view member.now))) }
@@ -185,7 +184,7 @@ pub(crate) fn counts_projected(
 fn is_paired_beside(
     alloc: Global,
     version: Version,
-    element: Option<&ElementClaim>,
+    element: Option<&RootElement>,
     metadata: Option<&Value<'_>>,
     own: Option<&Value<'_>>,
     member: &Value<'_>,
@@ -206,7 +205,7 @@ pub(crate) fn counts_paired(
     alloc: Global,
     version: Version,
     column: Option<&SchemaColumn>,
-    element: Option<&ElementClaim>,
+    element: Option<&RootElement>,
     member: &Value<'_>,
 ) -> Result<bool, AllocError>
     ensures { IfOk result (λ is. is ≡ is_crs_paired version (option_map (λ c. column_tree c.now) column.entry) (option_map (λ e. element_view e.now) element.entry) (value_view member.now)) }
@@ -225,52 +224,19 @@ pub(crate) fn counts_paired(
     )
 }
 
-/// Returns the edges that a member says, where it says some of the version's.
-fn member_edges<'a>(version: Version, found: Option<&Value<'a>>) -> Option<&'a str>
-    ensures { text_of result ≡ member_edges version (option_map (λ v. value_view v.now) found.entry) }
-{
-    match found {
-        Some(_) => said_edges(version, found),
-        None => None,
-    }
-}
-
-/// Whether edges are planar, as they are where none are said.
-fn is_planar(edges: Option<&str>) -> bool
-    ensures { result ≡ is_planar (text_of edges.entry) }
-{
-    match edges {
-        Some(text) => text == "planar",
-        None => true,
-    }
-}
-
-/// Returns the first edges of two that are said.
-fn edges_that_count<'a>(said: Option<&'a str>, other: Option<&'a str>) -> Option<&'a str>
-    ensures { text_of result ≡ edges_that_count (text_of said.entry) (text_of other.entry) }
-{
-    match said {
-        Some(said) => Some(said),
-        None => other,
-    }
-}
-
 /// Returns whether the edges that count are planar. Errs only when out of memory.
 fn are_planar(
     alloc: Global,
     version: Version,
     column: Option<&SchemaColumn>,
-    element: Option<&ElementClaim>,
-    found: Option<&Value<'_>>,
+    element: Option<&RootElement>,
+    member: Option<&Value<'_>>,
 ) -> Result<bool, AllocError>
-    ensures { IfOk result (λ are. are ≡ are_planar version (option_map (λ c. column_tree c.now) column.entry) (option_map (λ e. element_view e.now) element.entry) (option_map (λ v. value_view v.now) found.entry)) }
+    ensures { IfOk result (λ are. are ≡ are_planar version (option_map (λ c. column_tree c.now) column.entry) (option_map (λ e. element_view e.now) element.entry) (option_map (λ v. value_view v.now) member.entry)) }
 {
     let metadata = element_metadata(alloc, element, column)?;
     let own = own_metadata(alloc, column)?;
-    let claimed = element_edges(element, &metadata);
-    let said = member_edges(version, found);
-    let below = edges_that_count(said, field_edges(element, &own));
-    Ok(is_planar(edges_that_count(claimed, below)))
+    Ok(are_planar_in(version, member, element, &metadata, &own))
 }
 
 /// Adds what is found where the edges that count are not planar, and the CRS that counts is projected
@@ -281,7 +247,7 @@ pub(crate) fn add_edges_on_projected(
     version: Version,
     key: &str,
     column: Option<&SchemaColumn>,
-    element: Option<&ElementClaim>,
+    element: Option<&RootElement>,
     member: &Value<'_>,
 ) -> Result<(), AllocError>
     requires { IsReadable (value_view member.now) }
@@ -291,13 +257,51 @@ pub(crate) fn add_edges_on_projected(
     if !is_judged(version) {
         return Ok(());
     }
-    let found = member_of(member, "edges");
-    if are_planar(alloc, version, column, element, found)? {
+    if are_planar(alloc, version, column, element, Some(member))? {
         return Ok(());
     }
     if !counts_projected(alloc, version, column, element, member)? {
         return Ok(());
     }
     let code = GeoCode::EdgesOnProjected;
+    let found = member_of(member, "edges");
     add_part(alloc, findings, code, key, "edges", found, None)
+}
+
+/// Returns whether the CRS of a column that has no member is projected. Errs only when out of memory.
+fn is_projected_alone(
+    alloc: Global,
+    column: Option<&SchemaColumn>,
+    element: Option<&RootElement>,
+) -> Result<bool, AllocError>
+    ensures { IfOk result (λ is. is ≡ is_projected (crs_alone (option_map (λ c. column_tree c.now) column.entry) (option_map (λ e. element_view e.now) element.entry))) }
+{
+    let mut scratch = Scratch::new(alloc);
+    let mut other = Scratch::new(alloc);
+    let metadata = element_json(alloc, element, column, &mut scratch)?;
+    let own = field_json(alloc, element, column, &mut other)?;
+    let asked = Asked::Projected;
+    is_asked_beside(alloc, asked, element, metadata.as_ref(), own.as_ref(), None)
+}
+
+/// Adds what is found where the edges of a column that has no member are not planar, and its CRS is
+/// projected (docs/FORMAT.md, 5). Errs only when out of memory.
+pub(crate) fn add_own_on_projected(
+    alloc: Global,
+    findings: &mut Vec<GeoFinding>,
+    key: &str,
+    column: Option<&SchemaColumn>,
+    element: Option<&RootElement>,
+) -> Result<(), AllocError>
+    ensures { OnOk result (map finding findings.new.items ≡ map finding findings.old.items
+        ++ own_on_projected_findings key.now (option_map (λ c. column_tree c.now) column.entry) (option_map (λ e. element_view e.now) element.entry)) }
+{
+    if are_planar(alloc, Version::V1_1, column, element, None)? {
+        return Ok(());
+    }
+    if !is_projected_alone(alloc, column, element)? {
+        return Ok(());
+    }
+    let code = GeoCode::EdgesOnProjected;
+    add_at(alloc, findings, code, Some(key), "", None, None)
 }

@@ -24,7 +24,7 @@ use arrow_columns::SchemaColumn;
 use column_check::shown_value;
 use crs_identity::{Claim, Crs, Verdict, crs_verdict};
 use json::{Scratch, Value};
-use parquet_columns::ElementClaim;
+use parquet_columns::{ElementClaim, RootElement};
 use std::alloc::{AllocError, Global};
 use value_tokens::{Refusal, member_of, read_json};
 
@@ -278,7 +278,7 @@ pub(crate) fn own_crs_in<'v, 'a>(
 /// Returns the extension metadata of an element, where they are JSON. Errs only when out of memory.
 pub(crate) fn element_json<'t>(
     alloc: Global,
-    element: Option<&'t ElementClaim>,
+    element: Option<&'t RootElement>,
     column: Option<&'t SchemaColumn>,
     scratch: &'t mut Scratch,
 ) -> Result<Option<Value<'t>>, AllocError>
@@ -288,7 +288,7 @@ pub(crate) fn element_json<'t>(
     let Some(element) = element else {
         return Ok(None);
     };
-    match element {
+    match &element.claim {
         ElementClaim::Silent => Ok(None),
         ElementClaim::Given { .. } => own_json(alloc, column, scratch),
         ElementClaim::Beside { metadata, .. } => json_in(alloc, metadata.as_str(), scratch),
@@ -299,7 +299,7 @@ pub(crate) fn element_json<'t>(
 /// the element. Errs only when out of memory.
 pub(crate) fn field_json<'t>(
     alloc: Global,
-    element: Option<&ElementClaim>,
+    element: Option<&RootElement>,
     column: Option<&'t SchemaColumn>,
     scratch: &'t mut Scratch,
 ) -> Result<Option<Value<'t>>, AllocError>
@@ -309,7 +309,7 @@ pub(crate) fn field_json<'t>(
     let Some(element) = element else {
         return own_json(alloc, column, scratch);
     };
-    match element {
+    match &element.claim {
         ElementClaim::Silent => own_json(alloc, column, scratch),
         ElementClaim::Given { .. } => Ok(None),
         ElementClaim::Beside { .. } => own_json(alloc, column, scratch),
@@ -359,7 +359,7 @@ fn named_crs<'v, 'a>(
 /// Returns the CRS that an element says, by its metadata. Errs only when out of memory.
 pub(crate) fn element_crs<'v, 'a>(
     alloc: Global,
-    element: Option<&ElementClaim>,
+    element: Option<&RootElement>,
     own: Option<&'v Value<'a>>,
     default: &'v Value<'a>,
 ) -> Result<Option<Claim<'v, 'a>>, AllocError>
@@ -369,7 +369,7 @@ pub(crate) fn element_crs<'v, 'a>(
     let Some(element) = element else {
         return Ok(None);
     };
-    match element {
+    match &element.claim {
         ElementClaim::Silent => Ok(None),
         ElementClaim::Given { names_crs, .. } => {
             if *names_crs {
@@ -610,7 +610,7 @@ fn add_json(
     findings: &mut Vec<GeoFinding>,
     key: &str,
     found: Option<&Value<'_>>,
-    element: Option<&ElementClaim>,
+    element: Option<&RootElement>,
     metadata: Option<&Value<'_>>,
     own: Option<&Value<'_>>,
     said: Option<Claim<'_, '_>>,
@@ -634,7 +634,7 @@ pub(crate) fn add_crs_claims(
     key: &str,
     found: Option<&Value<'_>>,
     column: Option<&SchemaColumn>,
-    element: Option<&ElementClaim>,
+    element: Option<&RootElement>,
     said: Option<Claim<'_, '_>>,
 ) -> Result<(), AllocError>
     requires { IfSome found (λ v. IsReadable (value_view v.now)) }
@@ -665,7 +665,7 @@ pub(crate) fn add_crs_contradicts(
     version: Version,
     key: &str,
     column: Option<&SchemaColumn>,
-    element: Option<&ElementClaim>,
+    element: Option<&RootElement>,
     member: &Value<'_>,
 ) -> Result<(), AllocError>
     requires { IsReadable (value_view member.now) }

@@ -22,7 +22,7 @@ use crate::finding::Version;
 use arrow_columns::SchemaColumn;
 use crs_identity::Claim;
 use json::{Scratch, Value};
-use parquet_columns::ElementClaim;
+use parquet_columns::RootElement;
 use std::alloc::{AllocError, Global};
 use value_tokens::{JsonText, member_of};
 
@@ -285,7 +285,7 @@ fn crs_fact_claimed(
 /// when out of memory.
 fn crs_fact_said(
     alloc: Global,
-    source: Option<&ElementClaim>,
+    source: Option<&RootElement>,
     said: Option<Claim<'_, '_>>,
     element: Option<&Value<'_>>,
     geo: Option<&Value<'_>>,
@@ -305,7 +305,7 @@ fn crs_fact_said(
 fn crs_fact_in(
     alloc: Global,
     version: Version,
-    claim: Option<&ElementClaim>,
+    claim: Option<&RootElement>,
     element: Option<&Value<'_>>,
     geo: Option<&Value<'_>>,
     field: Option<&Value<'_>>,
@@ -327,7 +327,7 @@ pub(crate) fn crs_fact(
     version: Version,
     member: Option<&Value<'_>>,
     column: &SchemaColumn,
-    element: Option<&ElementClaim>,
+    element: Option<&RootElement>,
 ) -> Result<Option<CrsFact>, AllocError>
     requires { IfSome member (λ v. IsReadable (value_view v.now)) }
     ensures { IfOk result (λ fact. option_map crs_view fact ≡ crs_fact version (option_map (λ v. value_view v.now) member.entry) (column_tree column.now) (option_map (λ e. element_view e.now) element.entry)) }

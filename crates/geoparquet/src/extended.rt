@@ -13,6 +13,7 @@ use crate::extension::{extension_text, text_at};
 use arrow_columns::{SchemaColumn, with_extension};
 use geoarrow_layout::ExtensionName;
 use json::Value;
+use parquet_columns::is_reserved;
 use std::alloc::{AllocError, Global};
 use std::collections::BTreeMap;
 use value_tokens::member_of;
@@ -84,21 +85,28 @@ fn geo_column(
     let Some(member) = member else {
         return Ok(column);
     };
-    let Some(name) = name_for(member, &column) else {
+    let Some(name) = name_for(alloc, member, &column)? else {
         return Ok(column);
     };
     let text = extension_text(alloc, member)?;
     with_extension(alloc, column, name.as_text(), text)
 }
 
-/// The extension name that a column, the first of its name, takes by its member of `columns`.
-fn name_for(member: &Value<'_>, column: &SchemaColumn) -> Option<ExtensionName>
+/// The extension name that a column, the first of its name, takes by its member of `columns`. Errs
+/// only when out of memory.
+fn name_for(
+    alloc: Global,
+    member: &Value<'_>,
+    column: &SchemaColumn,
+) -> Result<Option<ExtensionName>, AllocError>
     requires { IsReadable (value_view member.now) }
-    ensures { IsNameFor (text_at (codes "encoding") (value_view member.now)) (column_tree column.now) result }
+    ensures { IfOk result (λ name. IsNameFor (text_at (codes "encoding") (value_view member.now)) (column_tree column.now) name) }
 {
-    let name = encoded_as(text_at(member, "encoding"), column)?;
-    match column.extension_type_name() {
-        Some(_) => None,
-        None => Some(name),
+    let Some(name) = encoded_as(text_at(member, "encoding"), column) else {
+        return Ok(None);
+    };
+    if is_reserved(alloc, column.extension_type_name())? {
+        return Ok(None);
     }
+    Ok(Some(name))
 }

@@ -19,7 +19,7 @@ use crate::text_facts::{EdgesFact, EncodingFact, edges_fact, encoding_fact, layo
 use crate::version::version_of;
 use arrow_columns::SchemaColumn;
 use json::Value;
-use parquet_columns::ElementClaim;
+use parquet_columns::RootElement;
 use std::alloc::{AllocError, Global};
 use value_tokens::member_of;
 
@@ -95,7 +95,7 @@ fn column_facts(
     version: Version,
     member: Option<&Value<'_>>,
     column: &SchemaColumn,
-    element: Option<&ElementClaim>,
+    element: Option<&RootElement>,
 ) -> Result<ColumnFacts, AllocError>
     requires { IfSome member (λ v. IsReadable (value_view v.now)) }
     ensures { IfOk result (λ facts. facts_view facts ≡ column_facts version (option_map (λ v. value_view v.now) member.entry) (column_tree column.now) (option_map (λ e. element_view e.now) element.entry)) }
@@ -104,7 +104,7 @@ fn column_facts(
         crs: crs_fact(alloc, version, member, column, element)?,
         edges: edges_fact(alloc, version, member, column, element)?,
         encoding: encoding_fact(version, member, column, element),
-        layout_contradicts: layout_contradicts(version, member, column),
+        layout_contradicts: layout_contradicts(version, member, column, element),
         member: member_facts(alloc, version, member)?,
     })
 }

@@ -31,6 +31,8 @@ pub struct GeoFinding {
     /// What the rule wants there, where the code does not say it alone: a name, a type, or what
     /// another source says.
     pub wanted: Option<String>,
+    /// How many more of the code in the column it stands for, which are not told one by one.
+    pub more: usize,
 }
 
 /// What is found in the metadata of a file, and the version by which they are judged.

@@ -61,11 +61,13 @@ impl GeoCode {
                  \"ymax\":[NAME,\"ymax\"]}}, where NAME is the name found.",
             ),
             Self::CrsContradicts => {
-                Some("That of the element counts first, then that of geo, then that of the field.")
+                Some(
+                    "That of the element counts first, then that of geo, then that of the field; a default counts last.",
+                )
             }
             Self::EdgesContradict => {
                 Some(
-                    "Those of the element count first, then those of geo, then those of the field.",
+                    "Those of the element count first, then those of geo, then those of the field; a default counts last.",
                 )
             }
             _ => None,

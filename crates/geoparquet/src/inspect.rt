@@ -20,7 +20,7 @@ use crate::source::{GeoSource, Unread};
 use crate::sources::with_elements;
 use arrow_columns::SchemaColumn;
 use json::{Scratch, Value};
-use parquet_columns::ElementClaim;
+use parquet_columns::RootElement;
 use std::alloc::{AllocError, Global};
 use value_tokens::{Refusal, read_json};
 
@@ -85,7 +85,7 @@ pub fn inspect_geo(
     alloc: Global,
     geo: GeoSource<'_>,
     columns: Vec<SchemaColumn>,
-    elements: &[ElementClaim],
+    elements: &[RootElement],
 ) -> Result<GeoAnswer, AllocError>
     ensures findings { IfOk result (λ answer. AreGeoFindings (source geo.entry) (map column_tree columns.items) (map element_view elements.now) answer.report.version (map finding answer.report.findings.items)) }
     ensures facts { IfOk result (λ answer. map facts_view answer.facts.items ≡ facts_of (source geo.entry) (map column_tree columns.items) (map element_view elements.now)) }
@@ -103,7 +103,7 @@ fn unread_answer(
     alloc: Global,
     unread: Unread<'_>,
     columns: Vec<SchemaColumn>,
-    elements: &[ElementClaim],
+    elements: &[RootElement],
 ) -> Result<GeoAnswer, AllocError>
     ensures version { IfOk result (λ answer. answer.report.version ≡ Version.V1_1) }
     ensures findings { IfOk result (λ answer. map finding answer.report.findings.items ≡ unread_findings unread.entry (with_elements (map column_tree columns.items) (map element_view elements.now))
@@ -127,7 +127,7 @@ fn value_answer(
     alloc: Global,
     bytes: &[u8],
     columns: Vec<SchemaColumn>,
-    elements: &[ElementClaim],
+    elements: &[RootElement],
 ) -> Result<GeoAnswer, AllocError>
     ensures findings { IfOk result (λ answer. AreValueFindings bytes.now (map column_tree columns.items) (with_elements (map column_tree columns.items) (map element_view elements.now)) answer.report.version (map finding answer.report.findings.items)) }
     ensures facts { IfOk result (λ answer. map facts_view answer.facts.items ≡ facts_behind (geo_json (value bytes.now)) [] (with_elements (map column_tree columns.items) (map element_view elements.now))) }
@@ -144,7 +144,7 @@ fn text_answer(
     alloc: Global,
     geo: &str,
     columns: Vec<SchemaColumn>,
-    elements: &[ElementClaim],
+    elements: &[RootElement],
 ) -> Result<GeoAnswer, AllocError>
     ensures findings { IfOk result (λ answer. AreTextFindings geo.now (map column_tree columns.items) (with_elements (map column_tree columns.items) (map element_view elements.now)) answer.report.version (map finding answer.report.findings.items)) }
     ensures facts { IfOk result (λ answer. map facts_view answer.facts.items ≡ facts_behind (unwrap_or (json_in geo.now) null) [] (with_elements (map column_tree columns.items) (map element_view elements.now))) }
@@ -164,7 +164,7 @@ fn json_answer(
     geo: &str,
     json: &Value<'_>,
     columns: Vec<SchemaColumn>,
-    elements: &[ElementClaim],
+    elements: &[RootElement],
 ) -> Result<GeoAnswer, AllocError>
     requires is { IsJson geo.now (value_view json.now) }
     requires read { IsRead (value_view json.now) }

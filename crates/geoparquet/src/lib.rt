@@ -7,6 +7,7 @@ mod adding;
 mod bounds;
 mod box_range;
 mod boxes;
+mod capped;
 mod check;
 mod code;
 mod column;

@@ -71,6 +71,7 @@ pub(crate) fn finding_at(
         pointer: place,
         found,
         wanted,
+        more: 0,
     })
 }
 

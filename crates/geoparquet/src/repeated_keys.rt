@@ -299,6 +299,7 @@ fn repeated_finding(
         pointer,
         found: Some(found),
         wanted: None,
+        more: 0,
     })
 }
 

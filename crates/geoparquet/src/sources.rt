@@ -5,7 +5,7 @@ ghost use Rattle.geoparquet.specs.Sources.{element_view, with_elements, element_
 ghost use Rattle.geoparquet.specs.declared.sources.Sourced.{Sourced};
 
 use arrow_columns::SchemaColumn;
-use parquet_columns::ElementClaim;
+use parquet_columns::RootElement;
 use std::alloc::{AllocError, Global};
 use std::collections::BTreeMap;
 
@@ -15,11 +15,11 @@ pub(crate) struct Sourced<'c> {
     /// The column.
     pub(crate) column: &'c SchemaColumn,
     /// What its element says.
-    pub(crate) element: Option<&'c ElementClaim>,
+    pub(crate) element: Option<&'c RootElement>,
 }
 
 /// What elements say, by the names of their columns: of a name that of its first column.
-pub(crate) type ByName<'c> = BTreeMap<&'c str, Option<&'c ElementClaim>>;
+pub(crate) type ByName<'c> = BTreeMap<&'c str, Option<&'c RootElement>>;
 
 /// Columns, and what their elements say by their names.
 #[derive(Drop)]
@@ -35,8 +35,8 @@ pub(crate) struct Sources<'c> {
 fn push_source<'c>(
     made: &mut Vec<Sourced<'c>>,
     column: &'c SchemaColumn,
-    elements: &'c [ElementClaim],
-) -> Result<&'c [ElementClaim], AllocError>
+    elements: &'c [RootElement],
+) -> Result<&'c [RootElement], AllocError>
     ensures { IfOk result (λ rest. (cs : List ColumnTree) → map sourced made.new.items ++ with_elements cs (map element_view rest.now)
         ≡ map sourced made.old.items ++ with_elements (column_tree column.now ∷ cs) (map element_view elements.now)) }
 {
@@ -58,7 +58,7 @@ fn push_source<'c>(
 pub(crate) fn with_elements<'c>(
     alloc: Global,
     columns: &'c [SchemaColumn],
-    elements: &'c [ElementClaim],
+    elements: &'c [RootElement],
 ) -> Result<Vec<Sourced<'c>>, AllocError>
     ensures { IfOk result (λ made. map sourced made.items ≡ with_elements (map column_tree columns.now) (map element_view elements.now)) }
 {
@@ -106,7 +106,7 @@ impl<'c> Sources<'c> {
     }
 
     /// Returns what the element of the first column of a name says.
-    pub(crate) fn element(&self, name: &str) -> Option<&'c ElementClaim>
+    pub(crate) fn element(&self, name: &str) -> Option<&'c RootElement>
         requires { AreElements (map sourced self.now.all.now) self.now.named }
         ensures { option_map (λ e. element_view e.now) result ≡ element_named (map sourced self.now.all.now) name.now }
     {

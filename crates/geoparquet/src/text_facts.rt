@@ -6,20 +6,22 @@ ghost use Rattle.serde_json.specs.View.{view};
 ghost use Rattle.value_tokens.specs.Values.{IsReadable};
 ghost use Rattle.arrow_values.specs.Texts.{text_of};
 ghost use Rattle.arrow_columns.specs.Column.{column_tree};
-ghost use Rattle.geoparquet.specs.Facts.{are_absent, edges_fact, edges_fact_in, edges_from, edges_view, encoding_fact, encoding_from, has_no_edges, has_other_layout, is_default_if, layout_contradicts, member_edges, member_encoding};
+ghost use Rattle.geoparquet.specs.Counting.{is_planar};
+ghost use Rattle.geoparquet.specs.FactSources.{source_counting};
+ghost use Rattle.geoparquet.specs.Facts.{are_absent, edges_counting, edges_defaults, edges_fact, edges_fact_in, edges_from, edges_view, encoding_fact, encoding_from, has_no_edges, has_other_layout, is_default_if, layout_contradicts, member_edges, member_encoding};
 ghost use Rattle.geoparquet.specs.Sources.{element_view};
 
 use crate::contradictions::{
-    element_edges, element_encoding, element_metadata, field_edges, field_encoding,
-    layout_encoding, own_metadata, said_edges,
+    are_default_edges, element_edges, element_encoding, element_metadata, field_edges,
+    field_encoding, layout_encoding, own_metadata, said_edges,
 };
 use crate::fact_sources::{Against, FactSource, source_counting, text_from, texts_against};
 use crate::finding::Version;
-use crate::layout::layout_of;
+use crate::layout::is_laid_out;
 use crate::members::encoding_of;
 use arrow_columns::SchemaColumn;
 use json::Value;
-use parquet_columns::ElementClaim;
+use parquet_columns::RootElement;
 use std::alloc::{AllocError, Global};
 
 /// The edges of a column that count.
@@ -108,7 +110,7 @@ fn edges_fact_in(
     alloc: Global,
     version: Version,
     member: Option<&Value<'_>>,
-    claim: Option<&ElementClaim>,
+    claim: Option<&RootElement>,
     metadata: &serde_json::Value,
     own: &serde_json::Value,
 ) -> Result<Option<EdgesFact>, AllocError>
@@ -117,14 +119,57 @@ fn edges_fact_in(
     let element = element_edges(claim, metadata);
     let geo = member_edges(version, member);
     let field = field_edges(claim, own);
-    let from = source_counting(
-        is_default_if(false, element),
-        is_default_if(has_no_edges(member), geo),
-        is_default_if(are_absent(own.get("edges")), field),
-    );
-    match from {
+    match edges_source(member, claim, own, element, geo, field) {
         Some(from) => edges_from(alloc, from, element, geo, field),
         None => Ok(None),
+    }
+}
+
+/// Returns the source of the edges that count, by what each says.
+fn edges_source(
+    member: Option<&Value<'_>>,
+    claim: Option<&RootElement>,
+    own: &serde_json::Value,
+    element: Option<&str>,
+    geo: Option<&str>,
+    field: Option<&str>,
+) -> Option<FactSource>
+    ensures { result ≡ source_counting (edges_defaults (option_map (λ v. value_view v.now) member.entry) (option_map (λ e. element_view e.now) claim.entry) (view own.now) (record { element = text_of element.entry; geo = text_of geo.entry; field = text_of field.entry })) }
+{
+    source_counting(
+        is_default_if(are_default_edges(claim), element),
+        is_default_if(has_no_edges(member), geo),
+        is_default_if(are_absent(own.get("edges")), field),
+    )
+}
+
+/// Whether edges are planar, as they are where none are said.
+fn is_planar(edges: Option<&str>) -> bool
+    ensures { result ≡ is_planar (text_of edges.entry) }
+{
+    match edges {
+        Some(text) => text == "planar",
+        None => true,
+    }
+}
+
+/// Returns whether the edges that count are planar, by the extension metadata of the element and of
+/// the field.
+pub(crate) fn are_planar_in(
+    version: Version,
+    member: Option<&Value<'_>>,
+    claim: Option<&RootElement>,
+    metadata: &serde_json::Value,
+    own: &serde_json::Value,
+) -> bool
+    ensures { result ≡ is_planar (edges_counting version (option_map (λ v. value_view v.now) member.entry) (option_map (λ e. element_view e.now) claim.entry) (view metadata.now) (view own.now)) }
+{
+    let element = element_edges(claim, metadata);
+    let geo = member_edges(version, member);
+    let field = field_edges(claim, own);
+    match edges_source(member, claim, own, element, geo, field) {
+        Some(from) => is_planar(text_from(from, element, geo, field)),
+        None => true,
     }
 }
 
@@ -135,7 +180,7 @@ pub(crate) fn edges_fact(
     version: Version,
     member: Option<&Value<'_>>,
     column: &SchemaColumn,
-    element: Option<&ElementClaim>,
+    element: Option<&RootElement>,
 ) -> Result<Option<EdgesFact>, AllocError>
     ensures { IfOk result (λ fact. option_map edges_view fact ≡ edges_fact version (option_map (λ v. value_view v.now) member.entry) (column_tree column.now) (option_map (λ e. element_view e.now) element.entry)) }
 {
@@ -148,23 +193,28 @@ pub(crate) fn edges_fact(
 fn member_encoding<'a>(
     version: Version,
     column: &SchemaColumn,
+    element: Option<&RootElement>,
     member: Option<&Value<'a>>,
 ) -> Option<&'a str>
     requires { IfSome member (λ v. IsReadable (value_view v.now)) }
-    ensures { text_of result ≡ member_encoding version (column_tree column.now) (option_map (λ v. value_view v.now) member.entry) }
+    ensures { text_of result ≡ member_encoding version (column_tree column.now) (option_map (λ e. element_view e.now) element.entry) (option_map (λ v. value_view v.now) member.entry) }
 {
     let Some(member) = member else {
         return None;
     };
-    layout_encoding(version, Some(column), member)
+    layout_encoding(version, Some(column), element, member)
 }
 
 /// Whether a column has another layout than that of an encoding.
-fn has_other_layout(encoding: Option<&str>, column: &SchemaColumn) -> bool
-    ensures { result ≡ has_other_layout (text_of encoding.entry) (column_tree column.now) }
+fn has_other_layout(
+    encoding: Option<&str>,
+    column: &SchemaColumn,
+    element: Option<&RootElement>,
+) -> bool
+    ensures { result ≡ has_other_layout (text_of encoding.entry) (column_tree column.now) (option_map (λ e. element_view e.now) element.entry) }
 {
     match encoding {
-        Some(encoding) => layout_of(encoding, &column.data_type).is_none(),
+        Some(encoding) => !is_laid_out(encoding, column, element),
         None => false,
     }
 }
@@ -175,14 +225,15 @@ pub(crate) fn layout_contradicts(
     version: Version,
     member: Option<&Value<'_>>,
     column: &SchemaColumn,
+    element: Option<&RootElement>,
 ) -> bool
     requires { IfSome member (λ v. IsReadable (value_view v.now)) }
-    ensures { result ≡ layout_contradicts version (option_map (λ v. value_view v.now) member.entry) (column_tree column.now) }
+    ensures { result ≡ layout_contradicts version (option_map (λ v. value_view v.now) member.entry) (column_tree column.now) (option_map (λ e. element_view e.now) element.entry) }
 {
     let Some(member) = member else {
         return false;
     };
-    has_other_layout(encoding_of(version, member), column)
+    has_other_layout(encoding_of(version, member), column, element)
 }
 
 /// Returns the source of the encoding: the field, else the member, else the element.
@@ -210,13 +261,13 @@ pub(crate) fn encoding_fact(
     version: Version,
     member: Option<&Value<'_>>,
     column: &SchemaColumn,
-    element: Option<&ElementClaim>,
+    element: Option<&RootElement>,
 ) -> Option<EncodingFact>
     requires { IfSome member (λ v. IsReadable (value_view v.now)) }
     ensures { result ≡ encoding_fact version (option_map (λ v. value_view v.now) member.entry) (column_tree column.now) (option_map (λ e. element_view e.now) element.entry) }
 {
     let claimed = element_encoding(element);
-    let geo = member_encoding(version, column, member);
+    let geo = member_encoding(version, column, element, member);
     let field = field_encoding(element, Some(column));
     match encoding_from(claimed, geo, field) {
         Some(from) => Some(EncodingFact {

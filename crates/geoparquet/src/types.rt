@@ -11,6 +11,7 @@ ghost use Rattle.geoparquet.specs.Rules.{part_place, items_in, items_findings};
 ghost use Rattle.geoparquet.specs.TypeNames.{type_text, dimension_named, type_named};
 ghost use Rattle.geoparquet.specs.TypeRules.{types_in, type_of, is_text, is_new_type, type_has_m, is_without_m, takes_m, found_types, found_with_m, types_findings, types_version_findings};
 
+use crate::capped::add_capped;
 use crate::code::GeoCode;
 use crate::finding::{GeoFinding, Version};
 use crate::place::{add_item, part_finding, part_place};
@@ -173,7 +174,9 @@ fn add_types_version(
         return Ok(());
     };
     let place = part_place(alloc, key, "geometry_types")?;
-    add_with_m(alloc, findings, key, place.as_str(), items)
+    let mut found = Vec::new(alloc);
+    add_with_m(alloc, &mut found, key, place.as_str(), items)?;
+    add_capped(findings, found)
 }
 
 /// Whether types may have an m in a version.
@@ -195,7 +198,9 @@ fn add_found_types(
 {
     if let Some(items) = items_in(found) {
         let place = part_place(alloc, key, "geometry_types")?;
-        return add_items(alloc, findings, key, place.as_str(), items);
+        let mut found = Vec::new(alloc);
+        add_items(alloc, &mut found, key, place.as_str(), items)?;
+        return add_capped(findings, found);
     }
     findings.push(part_finding(alloc, GeoCode::Types, key, "geometry_types", found)?)?;
     Ok(())

@@ -70,7 +70,7 @@ impl GeoCode {
             Self::ColumnUndeclared => "a column holds geometries, and has no member of columns",
             Self::PrimaryColumn => "primary_column is absent, no text, or no key of columns",
             Self::Encoding => "encoding is absent, no text, or no encoding of the version",
-            Self::Layout => "the type of the column is not the layout of its encoding",
+            Self::Layout => "the column is not laid out as its encoding asks",
             Self::Types => {
                 "geometry_types is absent or no array, or an item is no text, no name of a type, \
                  or there twice"

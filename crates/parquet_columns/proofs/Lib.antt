@@ -8,6 +8,7 @@ mod Resolving
 mod Jsons
 mod Kept
 mod Laters
+mod Laying
 mod Opening
 mod Maps
 mod Named

@@ -73,13 +73,13 @@ module _ (g : Option Json) (es : List Element) (cs : List ColumnTree) (made yiel
         ∙ sym (map-append (λ (r : Resolution). r.refuted) done (resolve g child other (column_tree c) ∷ [])) ∙ ap resolved_refuted (sym one_more)
 
 -- where each stored column fits, the metadata at `geo` decide nothing
-fitting : (u b h i : Bool) (c s : ColumnTree) → not b ≡ false → (if u then as_it_is (bare c) else resolve_by b h c s) ≡ (if u then as_it_is (bare c) else resolve_by b i c s)
-fitting u true h i c s fits = refl
-fitting u false h i c s fits = absurd (cc)
+fitting : (u b h i : Bool) (e : Option Element) (c s : ColumnTree) → not b ≡ false → (if u then as_it_is (bare c) else resolve_by b h e c s) ≡ (if u then as_it_is (bare c) else resolve_by b i e c s)
+fitting u true h i e c s fits = refl
+fitting u false h i e c s fits = absurd (cc)
 
 alike : (g : Option Json) (e : Option Element) (c : Option ColumnTree) (s : ColumnTree) → is_misfit c s ≡ false → resolve g e c s ≡ resolve None e c s
 alike g e None s fits = refl
-alike g e (Some c) s fits = fitting (is_unreadable c.data_type) (type_fits c.data_type s.data_type) (may_hold g e s) (may_hold None e s) c s fits
+alike g e (Some c) s fits = fitting (is_unreadable c.data_type) (type_fits c.data_type s.data_type) (may_hold g e s) (may_hold None e s) e c s fits
 
 left : (a b : Bool) → (a || b) ≡ false → a ≡ false
 left true b e = absurd (cc)

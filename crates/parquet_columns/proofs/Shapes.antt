@@ -12,7 +12,7 @@ use Rattle.arrow_columns.specs.Nested.{list_type}
 use Rattle.arrow_columns.specs.declared.column.SchemaColumn.{SchemaColumn}
 use Rattle.arrow_columns.specs.declared.nested.ListForm.TheVariants.{Small}
 use Rattle.parquet_footer.specs.declared.element.Repetition.{Repetition}
-use Rattle.parquet_footer.specs.declared.element.Repetition.TheVariants.{Required, Optional, Repeated}
+use Rattle.parquet_footer.specs.declared.element.Repetition.TheVariants.{Required, Optional, Repeated, Unknown}
 use Rattle.parquet_columns.specs.declared.fault.SchemaRule.TheVariants.{List as ListRule, Map as MapRule}
 use Rattle.parquet_columns.specs.declared.nodes.Node.{Node}
 use Rattle.parquet_columns.specs.Nodes.{NodeTree, typed, wrapper, group, node_tree, shape_type, is_optional, is_repeated, plain_column, column_by, column_of, one_shape, group_shape, is_item_name, item_by, list_of, list_shape, is_group, map_type, map_of, map_shape}
@@ -101,6 +101,7 @@ not_optional : (r : Repetition) → is_repeated r ≡ true → is_optional r ≡
 not_optional Required is = absurd (false≢true is)
 not_optional Optional is = absurd (false≢true is)
 not_optional Repeated is = refl
+not_optional (Unknown n) is = refl
 
 module _ (name : Text) (r : Repetition) (t : TypeTree) (c : ColumnTree) (nullable : Bool) (optional : nullable ≡ is_optional r) (is : c ≡ plain_column name nullable t) where
   pub single_by : is_repeated r ≡ false → c ≡ column_by name r t

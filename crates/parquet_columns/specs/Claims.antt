@@ -10,20 +10,21 @@ use Rattle.parquet_columns.specs.Budget.{size_of}
 use Rattle.parquet_columns.specs.Reserved.{is_reserved}
 use Rattle.parquet_columns.specs.Unreadable.{is_unreadable}
 use Rattle.parquet_columns.specs.Geometry.{GeometrySays, geometry_of, crs_in, text_with, given}
+use Rattle.parquet_columns.specs.declared.geometry.EdgesClaim.{EdgesClaim}
 use Rattle.parquet_columns.specs.declared.claim.ElementClaim.{ElementClaim}
 use Rattle.parquet_columns.specs.declared.claim.ElementClaim.TheVariants.{Silent, Given, Beside}
 
--- nothing; that the column has its extension from the element, whether the type names a CRS, and whether its edges are known; or the extension metadata that
--- the type denotes beside the column's own, and whether its edges are known
+-- nothing; that the column has its extension from the element, whether the type names a CRS, and how its edges are said; or the extension metadata that
+-- the type denotes beside the column's own, and how its edges are said
 pub data Claim : Type 0 where
   silent : Claim
-  gives : Bool → Bool → Claim
-  beside : Text → Bool → Claim
+  gives : Bool → EdgesClaim → Claim
+  beside : Text → EdgesClaim → Claim
 
 abbrev pub claim : ElementClaim → Claim
 claim Silent = silent
-claim (Given names_crs knows_edges) = gives names_crs knows_edges
-claim (Beside text knows_edges) = beside (string_bytes text) knows_edges
+claim (Given names_crs edges) = gives names_crs edges
+claim (Beside text edges) = beside (string_bytes text) edges
 
 -- extension metadata without a CRS
 abbrev pub edges_alone : Option Edges → Text
@@ -42,8 +43,8 @@ own_text pairs (Some crs) edges = text_with (crs_in pairs (Some crs)) edges
 -- what a geometry type says beside a column that is read, by whether the column has an extension name that GeoArrow or OGC would have to give
 abbrev pub claim_by : List Pairing → Bool → Option GeometrySays → Claim
 claim_by pairs own None = silent
-claim_by pairs false (Some g) = gives (is_some g.crs) g.knows_edges
-claim_by pairs true (Some g) = beside (own_text pairs g.crs g.edges) g.knows_edges
+claim_by pairs false (Some g) = gives (is_some g.crs) g.said
+claim_by pairs true (Some g) = beside (own_text pairs g.crs g.edges) g.said
 
 abbrev pub claim_of : List Pairing → Option Element → ColumnTree → Claim
 claim_of pairs None c = silent
@@ -58,8 +59,8 @@ claims pairs (e ∷ es) (c ∷ cs) = claim_of pairs (Some e) c ∷ claims pairs 
 -- how many bytes the extension metadata have that are made of an element for its column, and of all together
 abbrev pub claim_size : Claim → ℕ
 claim_size silent = 0
-claim_size (gives names_crs knows_edges) = 0
-claim_size (beside text knows_edges) = length text
+claim_size (gives names_crs edges) = 0
+claim_size (beside text edges) = length text
 
 abbrev pub made_size : List Pairing → Option Element → ColumnTree → ℕ
 made_size pairs e c = size_of (given pairs e c) + claim_size (claim_of pairs e c)

@@ -6,6 +6,8 @@ use Rattle.std.specs.Str.Lossy.{utf8_lossy}
 use Rattle.arrow_columns.specs.Column.{ColumnTree, column_tree}
 use Rattle.parquet_footer.specs.declared.element.PhysicalType.{PhysicalType}
 use Rattle.parquet_footer.specs.declared.element.Repetition.{Repetition}
+use Rattle.parquet_footer.specs.declared.element.PhysicalType.TheVariants.{Unknown as UnknownType}
+use Rattle.parquet_footer.specs.declared.element.Repetition.TheVariants.{Unknown as UnknownRepetition}
 use Rattle.parquet_footer.specs.Element.{Element, element}
 use Rattle.parquet_columns.specs.declared.annotation.Annotation.{Annotation}
 use Rattle.parquet_columns.specs.declared.annotation.Annotation.TheVariants.{Plain, List as ListGroup, Map as MapGroup}
@@ -15,10 +17,10 @@ use Rattle.parquet_columns.specs.declared.columns.Head.{Head}
 use Rattle.parquet_columns.specs.declared.columns.ColumnFault.{ColumnFault}
 use Rattle.parquet_columns.specs.declared.columns.ElementColumns.{ElementColumns}
 use Rattle.parquet_columns.specs.declared.fault.ElementFault.{ElementFault}
-use Rattle.parquet_columns.specs.declared.fault.SchemaRule.TheVariants.{Root, Children, Element as NoElement, Repetition as NoRepetition, Depth}
+use Rattle.parquet_columns.specs.declared.fault.SchemaRule.TheVariants.{Root, Children, Element as NoElement, Physical as NoType, Repetition as NoRepetition, Depth}
 use Rattle.parquet_columns.specs.Fault.{breaks, ◌>>=◌}
 use Rattle.parquet_columns.specs.Meaning.{meaning_of}
-use Rattle.parquet_columns.specs.Leaf.{leaf_type}
+use Rattle.parquet_columns.specs.Leaf.{length_at, digits_at, leaf_type}
 use Rattle.parquet_columns.specs.Annotation.{annotation_of}
 use Rattle.parquet_columns.specs.Nodes.{ShapeTree, typed, NodeTree, group_shape, list_shape, map_shape, column_of}
 use Rattle.parquet_columns.specs.Unreadable.{unreadable_column}
@@ -34,11 +36,13 @@ group_at at None = breaks NoElement at
 group_at at (Some n) = Ok (Group n)
 
 abbrev pub kind_at : ℕ → Option PhysicalType → Option ℕ → Result Kind ElementFault
+kind_at at (Some (UnknownType n)) count = breaks NoType at
 kind_at at (Some physical) count = if has_children count then breaks NoElement at else Ok (Leaf physical)
 kind_at at None count = group_at at count
 
 abbrev pub repetition_at : ℕ → Option Repetition → Result Repetition ElementFault
 repetition_at at None = breaks NoRepetition at
+repetition_at at (Some (UnknownRepetition n)) = breaks NoRepetition at
 repetition_at at (Some repetition) = Ok repetition
 
 abbrev pub children_of : Kind → ℕ
@@ -68,8 +72,9 @@ head_at es at = do
 -- what an element stands for, by the elements below it
 unfoldable pub leaf_shape : ℕ → PhysicalType → Element → Result ShapeTree ElementFault
 leaf_shape at physical e = do
-  t ← leaf_type at physical (meaning_of e) e.storage.type_length e.precision e.scale
-  Ok (typed t)
+  length ← length_at at physical e.storage.type_length
+  digits ← digits_at at physical e
+  Ok (typed (leaf_type physical (meaning_of e) length digits))
 
 abbrev pub group_by : Annotation → ℕ → Text → List NodeTree → Result ShapeTree ElementFault
 group_by Plain at name ns = Ok (group_shape ns)

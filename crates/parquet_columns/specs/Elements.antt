@@ -1,6 +1,6 @@
 -- What is found of the elements of a schema (docs/FORMAT.md, 4.5).
-use Rattle.std.specs.Prelude.{ℕ, ◌==◌, ◌&&◌, Bool, false, List, [], ◌∷◌, ◌++◌, codes, Option, Some, None, is_some, ◌||◌, if◌then◌else◌}
-use Rattle.std.specs.Fmt.{decimal}
+use Rattle.std.specs.Prelude.{ℕ, ℤ, ◌==◌, ◌&&◌, Bool, true, false, List, [], ◌∷◌, ◌++◌, codes, Option, Some, None, is_some, ◌||◌, if◌then◌else◌}
+use Rattle.std.specs.Fmt.{signed_decimal}
 use Rattle.std.specs.Str.{bytes_eq}
 use Rattle.arrow_values.specs.Tree.{Text}
 use Rattle.parquet_footer.specs.declared.logical.Algorithm.{Algorithm}
@@ -15,6 +15,9 @@ use Rattle.parquet_columns.specs.Values.{compact_of}
 use Rattle.parquet_columns.specs.Storage.{is_group, storage_of, is_stored, storage_text}
 use Rattle.parquet_columns.specs.Resolved.{is_geometry_type}
 use Rattle.parquet_columns.specs.TypeNames.{type_name, physical_name}
+use Rattle.parquet_columns.specs.declared.annotation.Annotation.{Annotation}
+use Rattle.parquet_columns.specs.declared.annotation.Annotation.TheVariants.{Plain, List as ListGroup, Map as MapGroup}
+use Rattle.parquet_columns.specs.Annotation.{annotation_of}
 use Rattle.parquet_columns.specs.declared.code.FileCode.{FileCode}
 use Rattle.parquet_columns.specs.declared.code.FileCode.TheVariants.{EmptyGroup, LogicalTypeInvalid, UnknownAlgorithm, CrsKeyMissing, NestedGeometry}
 use Rattle.parquet_columns.specs.declared.code.FilePart.TheVariants.{Elements}
@@ -35,13 +38,18 @@ of_element code ls e found wanted = record {
   wanted = wanted;
 }
 
--- a group of no children
+-- a group of no children that is neither a LIST nor a MAP, of which `ElementInvalid` is found
 abbrev pub is_zero : Option ℕ → Bool
 is_zero None = false
 is_zero (Some n) = n == 0
 
+abbrev pub is_plain_group : Annotation → Bool
+is_plain_group Plain = true
+is_plain_group ListGroup = false
+is_plain_group MapGroup = false
+
 abbrev pub is_empty_group : Element → Bool
-is_empty_group e = is_group e.storage.physical_type && is_zero e.num_children
+is_empty_group e = is_group e.storage.physical_type && (is_zero e.num_children && is_plain_group (annotation_of e))
 
 abbrev pub empty_group : List Level → Element → List Finding
 empty_group ls e = if is_empty_group e then of_element EmptyGroup ls e (codes "0 children") None ∷ [] else []
@@ -54,17 +62,17 @@ abbrev pub invalid_type : List Level → Element → Finding
 invalid_type ls e = of_element LogicalTypeInvalid ls e (on_text e) (Some (storage_text (storage_of e)))
 
 -- a GEOGRAPHY whose algorithm is not known
-abbrev pub algorithm_number : Option Algorithm → Option ℕ
+abbrev pub algorithm_number : Option Algorithm → Option ℤ
 algorithm_number (Some (Unknown number)) = Some number
 algorithm_number _ = None
 
-abbrev pub logical_number : Option Logical → Option ℕ
+abbrev pub logical_number : Option Logical → Option ℤ
 logical_number (Some (geography crs algorithm)) = algorithm_number algorithm
 logical_number _ = None
 
-abbrev pub unknown_by : List Level → Element → Option ℕ → List Finding
+abbrev pub unknown_by : List Level → Element → Option ℤ → List Finding
 unknown_by ls e None = []
-unknown_by ls e (Some number) = of_element UnknownAlgorithm ls e (decimal number) None ∷ []
+unknown_by ls e (Some number) = of_element UnknownAlgorithm ls e (signed_decimal number) None ∷ []
 
 abbrev pub unknown_algorithm : List Level → Element → List Finding
 unknown_algorithm ls e = unknown_by ls e (logical_number e.logical_type)

@@ -6,7 +6,7 @@ use Rattle.std.specs.Str.Lossy.{utf8_lossy}
 use Rattle.arrow_values.specs.Tree.{Text}
 use Rattle.parquet_footer.specs.Spelled.{Spelled}
 use Rattle.parquet_footer.specs.Footer.{Pairing}
-use Rattle.parquet_columns.specs.Keys.{value_of}
+use Rattle.parquet_columns.specs.Keys.{value_or_empty}
 use Rattle.parquet_columns.specs.Findings.{Finding, of_file, geo_key}
 use Rattle.parquet_columns.specs.declared.code.FileCode.TheVariants.{NoGeoMetadata}
 use Rattle.parquet_columns.specs.declared.code.FilePart.TheVariants.{Footer}
@@ -19,7 +19,7 @@ is_geo_word name = bytes_eq (map to_ascii_lowercase name) (map to_ascii_lowercas
 abbrev pub is_other_geo : Pairing → Bool
 is_other_geo p = is_geo_word p.key.bytes && is_some p.value
 
--- what is found of the first of them, where `geo` itself has no value
+-- what is found of the first of them, where no key is `geo` itself
 abbrev pub other_geo : Pairing → Finding
 other_geo p = of_file NoGeoMetadata (record { part = Footer; byte = Some p.key.byte }) (Some (utf8_lossy p.key.bytes)) None
 
@@ -28,4 +28,4 @@ other_geo_by None (Some p) = other_geo p ∷ []
 other_geo_by value p = []
 
 abbrev pub other_geo_findings : List Pairing → List Finding
-other_geo_findings ps = other_geo_by (value_of geo_key ps) (find is_other_geo ps)
+other_geo_findings ps = other_geo_by (value_or_empty geo_key ps) (find is_other_geo ps)

@@ -29,6 +29,8 @@ use Rattle.parquet_footer.specs.declared.logical.Algorithm.TheVariants.{Spherica
 use Rattle.parquet_footer.specs.Element.{Element}
 use Rattle.parquet_footer.specs.Footer.{Pairing}
 use Rattle.parquet_footer.specs.Logical.{Logical, geometry, geography}
+use Rattle.parquet_columns.specs.declared.geometry.EdgesClaim.{EdgesClaim}
+use Rattle.parquet_columns.specs.declared.geometry.EdgesClaim.TheVariants as said
 use Rattle.parquet_columns.specs.Keys.{text_at}
 use Rattle.parquet_columns.specs.Reserved.{is_reserved}
 use Rattle.parquet_columns.specs.Unreadable.{is_unreadable}
@@ -98,29 +100,29 @@ edges_of (Some Andoyer) = edges.Andoyer
 edges_of (Some Karney) = edges.Karney
 edges_of (Some (Unknown number)) = edges.Spherical
 
--- whether the algorithm of a GEOGRAPHY is known, if it has one; of one that is not `UnknownAlgorithm` is found, and the edges are not said
-abbrev pub is_known : Option Algorithm → Bool
-is_known None = true
-is_known (Some Spherical) = true
-is_known (Some Vincenty) = true
-is_known (Some Thomas) = true
-is_known (Some Andoyer) = true
-is_known (Some Karney) = true
-is_known (Some (Unknown number)) = false
+-- how the edges of a GEOGRAPHY are said: by its algorithm, where it has one that is known; of one that is not `UnknownAlgorithm` is found
+abbrev pub edges_said : Option Algorithm → EdgesClaim
+edges_said None = said.Default
+edges_said (Some Spherical) = said.Said
+edges_said (Some Vincenty) = said.Said
+edges_said (Some Thomas) = said.Said
+edges_said (Some Andoyer) = said.Said
+edges_said (Some Karney) = said.Said
+edges_said (Some (Unknown number)) = said.Broken
 
 -- the text of the metadata with that CRS and those edges
 abbrev pub text_with : TypedCrs → Option Edges → Text
 text_with crs e = print (metadata_tokens crs.tokens crs.crs_type e)
 
--- what a geometry type says: the CRS that it names, and of a GEOGRAPHY the edges; and whether its edges are known
+-- what a geometry type says: the CRS that it names, and of a GEOGRAPHY the edges; and how its edges are said
 pub record GeometrySays : Type 0 where
   pub crs : Option Text
   pub edges : Option Edges
-  pub knows_edges : Bool
+  pub said : EdgesClaim
 
 abbrev pub geometry_type : Option Logical → Option GeometrySays
-geometry_type (Some (geometry crs)) = Some (record { crs = crs; edges = None; knows_edges = true })
-geometry_type (Some (geography crs algorithm)) = Some (record { crs = crs; edges = Some (edges_of algorithm); knows_edges = is_known algorithm })
+geometry_type (Some (geometry crs)) = Some (record { crs = crs; edges = None; said = said.Said })
+geometry_type (Some (geography crs algorithm)) = Some (record { crs = crs; edges = Some (edges_of algorithm); said = edges_said algorithm })
 geometry_type _ = None
 
 -- whether an element is a leaf of BYTE_ARRAY, and not repeated

@@ -1,5 +1,5 @@
 -- The values of keys in the metadata of a file.
-use Rattle.std.specs.Prelude.{List, [], ◌∷◌, Option, Some, None, codes, if◌then◌else◌}
+use Rattle.std.specs.Prelude.{Bool, List, [], ◌∷◌, Option, Some, None, option_map, find, codes, if◌then◌else◌}
 use Rattle.std.specs.Str.{is_utf8, bytes_eq}
 use Rattle.std.proofs.Common.{◌≡◌, refl}
 use Rattle.arrow_values.specs.Tree.{Text}
@@ -27,6 +27,17 @@ value_under key p = if bytes_eq p.key.bytes key then p.value else None
 abbrev pub value_of : Text → List Pairing → Option Spelled
 value_of key [] = None
 value_of key (p ∷ ps) = later (value_of key ps) (value_under key p)
+
+-- a pair has the key, with a value or without
+abbrev pub has_key : Text → Pairing → Bool
+has_key key p = bytes_eq p.key.bytes key
+
+-- what stands at a key: its value, or where pairs have the key and none has a value the empty text, where the key of the first begins
+abbrev pub no_value : Pairing → Spelled
+no_value p = record { bytes = []; byte = p.key.byte }
+
+abbrev pub value_or_empty : Text → List Pairing → Option Spelled
+value_or_empty key ps = later (value_of key ps) (option_map no_value (find (has_key key) ps))
 
 -- a key and a value that are both UTF-8
 abbrev pub text_in : Spelled → Option Text

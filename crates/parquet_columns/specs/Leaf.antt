@@ -1,18 +1,21 @@
 -- The type of a leaf in Arrow: by how its values are stored and by what they mean. What a stored value cannot mean is not looked at.
-use Rattle.std.specs.Prelude.{ℕ, ◌^◌, pos, Bool, true, false, ◌++◌, codes, Option, Some, None, unwrap_or, Result, Ok, nat_lt, ◌==◌, if◌then◌else◌}
+use Rattle.std.specs.Prelude.{ℕ, ℤ, pos, negsuc, Bool, true, false, ◌&&◌, ◌++◌, codes, Option, Some, None, Result, Ok, nat_lt, nat_le, ◌==◌, if◌then◌else◌}
 use Rattle.std.specs.Fmt.{decimal}
 use Rattle.arrow_values.specs.Tree.{Text, null, boolean, int8, int16, int32, int64, uint8, uint16, uint32, uint64, float16, float32, float64, date32, binary, utf8, Plain, plain}
 use Rattle.arrow_columns.specs.Column.{TypeTree, known, other}
 use Rattle.arrow_columns.specs.Notation.{sized_text}
 use Rattle.parquet_footer.specs.declared.element.PhysicalType.{PhysicalType}
-use Rattle.parquet_footer.specs.declared.element.PhysicalType.TheVariants.{Boolean, Int32, Int64, Int96, Float, Double, ByteArray, FixedLenByteArray}
+use Rattle.parquet_footer.specs.declared.element.PhysicalType.TheVariants.{Boolean, Int32, Int64, Int96, Float, Double, ByteArray, FixedLenByteArray, Unknown}
 use Rattle.parquet_footer.specs.declared.logical.TimeUnit.{TimeUnit}
 use Rattle.parquet_footer.specs.declared.logical.TimeUnit.TheVariants.{Millisecond, Microsecond, Nanosecond}
+use Rattle.parquet_footer.specs.Element.{Element}
 use Rattle.parquet_columns.specs.declared.fault.ElementFault.{ElementFault}
-use Rattle.parquet_columns.specs.declared.fault.SchemaRule.TheVariants.{Length}
+use Rattle.parquet_columns.specs.declared.fault.SchemaRule.TheVariants.{Length, Digits}
 use Rattle.parquet_columns.specs.declared.meaning.Meaning.{Meaning}
 use Rattle.parquet_columns.specs.declared.meaning.Meaning.TheVariants.{Null, Text as Texts, Decimal, Date, Time, Timestamp, Integer, Half}
-use Rattle.parquet_columns.specs.Fault.{breaks}
+use Rattle.parquet_columns.specs.Fault.{breaks, ◌>>=◌}
+use Rattle.parquet_columns.specs.Meaning.{meaning_of, precision_of, scale_of}
+use Rattle.parquet_columns.specs.Storage.{holds_digits}
 
 -- integers of 32 bits
 abbrev pub int32_of : Meaning → Plain
@@ -31,16 +34,16 @@ abbrev pub bytes_of : Meaning → Plain
 bytes_of Texts = utf8
 bytes_of _ = binary
 
-abbrev pub half_of : Option ℕ → Option Plain
-half_of (Some length) = if length == 2 then Some float16 else None
-half_of None = None
+abbrev pub half_of : ℤ → Option Plain
+half_of (pos length) = if length == 2 then Some float16 else None
+half_of (negsuc length) = None
 
-abbrev pub fixed_of : Meaning → Option ℕ → Option Plain
+abbrev pub fixed_of : Meaning → ℤ → Option Plain
 fixed_of Half length = half_of length
 fixed_of _ length = None
 
--- the types that are data types
-abbrev pub plain_of : PhysicalType → Meaning → Option ℕ → Option Plain
+-- the types that are data types; a leaf has no physical type that is not known
+abbrev pub plain_of : PhysicalType → Meaning → ℤ → Option Plain
 plain_of Boolean m length = Some boolean
 plain_of Int32 m length = Some (int32_of m)
 plain_of Int64 m length = Some (int64_of m)
@@ -49,6 +52,7 @@ plain_of Float m length = Some float32
 plain_of Double m length = Some float64
 plain_of ByteArray m length = Some (bytes_of m)
 plain_of FixedLenByteArray m length = fixed_of m length
+plain_of (Unknown n) m length = None
 
 -- times and points in time
 abbrev pub time32_text : TimeUnit → Option Text
@@ -81,7 +85,23 @@ clock_text Int64 m = clock64_text m
 clock_text Int96 m = Some (codes "timestamp[ns]")
 clock_text _ m = None
 
--- decimal numbers, of 1 to 76 digits
+-- values of a fixed length have a length, which is not negative; for others 0 stands
+abbrev pub length_in : ℕ → Option ℤ → Result ℤ ElementFault
+length_in at (Some (pos length)) = Ok (pos length)
+length_in at _ = breaks Length at
+
+abbrev pub length_at : ℕ → PhysicalType → Option ℤ → Result ℤ ElementFault
+length_at at FixedLenByteArray length = length_in at length
+length_at at _ length = Ok (pos 0)
+
+-- decimal numbers have 1 to 76 digits, of which none or more stand behind the point
+abbrev pub are_digits : ℕ → ℕ → Bool
+are_digits precision scale = nat_lt 0 precision && nat_lt precision 77 && nat_le scale precision
+
+abbrev pub digits_in : ℕ → ℤ → ℤ → Result (ℕ × ℕ) ElementFault
+digits_in at (pos precision) (pos scale) = if are_digits precision scale then Ok (precision, scale) else breaks Digits at
+digits_in at _ _ = breaks Digits at
+
 abbrev pub may_be_decimal : PhysicalType → Bool
 may_be_decimal Int32 = true
 may_be_decimal Int64 = true
@@ -89,13 +109,21 @@ may_be_decimal ByteArray = true
 may_be_decimal FixedLenByteArray = true
 may_be_decimal _ = false
 
-abbrev pub digits_in : Option ℕ → Option ℕ
-digits_in (Some precision) = if nat_lt 0 precision then (if nat_lt precision 77 then Some precision else None) else None
-digits_in None = None
+abbrev pub is_decimal : Meaning → Bool
+is_decimal Decimal = true
+is_decimal _ = false
 
-abbrev pub digits_of : PhysicalType → Meaning → Option ℕ → Option ℕ
-digits_of physical Decimal precision = if may_be_decimal physical then digits_in precision else None
-digits_of physical _ precision = None
+-- the digits of a leaf of decimal numbers, where its values hold them
+abbrev pub held : PhysicalType → ℕ × ℕ → Option (ℕ × ℕ)
+held physical digits = if holds_digits digits.0 (Some physical) then Some digits else None
+
+abbrev pub decimal_at : ℕ → PhysicalType → Element → Result (Option (ℕ × ℕ)) ElementFault
+decimal_at at physical e = do
+  digits ← digits_in at (precision_of e) (scale_of e)
+  Ok (held physical digits)
+
+abbrev pub digits_at : ℕ → PhysicalType → Element → Result (Option (ℕ × ℕ)) ElementFault
+digits_at at physical e = if is_decimal (meaning_of e) && may_be_decimal physical then decimal_at at physical e else Ok None
 
 abbrev pub decimal_text : ℕ → ℕ → Text
 decimal_text precision scale =
@@ -103,23 +131,22 @@ decimal_text precision scale =
     codes "decimal256(" ++ (decimal precision ++ (codes ", " ++ (decimal scale ++ codes ")")))
 
 -- values of a fixed length
-abbrev pub fixed_type : ℕ → Option ℕ → Result TypeTree ElementFault
-fixed_type at None = breaks Length at
-fixed_type at (Some length) = if nat_lt length (2 ^ 31) then Ok (other (sized_text (codes "fixed_size_binary") (pos length))) else breaks Length at
+abbrev pub fixed_type : ℤ → TypeTree
+fixed_type length = other (sized_text (codes "fixed_size_binary") length)
 
 abbrev pub is_null : Meaning → Bool
 is_null Null = true
 is_null _ = false
 
 -- the first of these that there is: a time, a decimal, a data type; or values of a fixed length
-abbrev pub first_type : Option Text → Option ℕ → ℕ → Option Plain → Result TypeTree ElementFault → Result TypeTree ElementFault
-first_type (Some clock) digits scale p fixed = Ok (other clock)
-first_type None (Some precision) scale p fixed = Ok (other (decimal_text precision scale))
-first_type None None scale (Some p) fixed = Ok (known (plain p))
-first_type None None scale None fixed = fixed
+abbrev pub first_type : Option Text → Option (ℕ × ℕ) → Option Plain → ℤ → TypeTree
+first_type (Some clock) digits p length = other clock
+first_type None (Some digits) p length = other (decimal_text digits.0 digits.1)
+first_type None None (Some p) length = known (plain p)
+first_type None None None length = fixed_type length
 
--- the type of the leaf with that index, by its storage, its meaning, its length, its precision and its scale
-unfoldable pub leaf_type : ℕ → PhysicalType → Meaning → Option ℕ → Option ℕ → Option ℕ → Result TypeTree ElementFault
-leaf_type at physical m length precision scale =
-    if is_null m then Ok (known (plain null)) else
-    first_type (clock_text physical m) (digits_of physical m precision) (unwrap_or scale 0) (plain_of physical m length) (fixed_type at length)
+-- the type of a leaf, by its storage, its meaning, its length and its digits
+unfoldable pub leaf_type : PhysicalType → Meaning → ℤ → Option (ℕ × ℕ) → TypeTree
+leaf_type physical m length digits =
+    if is_null m then known (plain null) else
+    first_type (clock_text physical m) digits (plain_of physical m length) length

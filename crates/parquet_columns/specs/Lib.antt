@@ -21,6 +21,7 @@ pub mod Resolved
 pub mod GeoNames
 pub mod Resolutions
 pub mod Claims
+pub mod Layouts
 pub mod Marks
 pub mod Codes
 pub mod Findings

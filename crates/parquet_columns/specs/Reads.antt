@@ -18,10 +18,11 @@ use Rattle.parquet_columns.specs.Columns.{FaultTree, ColumnTrees, column_trees, 
 use Rattle.parquet_columns.specs.Invalid.{invalid_elements}
 use Rattle.parquet_columns.specs.declared.columns.ElementColumns.{ElementColumns}
 use Rattle.parquet_columns.specs.declared.fault.ElementFault as elements
-use Rattle.parquet_columns.specs.Keys.{schema_key, value_of}
+use Rattle.parquet_columns.specs.Keys.{schema_key, value_of, value_or_empty}
 use Rattle.parquet_columns.specs.Budget.{budget}
 use Rattle.parquet_columns.specs.Geometry.{root_children, marked_columns}
-use Rattle.parquet_columns.specs.Claims.{Claim, claim, claims, made_bytes}
+use Rattle.parquet_columns.specs.Claims.{claims, made_bytes}
+use Rattle.parquet_columns.specs.Layouts.{RootElement, root_element, root_layouts, joined}
 use Rattle.parquet_columns.specs.Findings.{Finding, finding, of_file, first_other, other_names, unreadable, geo_key, repeated_keys}
 use Rattle.parquet_columns.specs.GeoKeys.{other_geo_findings}
 use Rattle.parquet_columns.specs.Resolved.{Resolution, resolved_from, resolved_columns, resolved_findings, resolved_refuted}
@@ -44,15 +45,15 @@ IsBuilt there (Err (Elements fault)) = there ≡ Err fault
 IsBuilt there (Err OutOfMemory) = ⊤
 IsBuilt there (Err _) = ⊥
 
--- columns, what the elements say beside them, of stored columns whether the elements refute their names, and what is found
+-- columns, what is known of their elements, of stored columns whether the elements refute their names, and what is found
 pub record Read : Type 0 where
   pub columns : List ColumnTree
-  pub elements : List Claim
+  pub elements : List RootElement
   pub refuted : List Bool
   pub findings : List Finding
 
 abbrev pub read_of : FooterColumns → Read
-read_of r = record { columns = map column_tree r.columns.items; elements = map claim r.elements.items; refuted = r.refuted.items; findings = map finding r.findings.items }
+read_of r = record { columns = map column_tree r.columns.items; elements = map root_element r.elements.items; refuted = r.refuted.items; findings = map finding r.findings.items }
 
 -- columns before the geometry types of their elements are looked at, and what is found
 pub record Choice : Type 0 where
@@ -81,14 +82,14 @@ abbrev pub by_names : Option (Option Text × Option Text) → Option Json → Li
 by_names None geo es stored found cs = with_found (resolved_from geo 0 es cs stored) found
 by_names (Some names) geo es stored found cs = unresolved cs (other_names names ∷ [])
 
--- the key geo in the metadata of a stored schema, which has no value in the footer
+-- the key geo in the metadata of a stored schema, which the footer does not have
 abbrev pub geo_by : Option Text → Option Spelled → List Finding
 geo_by None value = []
 geo_by (Some text) None = of_file GeoNotInFooter (record { part = StoredMessage; byte = None }) None None ∷ []
 geo_by (Some text) (Some value) = []
 
 abbrev pub geo_beside : Metadata → List Pairing → List Finding
-geo_beside m pairs = geo_by (text_at geo_key m) (value_of geo_key pairs)
+geo_beside m pairs = geo_by (text_at geo_key m) (value_or_empty geo_key pairs)
 
 abbrev pub and_found : Choice → List Finding → Choice
 and_found read fs = record { columns = read.columns; findings = read.findings ++ fs; refuted = read.refuted }
@@ -113,7 +114,7 @@ found_with c faults = invalid_elements c.schema faults ++ findings_below c.key_v
 abbrev pub read_with : Contents → List FaultTree → Choice → Read
 read_with c faults read = record {
   columns = marked_columns c.key_value_metadata (root_children c.schema) read.columns;
-  elements = claims c.key_value_metadata (root_children c.schema) read.columns;
+  elements = joined (claims c.key_value_metadata (root_children c.schema) read.columns) (root_layouts c.schema);
   refuted = read.refuted;
   findings = read.findings ++ found_with c faults;
 }
@@ -158,10 +159,10 @@ abbrev pub IsFileRead : Result (List ℕ) SchemaError → Result FooterColumns S
 IsFileRead (Err error) r = r ≡ Err error
 IsFileRead (Ok footer) r = IsParsed footer (footer_at footer) r
 
--- the value of a key in that footer, which has contents
+-- what stands at a key in that footer, which has contents
 abbrev pub IsValueRead : Text → Result (List ℕ) SchemaError → Option Spelled → Type 0
 IsValueRead key found value =
-    (footer : List ℕ) × (c : Contents) × (found ≡ Ok footer) × (footer_at footer ≡ Ok c) × (value ≡ value_of key c.key_value_metadata)
+    (footer : List ℕ) × (c : Contents) × (found ≡ Ok footer) × (footer_at footer ≡ Ok c) × (value ≡ value_or_empty key c.key_value_metadata)
 
 -- what is found of the texts in that footer
 abbrev pub AreTextsRead : Result (List ℕ) SchemaError → List texts.Finding → Type 0

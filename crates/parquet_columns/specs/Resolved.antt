@@ -1,18 +1,20 @@
 -- Columns of a stored schema, by the elements at their places (docs/FORMAT.md, 4.5).
-use Rattle.std.specs.Prelude.{ℕ, suc, ◌+◌, not, Bool, true, false, ◌||◌, nat_eq, List, [], ◌∷◌, map, flat_map, codes, Option, Some, None, if◌then◌else◌}
+use Rattle.std.specs.Prelude.{ℕ, suc, ◌+◌, not, is_some, Bool, true, false, ◌||◌, ◌&&◌, nat_eq, List, [], ◌∷◌, map, flat_map, codes, Option, Some, None, if◌then◌else◌}
 use Rattle.std.specs.List.{slice_get, starts_with}
 use Rattle.std.specs.Str.{bytes_eq}
-use Rattle.arrow_values.specs.Tree.{Text}
-use Rattle.arrow_columns.specs.Column.{ColumnTree, name_on}
+use Rattle.arrow_values.specs.Tree.{Text, plain, binary, large_binary, binary_view}
+use Rattle.arrow_columns.specs.Column.{TypeTree, known, ColumnTree, name_on}
 use Rattle.arrow_columns.specs.Notation.{type_text}
-use Rattle.parquet_footer.specs.Logical.{Logical, geometry, geography, time, timestamp, integer, other}
+use Rattle.parquet_footer.specs.Logical.{Logical, geometry, geography, decimal, time, timestamp, integer, other}
 use Rattle.parquet_footer.specs.Element.{Element}
 use Rattle.parquet_columns.specs.declared.code.FileCode.TheVariants.{ArrowSchemaContradicts}
 use Rattle.parquet_columns.specs.declared.code.FilePart.TheVariants.{StoredMessage}
 use Rattle.parquet_columns.specs.Findings.{Finding}
 use Rattle.json.specs.Json.{Json}
+use Rattle.parquet_columns.specs.Geometry.{geometry_of}
 use Rattle.parquet_columns.specs.GeoNames.{is_named}
 use Rattle.parquet_columns.specs.Fits.{type_fits}
+use Rattle.parquet_columns.specs.Reserved.{is_reserved}
 use Rattle.parquet_columns.specs.Unreadable.{is_unreadable}
 
 -- a column may hold geometries, or their boxes: its element is of a geometry type, its field has an extension name of GeoArrow or an old one, or the
@@ -23,6 +25,7 @@ is_geometry_type (Some (geometry crs)) = true
 is_geometry_type (Some (geography crs algorithm)) = true
 is_geometry_type (Some (time utc unit)) = false
 is_geometry_type (Some (timestamp utc unit)) = false
+is_geometry_type (Some (decimal scale precision)) = false
 is_geometry_type (Some (integer bits signed)) = false
 is_geometry_type (Some (other id)) = false
 
@@ -60,16 +63,36 @@ pub record Resolution : Type 0 where
 abbrev pub as_it_is : ColumnTree → Resolution
 as_it_is c = record { column = c; found = None; refuted = false }
 
-abbrev pub resolve_by : Bool → Bool → ColumnTree → ColumnTree → Resolution
-resolve_by true held c s = as_it_is s
-resolve_by false true c s = record { column = bare c; found = Some (contradiction c s); refuted = is_geo_name (name_on s) }
-resolve_by false false c s = as_it_is s
+-- a column that its element alone makes one of geometries has the type of the element, where the stored one, which fits it, is not of bytes
+abbrev pub is_binary : TypeTree → Bool
+is_binary (known (plain binary)) = true
+is_binary (known (plain large_binary)) = true
+is_binary (known (plain binary_view)) = true
+is_binary t = false
+
+abbrev pub says_geometry : Option Element → Bool
+says_geometry None = false
+says_geometry (Some e) = is_some (geometry_of e)
+
+abbrev pub takes_type : Option Element → ColumnTree → Bool
+takes_type e s = says_geometry e && not (is_reserved (name_on s) || is_binary s.data_type)
+
+abbrev pub fitted : Option Element → ColumnTree → ColumnTree → ColumnTree
+fitted e c s = if takes_type e s then record s { data_type = c.data_type } else s
+
+abbrev pub refused : ColumnTree → ColumnTree → Resolution
+refused c s = record { column = bare c; found = Some (contradiction c s); refuted = is_geo_name (name_on s) }
+
+abbrev pub resolve_by : Bool → Bool → Option Element → ColumnTree → ColumnTree → Resolution
+resolve_by true held e c s = as_it_is (fitted e c s)
+resolve_by false true e c s = refused c s
+resolve_by false false e c s = as_it_is s
 
 -- one whose element's column is not read stays so
 abbrev pub resolve : Option Json → Option Element → Option ColumnTree → ColumnTree → Resolution
 resolve geo e None s = as_it_is s
 resolve geo e (Some c) s =
-    if is_unreadable c.data_type then as_it_is (bare c) else resolve_by (type_fits c.data_type s.data_type) (may_hold geo e s) c s
+    if is_unreadable c.data_type then as_it_is (bare c) else resolve_by (type_fits c.data_type s.data_type) (may_hold geo e s) e c s
 
 -- each stored column by the element and the element's column at its place
 abbrev pub resolved_from : Option Json → ℕ → List Element → List ColumnTree → List ColumnTree → List Resolution

@@ -4,4 +4,4 @@ use Rattle.parquet_columns.specs.Geometry.{GeometrySays}
 use Rattle.parquet_columns.specs.declared.geometry.GeometrySays as declared
 
 abbrev pub says : declared.GeometrySays → GeometrySays
-says g = record { crs = text_of g.crs; edges = g.edges; knows_edges = g.knows_edges }
+says g = record { crs = text_of g.crs; edges = g.edges; said = g.said }

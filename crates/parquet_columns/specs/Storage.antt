@@ -1,12 +1,13 @@
 -- How the values of a logical or converted type are stored (docs/FORMAT.md, 4.5).
-use Rattle.std.specs.Prelude.{ℕ, Bool, true, false, ◌&&◌, ◌==◌, nat_lt, codes, Option, Some, None, unwrap_or, if◌then◌else◌}
+use Rattle.std.specs.Prelude.{ℕ, ℤ, pos, negsuc, Bool, true, false, ◌&&◌, ◌||◌, ◌==◌, nat_lt, codes, Option, Some, None, if◌then◌else◌}
 use Rattle.arrow_values.specs.Tree.{Text}
 use Rattle.parquet_footer.specs.declared.element.PhysicalType.{PhysicalType}
 use Rattle.parquet_footer.specs.declared.element.PhysicalType.TheVariants as types
 use Rattle.parquet_footer.specs.declared.logical.TimeUnit.{TimeUnit}
 use Rattle.parquet_footer.specs.declared.logical.TimeUnit.TheVariants.{Millisecond, Microsecond, Nanosecond}
-use Rattle.parquet_footer.specs.Logical.{Logical, geometry, geography, time, timestamp, integer, other}
+use Rattle.parquet_footer.specs.Logical.{Logical, geometry, geography, decimal, time, timestamp, integer, other}
 use Rattle.parquet_footer.specs.Element.{Element}
+use Rattle.parquet_columns.specs.Meaning.{precision_of}
 use Rattle.parquet_columns.specs.declared.storage.Storage.{Storage}
 use Rattle.parquet_columns.specs.declared.storage.Storage.TheVariants.{Any, Bytes, Int32, Int64, Decimal, Fixed, Group}
 
@@ -15,14 +16,13 @@ time_storage Millisecond = Int32
 time_storage Microsecond = Int64
 time_storage Nanosecond = Int64
 
--- logical types by their ids: 1 STRING, 2 MAP, 3 LIST, 4 ENUM, 5 DECIMAL, 6 DATE, 12 JSON, 13 BSON, 14 UUID, 15 FLOAT16, 16 VARIANT
+-- logical types by their ids: 1 STRING, 2 MAP, 3 LIST, 4 ENUM, 6 DATE, 12 JSON, 13 BSON, 14 UUID, 15 FLOAT16, 16 VARIANT
 abbrev pub other_storage : ℕ → Storage
 other_storage id =
     if id == 1 then Bytes else
     if id == 2 then Group else
     if id == 3 then Group else
     if id == 4 then Bytes else
-    if id == 5 then Decimal else
     if id == 6 then Int32 else
     if id == 12 then Bytes else
     if id == 13 then Bytes else
@@ -33,6 +33,7 @@ other_storage id =
 abbrev pub logical_storage : Logical → Storage
 logical_storage (geometry crs) = Bytes
 logical_storage (geography crs algorithm) = Bytes
+logical_storage (decimal scale precision) = Decimal
 logical_storage (time utc unit) = time_storage unit
 logical_storage (timestamp utc unit) = Int64
 logical_storage (integer bits signed) = if bits == 64 then Int64 else Int32
@@ -40,8 +41,8 @@ logical_storage (other id) = other_storage id
 
 -- converted types: 0 UTF8, 1 MAP, 2 MAP_KEY_VALUE, 3 LIST, 4 ENUM, 5 DECIMAL, 6 DATE, 7 TIME_MILLIS, 8 TIME_MICROS, 9 TIMESTAMP_MILLIS,
 -- 10 TIMESTAMP_MICROS, 11 to 14 UINT_8 to UINT_64, 15 to 18 INT_8 to INT_64, 19 JSON, 20 BSON, 21 INTERVAL
-abbrev pub converted_storage : ℕ → Storage
-converted_storage n =
+abbrev pub storage_by_number : ℕ → Storage
+storage_by_number n =
     if n == 0 then Bytes else
     if n == 1 then Group else
     if n == 2 then Group else
@@ -65,8 +66,12 @@ converted_storage n =
     if n == 20 then Bytes else
     if n == 21 then Fixed 12 else Any
 
+abbrev pub converted_storage : ℤ → Storage
+converted_storage (pos n) = storage_by_number n
+converted_storage (negsuc n) = Any
+
 -- the converted type counts where there is no logical type
-abbrev pub storage_by : Option Logical → Option ℕ → Storage
+abbrev pub storage_by : Option Logical → Option ℤ → Storage
 storage_by (Some l) converted = logical_storage l
 storage_by None (Some n) = converted_storage n
 storage_by None None = Any
@@ -84,7 +89,17 @@ holds_digits digits (Some types.Boolean) = false
 holds_digits digits (Some types.Int96) = false
 holds_digits digits (Some types.Float) = false
 holds_digits digits (Some types.Double) = false
+holds_digits digits (Some (types.Unknown n)) = false
 holds_digits digits None = false
+
+-- digits and lengths that are out of range are faults of their own: they are not looked at here
+abbrev pub digits_in : ℤ → ℕ
+digits_in (pos n) = if nat_lt n 77 then n else 0
+digits_in (negsuc n) = 0
+
+abbrev pub has_length : ℕ → Option ℤ → Bool
+has_length n (Some (pos length)) = length == n
+has_length n _ = true
 
 abbrev pub is_bytes : Option PhysicalType → Bool
 is_bytes (Some types.ByteArray) = true
@@ -106,15 +121,23 @@ abbrev pub is_group : Option PhysicalType → Bool
 is_group (Some t) = false
 is_group None = true
 
+abbrev pub is_unknown : Option PhysicalType → Bool
+is_unknown (Some (types.Unknown n)) = true
+is_unknown _ = false
+
 -- whether an element is stored so
+abbrev pub stands_on : Storage → Element → Bool
+stands_on Any e = true
+stands_on Bytes e = is_bytes e.storage.physical_type
+stands_on Int32 e = is_int32 e.storage.physical_type
+stands_on Int64 e = is_int64 e.storage.physical_type
+stands_on Decimal e = holds_digits (digits_in (precision_of e)) e.storage.physical_type
+stands_on (Fixed n) e = is_fixed e.storage.physical_type && has_length n e.storage.type_length
+stands_on Group e = is_group e.storage.physical_type
+
+-- of a physical type that is not known nothing is said
 abbrev pub is_stored : Storage → Element → Bool
-is_stored Any e = true
-is_stored Bytes e = is_bytes e.storage.physical_type
-is_stored Int32 e = is_int32 e.storage.physical_type
-is_stored Int64 e = is_int64 e.storage.physical_type
-is_stored Decimal e = holds_digits (unwrap_or e.precision 0) e.storage.physical_type
-is_stored (Fixed n) e = is_fixed e.storage.physical_type && unwrap_or e.storage.type_length 0 == n
-is_stored Group e = is_group e.storage.physical_type
+is_stored s e = is_unknown e.storage.physical_type || stands_on s e
 
 -- the words of a storage
 abbrev pub fixed_text : ℕ → Text

@@ -1,9 +1,9 @@
 -- The names of logical, converted and physical types (Parquet, "Logical Types").
-use Rattle.std.specs.Prelude.{ℕ, ◌==◌, codes, Option, Some, None, if◌then◌else◌}
+use Rattle.std.specs.Prelude.{ℕ, ℤ, pos, negsuc, ◌==◌, codes, Option, Some, None, if◌then◌else◌}
 use Rattle.arrow_values.specs.Tree.{Text}
 use Rattle.parquet_footer.specs.declared.element.PhysicalType.{PhysicalType}
-use Rattle.parquet_footer.specs.declared.element.PhysicalType.TheVariants.{Boolean, Int32, Int64, Int96, Float, Double, ByteArray, FixedLenByteArray}
-use Rattle.parquet_footer.specs.Logical.{Logical, geometry, geography, time, timestamp, integer, other}
+use Rattle.parquet_footer.specs.declared.element.PhysicalType.TheVariants.{Boolean, Int32, Int64, Int96, Float, Double, ByteArray, FixedLenByteArray, Unknown}
+use Rattle.parquet_footer.specs.Logical.{Logical, geometry, geography, decimal, time, timestamp, integer, other}
 use Rattle.parquet_footer.specs.Element.{Element}
 
 -- logical types by their ids
@@ -13,7 +13,6 @@ other_name id =
     if id == 2 then codes "MAP" else
     if id == 3 then codes "LIST" else
     if id == 4 then codes "ENUM" else
-    if id == 5 then codes "DECIMAL" else
     if id == 6 then codes "DATE" else
     if id == 11 then codes "UNKNOWN" else
     if id == 12 then codes "JSON" else
@@ -25,14 +24,15 @@ other_name id =
 abbrev pub logical_name : Logical → Text
 logical_name (geometry crs) = codes "GEOMETRY"
 logical_name (geography crs algorithm) = codes "GEOGRAPHY"
+logical_name (decimal scale precision) = codes "DECIMAL"
 logical_name (time utc unit) = codes "TIME"
 logical_name (timestamp utc unit) = codes "TIMESTAMP"
 logical_name (integer bits signed) = codes "INTEGER"
 logical_name (other id) = other_name id
 
 -- converted types by their numbers
-abbrev pub converted_name : ℕ → Text
-converted_name n =
+abbrev pub name_by_number : ℕ → Text
+name_by_number n =
     if n == 0 then codes "UTF8" else
     if n == 1 then codes "MAP" else
     if n == 2 then codes "MAP_KEY_VALUE" else
@@ -56,8 +56,12 @@ converted_name n =
     if n == 20 then codes "BSON" else
     if n == 21 then codes "INTERVAL" else codes "another type"
 
+abbrev pub converted_name : ℤ → Text
+converted_name (pos n) = name_by_number n
+converted_name (negsuc n) = codes "another type"
+
 -- that of the converted type where there is no logical type
-abbrev pub name_by : Option Logical → Option ℕ → Text
+abbrev pub name_by : Option Logical → Option ℤ → Text
 name_by (Some l) converted = logical_name l
 name_by None (Some n) = converted_name n
 name_by None None = codes "no type"
@@ -75,3 +79,4 @@ physical_name (Some Float) = codes "FLOAT"
 physical_name (Some Double) = codes "DOUBLE"
 physical_name (Some ByteArray) = codes "BYTE_ARRAY"
 physical_name (Some FixedLenByteArray) = codes "FIXED_LEN_BYTE_ARRAY"
+physical_name (Some (Unknown n)) = codes "another type"

@@ -29,7 +29,7 @@ fn logical_annotation(named: LogicalType<'_>) -> Annotation
 }
 
 /// The annotation of a converted type.
-fn converted_annotation(number: u32) -> Annotation
+fn converted_annotation(number: i32) -> Annotation
     ensures { result ≡ converted_annotation number }
 {
     match number {

@@ -6,7 +6,7 @@ ghost use Rattle.parquet_footer.specs.Element.{element};
 ghost use Rattle.parquet_columns.specs.Says.{says};
 ghost use Rattle.parquet_columns.specs.Claims.{claim, edges_alone, own_text, claim_by, claim_of, claim_size};
 
-use crate::geometry::{GeometrySays, geometry_of, text_with};
+use crate::geometry::{EdgesClaim, GeometrySays, geometry_of, text_with};
 use crate::reserved::is_reserved;
 use crate::unreadable::is_unreadable;
 use crate::values::KeyValues;
@@ -28,17 +28,16 @@ pub enum ElementClaim {
         /// Whether the geometry type names a CRS. Where it does not, the one in the metadata of the
         /// column is the format's default.
         names_crs: bool,
-        /// Whether its edges are known. Where they are not, as those of an algorithm of another
-        /// number, the ones in the metadata of the column are said by nobody.
-        knows_edges: bool,
+        /// How the edges in the metadata of the column are said.
+        edges: EdgesClaim,
     },
     /// The field has an extension name of its own.
     Beside {
         /// The extension metadata that the geometry type denotes, without a CRS where it names none, so
         /// that the format's default counts.
         metadata: String,
-        /// Whether its edges are known.
-        knows_edges: bool,
+        /// How its edges are said.
+        edges: EdgesClaim,
     },
 }
 
@@ -87,12 +86,12 @@ fn claim_by<'a>(
     if is_own {
         return Ok(ElementClaim::Beside {
             metadata: own_text(alloc, values, said)?,
-            knows_edges: said.knows_edges,
+            edges: said.said,
         });
     }
     Ok(ElementClaim::Given {
         names_crs: said.crs.is_some(),
-        knows_edges: said.knows_edges,
+        edges: said.said,
     })
 }
 

@@ -5,12 +5,12 @@ ghost use Rattle.arrow_columns.specs.Column.{column_tree};
 ghost use Rattle.parquet_footer.specs.Element.{element};
 ghost use Rattle.parquet_columns.specs.Fault.{Says, map_ok};
 ghost use Rattle.parquet_columns.specs.Nodes.{shape_tree, node_tree};
-ghost use Rattle.parquet_columns.specs.Columns.{kind_at, head_tree, head_at, children_of, leaf_shape, shape_at, nodes_by, node_at, fault_tree, column_trees, column_at, faults_at, columns_at, columns_below, columns_of};
+ghost use Rattle.parquet_columns.specs.Columns.{kind_at, repetition_at, head_tree, head_at, children_of, leaf_shape, shape_at, nodes_by, node_at, fault_tree, column_trees, column_at, faults_at, columns_at, columns_below, columns_of};
 ghost use Rattle.parquet_columns.specs.Places.{child};
 
 use crate::annotation::{Annotation, annotation_of};
 use crate::fault::{ColumnsError, ElementFault, SchemaRule};
-use crate::leaf::leaf_type;
+use crate::leaf::{digits_at, leaf_type, length_at};
 use crate::meaning::meaning_of;
 use crate::nodes::{Node, Shape, column_of, group_shape, list_shape, map_shape};
 use crate::places::{Child, children_of_root};
@@ -48,9 +48,20 @@ fn kind_at(
     ensures { result ≡ kind_at at physical count }
 {
     match (physical, count) {
+        (Some(PhysicalType::Unknown(_)), _) => Err(ElementFault::new(SchemaRule::Physical, at)),
         (Some(physical), None | Some(0)) => Ok(Kind::Leaf(physical)),
         (None, Some(count)) => Ok(Kind::Group(count)),
         _ => Err(ElementFault::new(SchemaRule::Element, at)),
+    }
+}
+
+/// The repetition of an element.
+fn repetition_at(at: usize, repetition: Option<Repetition>) -> Result<Repetition, ElementFault>
+    ensures { result ≡ repetition_at at repetition }
+{
+    match repetition {
+        None | Some(Repetition::Unknown(_)) => Err(ElementFault::new(SchemaRule::Repetition, at)),
+        Some(repetition) => Ok(repetition),
     }
 }
 
@@ -68,9 +79,7 @@ fn head_at<'s, 'a>(
     }
     let element = &elements[at];
     let kind = kind_at(at, element.storage.physical_type, element.num_children)?;
-    let Some(repetition) = element.storage.repetition else {
-        return Err(ElementFault::new(SchemaRule::Repetition, at));
-    };
+    let repetition = repetition_at(at, element.storage.repetition)?;
     Ok(Head {
         element,
         kind,
@@ -98,17 +107,10 @@ fn leaf_shape(
 ) -> Result<Shape, ColumnsError>
     ensures { Says shape_tree (leaf_shape at physical (element leaf.now)) result }
 {
-    let meaning = meaning_of(leaf);
-    let digits = (leaf.precision, leaf.scale);
-    leaf_type(
-        alloc,
-        at,
-        physical,
-        meaning,
-        leaf.storage.type_length,
-        digits,
-    )
-    .map(Shape::Typed)
+    let length = length_at(at, physical, leaf.storage.type_length)?;
+    let digits = digits_at(at, physical, leaf)?;
+    let made = leaf_type(alloc, physical, meaning_of(leaf), length, digits)?;
+    Ok(Shape::Typed(made))
 }
 
 /// What an element stands for, by the elements below it.

@@ -5,8 +5,9 @@ ghost use Rattle.parquet_footer.specs.Logical.{logical};
 ghost use Rattle.parquet_footer.specs.Element.{element};
 ghost use Rattle.parquet_columns.specs.Findings.{finding};
 ghost use Rattle.parquet_columns.specs.Levels.{level};
-ghost use Rattle.parquet_columns.specs.Elements.{at_element, of_element, is_zero, is_empty_group, empty_group, on_text, invalid_type, algorithm_number, logical_number, unknown_algorithm, logical_crs, key_in, key_of, missing_by, missing_key, crs_part, geometry_text, is_nested, nested_geometry, geometry_findings, type_findings, element_findings, findings_from, findings_below};
+ghost use Rattle.parquet_columns.specs.Elements.{at_element, of_element, is_zero, is_plain_group, is_empty_group, empty_group, on_text, invalid_type, algorithm_number, logical_number, unknown_algorithm, logical_crs, key_in, key_of, missing_by, missing_key, crs_part, geometry_text, is_nested, nested_geometry, geometry_findings, type_findings, element_findings, findings_from, findings_below};
 
+use crate::annotation::{Annotation, annotation_of};
 use crate::code::{FileCode, FilePart};
 use crate::finding::{FileFinding, FilePlace};
 use crate::geometry::colon_parts;
@@ -53,11 +54,19 @@ fn of_element(
     })
 }
 
-/// Whether an element is a group of no children.
+/// Whether a group is neither a LIST nor a MAP.
+fn is_plain_group(annotation: Annotation) -> bool
+    ensures { result ≡ is_plain_group annotation }
+{
+    matches!(annotation, Annotation::Plain)
+}
+
+/// Whether an element is a group of no children that is neither a LIST nor a MAP.
 fn is_empty_group(found: &SchemaElement<'_>) -> bool
     ensures { result ≡ is_empty_group (element found.now) }
 {
-    found.storage.physical_type.is_none() && matches!(found.num_children, Some(0))
+    found.storage.physical_type.is_none()
+        && (matches!(found.num_children, Some(0)) && is_plain_group(annotation_of(found)))
 }
 
 /// Adds what is found of a group of no children.
@@ -101,7 +110,7 @@ fn invalid_type(
 }
 
 /// The number of an algorithm that is not known.
-fn algorithm_number(algorithm: Option<Algorithm>) -> Option<u32>
+fn algorithm_number(algorithm: Option<Algorithm>) -> Option<i32>
     ensures { result ≡ algorithm_number algorithm }
 {
     match algorithm {
@@ -111,7 +120,7 @@ fn algorithm_number(algorithm: Option<Algorithm>) -> Option<u32>
 }
 
 /// The number of the algorithm of a GEOGRAPHY that is not known.
-fn logical_number(logical_type: Option<LogicalType<'_>>) -> Option<u32>
+fn logical_number(logical_type: Option<LogicalType<'_>>) -> Option<i32>
     ensures { result ≡ logical_number (option_map logical logical_type.entry) }
 {
     match logical_type {

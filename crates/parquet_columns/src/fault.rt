@@ -16,10 +16,14 @@ pub enum SchemaRule {
     /// An element below the root is a leaf, which says how its values are stored and has no
     /// children, or a group, which says how many it has.
     Element,
-    /// An element below the root has a repetition.
+    /// The physical type of an element is known.
+    Physical,
+    /// An element below the root has a repetition, which is known.
     Repetition,
-    /// Values of a fixed length have a length, which is below 2^31.
+    /// Values of a fixed length have a length, which is not negative.
     Length,
+    /// Decimal numbers have 1 to 76 digits, of which none or more stand behind the point.
+    Digits,
     /// A LIST has one element below it, which is repeated.
     List,
     /// A MAP has one element below it, which is a repeated group.
@@ -37,8 +41,10 @@ impl SchemaRule {
             SchemaRule::Root => "no root",
             SchemaRule::Children => "a wrong number of children",
             SchemaRule::Element => "an element that is neither a leaf nor a group",
+            SchemaRule::Physical => "a physical type that is not known",
             SchemaRule::Repetition => "an element without a repetition",
-            SchemaRule::Length => "a fixed length that is not there or too large",
+            SchemaRule::Length => "a fixed length that is not there or negative",
+            SchemaRule::Digits => "a precision or a scale out of range",
             SchemaRule::List => "a list without one repeated element",
             SchemaRule::Map => "a map without one repeated group",
             SchemaRule::Depth => "nested too deep",
@@ -53,8 +59,12 @@ impl SchemaRule {
             SchemaRule::Root => "a group",
             SchemaRule::Children => "as many elements as there are children",
             SchemaRule::Element => "a physical type, or a number of children",
+            SchemaRule::Physical => "a type from 0 to 7",
             SchemaRule::Repetition => "required, optional or repeated",
-            SchemaRule::Length => "a length below 2147483648",
+            SchemaRule::Length => "a length from 0 on",
+            SchemaRule::Digits => {
+                "a precision from 1 to 76, and a scale from 0 to the precision"
+            }
             SchemaRule::List => "one repeated element",
             SchemaRule::Map => "one repeated group",
             SchemaRule::Depth => "at most 64 levels",

@@ -5,11 +5,11 @@ ghost use Rattle.parquet_footer.specs.Findings.{finding as text_finding};
 ghost use Rattle.parquet_footer.specs.Spelled.{spelled};
 ghost use Rattle.parquet_columns.specs.Reads.{footer_in, IsFileRead, IsValueRead, AreTextsRead};
 
-use crate::claim::ElementClaim;
 use crate::error::{SchemaError, error_of};
 use crate::finding::FileFinding;
 use crate::footer::{FooterColumns, columns_of_footer};
-use crate::keys::value_of;
+use crate::keys::value_or_empty;
+use crate::layouts::RootElement;
 use arrow_columns::SchemaColumn;
 use parquet_footer::{Footer, FooterError, FooterFinding, FooterText, footer_length, read_footer};
 use std::alloc::Global;
@@ -48,8 +48,9 @@ pub fn footer_in(end: &[u8]) -> Result<&[u8], SchemaError>
 pub struct FileColumns<'a> {
     /// Its columns.
     pub columns: Vec<SchemaColumn>,
-    /// What the elements say beside the columns, one claim for each, in their order (`docs/FORMAT.md`, 4.6).
-    pub elements: Vec<ElementClaim>,
+    /// What is known of the elements of the columns, one for each, in their order (`docs/FORMAT.md`,
+    /// 4.6, 5.1).
+    pub elements: Vec<RootElement>,
     /// Of a schema at `ARROW:schema` whose columns are used, for each of them, in their order, whether
     /// its element refutes a name of GeoArrow on it (`docs/FORMAT.md`, 4.5); else none.
     pub refuted: Vec<bool>,
@@ -58,7 +59,7 @@ pub struct FileColumns<'a> {
     pub findings: Vec<FileFinding>,
     /// What is found of names, keys and values that are not UTF-8 (`docs/FORMAT.md`, 4.3).
     pub texts: Vec<FooterFinding<'a>>,
-    /// The value of a key in its key-value metadata, as [`value_of`] answers it, which need not be UTF-8: a part of the
+    /// What stands at a key in its key-value metadata, as [`value_or_empty`] answers it, which need not be UTF-8: a part of the
     /// bytes that were read, and where it begins in the footer.
     pub value: Option<FooterText<'a>>,
 }
@@ -91,7 +92,7 @@ pub fn read_file<'a>(
         Err(error) => return Err(error_of(error)),
     };
     let read = columns_of_footer(alloc, &footer, bytes.len())?;
-    let value = value_of(&footer, key);
+    let value = value_or_empty(&footer, key);
     let FooterColumns {
         columns,
         elements,

@@ -12,7 +12,6 @@ ghost use Rattle.arrow_values.specs.Texts.{text_of};
 ghost use Rattle.parquet_columns.specs.GeoNames.{json_of};
 
 use crate::budget::report_budget;
-use crate::claim::ElementClaim;
 use crate::code::{FileCode, FilePart};
 use crate::columns::{ColumnFault, ElementColumns, columns_of};
 use crate::elements::add_elements;
@@ -22,7 +21,8 @@ use crate::finding::{FileFinding, FilePlace};
 use crate::geo_keys::add_other_geo;
 use crate::geo_names::geo_text;
 use crate::invalid::add_invalid;
-use crate::keys::{GEO_KEY, value_of};
+use crate::keys::{GEO_KEY, value_or_empty};
+use crate::layouts::{RootElement, root_elements};
 use crate::marks::{Marks, marked_columns, root_children};
 use crate::repeated::add_repeated_keys;
 use crate::resolved::resolved;
@@ -40,8 +40,9 @@ use std::collections::BTreeMap;
 pub struct FooterColumns {
     /// Its columns.
     pub columns: Vec<SchemaColumn>,
-    /// What the elements say beside the columns, one claim for each, in their order (`docs/FORMAT.md`, 4.6).
-    pub elements: Vec<ElementClaim>,
+    /// What is known of the elements of the columns, one for each, in their order (`docs/FORMAT.md`,
+    /// 4.6, 5.1).
+    pub elements: Vec<RootElement>,
     /// Of a schema at `ARROW:schema` whose columns are used, for each of them, in their order, whether
     /// its element refutes a name of GeoArrow on it (`docs/FORMAT.md`, 4.5); else none.
     pub refuted: Vec<bool>,
@@ -169,7 +170,7 @@ fn add_geo_beside(
     ensures { OnOk result (map finding findings.new.items
         ≡ map finding findings.old.items ++ geo_beside (texts_of metadata.now.entries) (map pairing footer.now.key_value_metadata.items)) }
 {
-    if text_at(metadata, GEO_KEY).is_some() && value_of(footer, GEO_KEY).is_none() {
+    if text_at(metadata, GEO_KEY).is_some() && value_or_empty(footer, GEO_KEY).is_none() {
         let place = FilePlace {
             part: FilePart::StoredMessage,
             byte: None,
@@ -262,7 +263,11 @@ fn finished(
     add_other_geo(alloc, &mut findings, footer)?;
     add_repeated_keys(alloc, &mut findings, footer)?;
     let marked = marked_columns(alloc, &mut values, elements, columns, most)?;
-    let Marks { columns, elements } = marked;
+    let Marks {
+        columns,
+        elements: claims,
+    } = marked;
+    let elements = root_elements(alloc, elements, claims)?;
     Ok(FooterColumns {
         columns,
         elements,

@@ -7,7 +7,7 @@ ghost use Rattle.parquet_columns.specs.GeoKeys.{is_other_geo, other_geo, other_g
 
 use crate::code::{FileCode, FilePart};
 use crate::finding::{FileFinding, FilePlace};
-use crate::keys::{GEO_KEY, value_of};
+use crate::keys::{GEO_KEY, value_or_empty};
 use parquet_footer::{Footer, KeyValue};
 use std::alloc::{AllocError, Global};
 
@@ -47,7 +47,7 @@ fn other_geo(alloc: Global, pair: &KeyValue<'_>) -> Result<FileFinding, AllocErr
     }
 }
 
-/// Adds what is found of such a pair, where `geo` itself has no value. Errs only when out of memory.
+/// Adds what is found of such a pair, where no key is `geo` itself. Errs only when out of memory.
 pub(crate) fn add_other_geo(
     alloc: Global,
     findings: &mut Vec<FileFinding>,
@@ -56,7 +56,7 @@ pub(crate) fn add_other_geo(
     ensures { OnOk result (map finding findings.new.items
         ≡ map finding findings.old.items ++ other_geo_findings (map pairing footer.now.key_value_metadata.items)) }
 {
-    if value_of(footer, GEO_KEY).is_some() {
+    if value_or_empty(footer, GEO_KEY).is_some() {
         return Ok(());
     }
     if let Some(pair) = first_other(footer.key_value_metadata.as_slice()) {

@@ -7,7 +7,7 @@ ghost use Rattle.parquet_footer.specs.Element.{element};
 ghost use Rattle.parquet_footer.specs.Footer.{Pairing};
 ghost use Rattle.parquet_footer.specs.Logical.{logical};
 ghost use Rattle.parquet_columns.specs.Typed.{IsNamed};
-ghost use Rattle.parquet_columns.specs.Geometry.{text_crs, colon_parts, are_digits, srid_crs, type_of_form, code_type, coded_crs, crs_in, edges_of, is_known, text_with, geometry_type, is_plain_leaf, geometry_of, extension_text};
+ghost use Rattle.parquet_columns.specs.Geometry.{text_crs, colon_parts, are_digits, srid_crs, type_of_form, code_type, coded_crs, crs_in, edges_of, edges_said, text_with, geometry_type, is_plain_leaf, geometry_of, extension_text};
 ghost use Rattle.parquet_columns.specs.Says.{says};
 
 use crate::values::KeyValues;
@@ -19,6 +19,17 @@ use std::alloc::{AllocError, Global};
 
 /// The CRS where a geometry type names none.
 const DEFAULT_CRS: &str = "OGC:CRS84";
+
+/// How the edges of a geometry type are said.
+#[derive(Clone, Copy, Debug)]
+pub enum EdgesClaim {
+    /// By the type: GEOMETRY, or the algorithm of a GEOGRAPHY.
+    Said,
+    /// By the format's default: a GEOGRAPHY without an algorithm.
+    Default,
+    /// By nobody: a GEOGRAPHY whose algorithm is not known.
+    Broken,
+}
 
 /// A CRS that a geometry type names.
 #[derive(Clone, Copy)]
@@ -36,8 +47,8 @@ pub(crate) struct GeometrySays<'a> {
     pub crs: Option<&'a str>,
     /// The edges of a GEOGRAPHY.
     pub edges: Option<Edges>,
-    /// Whether its edges are known.
-    pub knows_edges: bool,
+    /// How its edges are said.
+    pub said: EdgesClaim,
 }
 
 /// A text as a CRS of that type.
@@ -145,11 +156,21 @@ fn edges_of(algorithm: Option<Algorithm>) -> Edges
     }
 }
 
-/// Whether the algorithm of a GEOGRAPHY is known, if it has one.
-fn is_known(algorithm: Option<Algorithm>) -> bool
-    ensures { result ≡ is_known algorithm }
+/// How the edges of a GEOGRAPHY are said.
+fn edges_said(algorithm: Option<Algorithm>) -> EdgesClaim
+    ensures { result ≡ edges_said algorithm }
 {
-    !matches!(algorithm, Some(Algorithm::Unknown(_)))
+    match algorithm {
+        None => EdgesClaim::Default,
+        Some(Algorithm::Unknown(_)) => EdgesClaim::Broken,
+        Some(
+            Algorithm::Spherical
+            | Algorithm::Vincenty
+            | Algorithm::Thomas
+            | Algorithm::Andoyer
+            | Algorithm::Karney,
+        ) => EdgesClaim::Said,
+    }
 }
 
 /// The text of the metadata with the CRS that a geometry type names and those edges.
@@ -177,19 +198,19 @@ fn geometry_type<'a>(logical_type: Option<LogicalType<'a>>) -> Option<GeometrySa
         Some(LogicalType::Geometry(crs)) => Some(GeometrySays {
             crs,
             edges: None,
-            knows_edges: true,
+            said: EdgesClaim::Said,
         }),
         Some(LogicalType::Geography(crs, algorithm)) => Some(GeometrySays {
             crs,
             edges: Some(edges_of(algorithm)),
-            knows_edges: is_known(algorithm),
+            said: edges_said(algorithm),
         }),
         _ => None,
     }
 }
 
 /// Whether an element is a leaf of BYTE_ARRAY, and not repeated.
-fn is_plain_leaf(found: &SchemaElement<'_>) -> bool
+pub(crate) fn is_plain_leaf(found: &SchemaElement<'_>) -> bool
     ensures { result ≡ is_plain_leaf (element found.now) }
 {
     matches!(found.storage.physical_type, Some(PhysicalType::ByteArray))

@@ -3,14 +3,15 @@ ghost use Rattle.std.specs.Prelude.{◌≡◌, ◌<◌, IfOk, option_map, string
 ghost use Rattle.arrow_values.specs.Tree.{plain};
 ghost use Rattle.arrow_values.specs.View.{tree};
 ghost use Rattle.arrow_columns.specs.Column.{type_tree};
-ghost use Rattle.parquet_columns.specs.Fault.{Says};
-ghost use Rattle.parquet_columns.specs.Leaf.{int32_of, int64_of, bytes_of, fixed_of, plain_of, time32_text, time64_text, timestamp_text, clock_text, may_be_decimal, digits_of, decimal_text, fixed_type, is_null, leaf_type};
+ghost use Rattle.parquet_footer.specs.Element.{element};
+ghost use Rattle.parquet_columns.specs.Leaf.{int32_of, int64_of, bytes_of, fixed_of, plain_of, time32_text, time64_text, timestamp_text, clock_text, length_at, digits_in, may_be_decimal, is_decimal, held, digits_at, decimal_text, fixed_type, is_null, leaf_type};
 
-use crate::fault::{ColumnsError, ElementFault, SchemaRule};
-use crate::meaning::Meaning;
+use crate::fault::{ElementFault, SchemaRule};
+use crate::meaning::{Meaning, meaning_of, precision_of, scale_of};
+use crate::storage::holds_digits;
 use arrow_columns::{AnyType, sized_notation};
 use arrow_values::DataType;
-use parquet_footer::{PhysicalType, TimeUnit};
+use parquet_footer::{PhysicalType, SchemaElement, TimeUnit};
 use std::alloc::{AllocError, Global};
 
 /// The type of integers of 32 bits.
@@ -49,17 +50,17 @@ fn bytes_of(meaning: Meaning) -> DataType
 }
 
 /// The data type of bytes of a fixed length, if it is one.
-fn fixed_of(meaning: Meaning, length: Option<u32>) -> Option<DataType>
+fn fixed_of(meaning: Meaning, length: i32) -> Option<DataType>
     ensures { option_map tree result ≡ option_map plain (fixed_of meaning length) }
 {
     match (meaning, length) {
-        (Meaning::Half, Some(2)) => Some(DataType::Float16),
+        (Meaning::Half, 2) => Some(DataType::Float16),
         _ => None,
     }
 }
 
 /// The data type of a leaf, if it is one.
-fn plain_of(physical: PhysicalType, meaning: Meaning, length: Option<u32>) -> Option<DataType>
+fn plain_of(physical: PhysicalType, meaning: Meaning, length: i32) -> Option<DataType>
     ensures { option_map tree result ≡ option_map plain (plain_of physical meaning length) }
 {
     match physical {
@@ -71,6 +72,7 @@ fn plain_of(physical: PhysicalType, meaning: Meaning, length: Option<u32>) -> Op
         PhysicalType::Double => Some(DataType::Float64),
         PhysicalType::ByteArray => Some(bytes_of(meaning)),
         PhysicalType::FixedLenByteArray => fixed_of(meaning, length),
+        PhysicalType::Unknown(_) => None,
     }
 }
 
@@ -102,6 +104,32 @@ fn clock_text(physical: PhysicalType, meaning: Meaning) -> Option<&'static str>
     }
 }
 
+/// The length of the values of the leaf with that index, if it is a fixed one; 0 of others.
+pub(crate) fn length_at(
+    at: usize,
+    physical: PhysicalType,
+    length: Option<i32>,
+) -> Result<i32, ElementFault>
+    ensures { result ≡ length_at at physical length }
+{
+    match (physical, length) {
+        (PhysicalType::FixedLenByteArray, Some(length)) if length >= 0 => Ok(length),
+        (PhysicalType::FixedLenByteArray, _) => Err(ElementFault::new(SchemaRule::Length, at)),
+        _ => Ok(0),
+    }
+}
+
+/// The digits of decimal numbers, and how many of them stand behind the point, by these numbers of
+/// the leaf with that index.
+fn digits_in(at: usize, precision: i32, scale: i32) -> Result<(u32, u32), ElementFault>
+    ensures { result ≡ digits_in at precision scale }
+{
+    if precision > 0 && precision < 77 && scale >= 0 && scale <= precision {
+        return Ok((precision as u32, scale as u32));
+    }
+    Err(ElementFault::new(SchemaRule::Digits, at))
+}
+
 /// Whether values that are stored so may be decimal numbers.
 fn may_be_decimal(physical: PhysicalType) -> bool
     ensures { result ≡ may_be_decimal physical }
@@ -115,14 +143,38 @@ fn may_be_decimal(physical: PhysicalType) -> bool
     }
 }
 
-/// The digits of the decimal numbers that a leaf has, if they are 1 to 76.
-fn digits_of(physical: PhysicalType, meaning: Meaning, precision: Option<u32>) -> Option<u32>
-    ensures { result ≡ digits_of physical meaning precision }
+/// Whether values mean decimal numbers.
+fn is_decimal(meaning: Meaning) -> bool
+    ensures { result ≡ is_decimal meaning }
 {
-    match (meaning, precision) {
-        (Meaning::Decimal, Some(1..=76)) if may_be_decimal(physical) => precision,
-        _ => None,
+    matches!(meaning, Meaning::Decimal)
+}
+
+/// The digits of decimal numbers, where values that are stored so hold them.
+fn held(physical: PhysicalType, digits: (u32, u32)) -> Option<(u32, u32)>
+    ensures { result ≡ held physical digits }
+{
+    if holds_digits(digits.0, Some(physical)) {
+        Some(digits)
+    } else {
+        None
     }
+}
+
+/// The digits of the decimal numbers that the leaf with that index has, where its values may be
+/// such and hold them, and how many of them stand behind the point.
+pub(crate) fn digits_at(
+    at: usize,
+    physical: PhysicalType,
+    leaf: &SchemaElement<'_>,
+) -> Result<Option<(u32, u32)>, ElementFault>
+    ensures { result ≡ digits_at at physical (element leaf.now) }
+{
+    if is_decimal(meaning_of(leaf)) && may_be_decimal(physical) {
+        let digits = digits_in(at, precision_of(leaf), scale_of(leaf))?;
+        return Ok(held(physical, digits));
+    }
+    Ok(None)
 }
 
 /// The text of decimal numbers.
@@ -137,17 +189,12 @@ fn decimal_text(alloc: Global, precision: u32, scale: u32) -> Result<String, All
     format!(in alloc; "{word}({precision}, {scale})")
 }
 
-/// The type of values of a fixed length.
-fn fixed_type(alloc: Global, at: usize, length: Option<u32>) -> Result<AnyType, ColumnsError>
-    ensures { Says type_tree (fixed_type at length) result }
+/// The type of values of a fixed length. Errs only when out of memory.
+fn fixed_type(alloc: Global, length: i32) -> Result<AnyType, AllocError>
+    ensures { IfOk result (λ made. type_tree made ≡ fixed_type length) }
 {
-    match length {
-        Some(length) if length < 0x8000_0000 => {
-            let text = sized_notation(alloc, "fixed_size_binary", length as i32)?;
-            Ok(AnyType::Other(text))
-        }
-        _ => Err(ColumnsError::Broken(ElementFault::new(SchemaRule::Length, at))),
-    }
+    let text = sized_notation(alloc, "fixed_size_binary", length)?;
+    Ok(AnyType::Other(text))
 }
 
 /// Whether all values are null.
@@ -160,17 +207,16 @@ fn is_null(meaning: Meaning) -> bool
     }
 }
 
-/// The type of the leaf with that index, by how its values are stored, what they mean, their length, and the digits of
-/// decimal numbers.
+/// The type of a leaf, by how its values are stored, what they mean, their length, and the digits
+/// of decimal numbers. Errs only when out of memory.
 pub(crate) fn leaf_type(
     alloc: Global,
-    at: usize,
     physical: PhysicalType,
     meaning: Meaning,
-    length: Option<u32>,
-    digits: (Option<u32>, Option<u32>),
-) -> Result<AnyType, ColumnsError>
-    ensures { Says type_tree (leaf_type at physical meaning length digits.0 digits.1) result }
+    length: i32,
+    digits: Option<(u32, u32)>,
+) -> Result<AnyType, AllocError>
+    ensures { IfOk result (λ made. type_tree made ≡ leaf_type physical meaning length digits) }
 {
     if is_null(meaning) {
         return Ok(AnyType::Data(DataType::Null));
@@ -178,12 +224,12 @@ pub(crate) fn leaf_type(
     if let Some(text) = clock_text(physical, meaning) {
         return Ok(AnyType::Other(String::from_str(alloc, text)?));
     }
-    if let Some(precision) = digits_of(physical, meaning, digits.0) {
-        let text = decimal_text(alloc, precision, digits.1.unwrap_or(0))?;
+    if let Some((precision, scale)) = digits {
+        let text = decimal_text(alloc, precision, scale)?;
         return Ok(AnyType::Other(text));
     }
     match plain_of(physical, meaning, length) {
         Some(data_type) => Ok(AnyType::Data(data_type)),
-        None => fixed_type(alloc, at, length),
+        None => fixed_type(alloc, length),
     }
 }

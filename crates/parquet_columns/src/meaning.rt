@@ -1,8 +1,8 @@
 //! What the values of a leaf mean.
-ghost use Rattle.std.specs.Prelude.{◌≡◌};
+ghost use Rattle.std.specs.Prelude.{◌≡◌, option_map};
 ghost use Rattle.parquet_footer.specs.Logical.{logical};
 ghost use Rattle.parquet_footer.specs.Element.{element};
-ghost use Rattle.parquet_columns.specs.Meaning.{other_meaning, logical_meaning, converted_meaning, meaning_of};
+ghost use Rattle.parquet_columns.specs.Meaning.{other_meaning, logical_meaning, converted_meaning, meaning_of, logical_precision, logical_scale, precision_of, scale_of};
 
 use parquet_footer::{LogicalType, SchemaElement, TimeUnit};
 
@@ -35,7 +35,6 @@ fn other_meaning(id: u16) -> Meaning
 {
     match id {
         1 | 12 => Meaning::Text,
-        5 => Meaning::Decimal,
         6 => Meaning::Date,
         11 => Meaning::Null,
         15 => Meaning::Half,
@@ -50,6 +49,7 @@ fn logical_meaning(named: LogicalType<'_>) -> Meaning
     match named {
         LogicalType::Geometry(_) => Meaning::Nothing,
         LogicalType::Geography(_, _) => Meaning::Nothing,
+        LogicalType::Decimal(_, _) => Meaning::Decimal,
         LogicalType::Time(_, unit) => Meaning::Time(unit),
         LogicalType::Timestamp(utc, unit) => Meaning::Timestamp(utc, unit),
         LogicalType::Integer(bits, signed) => Meaning::Integer(bits, signed),
@@ -58,7 +58,7 @@ fn logical_meaning(named: LogicalType<'_>) -> Meaning
 }
 
 /// The meaning of a converted type.
-fn converted_meaning(number: u32) -> Meaning
+fn converted_meaning(number: i32) -> Meaning
     ensures { result ≡ converted_meaning number }
 {
     match number {
@@ -91,5 +91,46 @@ pub(crate) fn meaning_of(leaf: &SchemaElement<'_>) -> Meaning
             Some(number) => converted_meaning(number),
             None => Meaning::Nothing,
         },
+    }
+}
+
+/// The digits of decimal numbers, as a logical type says.
+fn logical_precision(named: Option<LogicalType<'_>>) -> Option<i32>
+    ensures { result ≡ logical_precision (option_map logical named.entry) }
+{
+    match named {
+        Some(LogicalType::Decimal(_, precision)) => precision,
+        _ => None,
+    }
+}
+
+/// How many digits of decimal numbers stand behind the point, as a logical type says.
+fn logical_scale(named: Option<LogicalType<'_>>) -> Option<i32>
+    ensures { result ≡ logical_scale (option_map logical named.entry) }
+{
+    match named {
+        Some(LogicalType::Decimal(scale, _)) => scale,
+        _ => None,
+    }
+}
+
+/// The digits of the decimal numbers of a leaf; 0 where it does not say.
+pub(crate) fn precision_of(leaf: &SchemaElement<'_>) -> i32
+    ensures { result ≡ precision_of (element leaf.now) }
+{
+    match logical_precision(leaf.logical_type) {
+        Some(precision) => precision,
+        None => leaf.precision.unwrap_or(0),
+    }
+}
+
+/// How many digits of the decimal numbers of a leaf stand behind the point; 0 where it does not
+/// say.
+pub(crate) fn scale_of(leaf: &SchemaElement<'_>) -> i32
+    ensures { result ≡ scale_of (element leaf.now) }
+{
+    match logical_scale(leaf.logical_type) {
+        Some(scale) => scale,
+        None => leaf.scale.unwrap_or(0),
     }
 }

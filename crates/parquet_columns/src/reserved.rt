@@ -7,7 +7,7 @@ use std::alloc::{AllocError, Global};
 
 /// Returns whether there is an extension name, and only GeoArrow or OGC would give it (docs/FORMAT.md,
 /// 2.6). Errs only when out of memory.
-pub(crate) fn is_reserved(alloc: Global, name: Option<&str>) -> Result<bool, AllocError>
+pub fn is_reserved(alloc: Global, name: Option<&str>) -> Result<bool, AllocError>
     ensures { IfOk result (λ is. is ≡ is_reserved (text_of name.entry)) }
 {
     let Some(name) = name else {

@@ -1,5 +1,5 @@
 //! Columns of a stored schema, by the elements at their places.
-ghost use Rattle.std.specs.Prelude.{◌≡◌, ◌++◌, false, true, IfOk, OnOk, map, option_map};
+ghost use Rattle.std.specs.Prelude.{◌≡◌, ◌++◌, IfOk, OnOk, map, option_map};
 ghost use Rattle.json.specs.Value.{value_view};
 ghost use Rattle.std.specs.List.{slice_get};
 ghost use Rattle.arrow_values.specs.Texts.{text_of};
@@ -10,16 +10,19 @@ ghost use Rattle.parquet_columns.specs.Findings.{finding};
 ghost use Rattle.parquet_columns.specs.Fits.{type_fits};
 ghost use Rattle.parquet_columns.specs.GeoNames.{json_of};
 ghost use Rattle.parquet_columns.specs.Resolutions.{resolution};
-ghost use Rattle.parquet_columns.specs.Resolved.{is_geometry_type, is_geometry, is_geo_name, may_hold, bare, contradiction, as_it_is, resolve_by, resolve, resolved_from, listed, resolved_columns, resolved_findings, resolved_refuted, is_misfit, is_one_misfit};
+ghost use Rattle.parquet_columns.specs.Resolved.{is_geometry_type, is_geometry, is_geo_name, may_hold, bare, contradiction, says_geometry, is_binary, takes_type, fitted, as_it_is, refused, resolve, resolved_from, listed, resolved_columns, resolved_findings, resolved_refuted, is_misfit, is_one_misfit};
 
 use crate::code::{FileCode, FilePart};
 use crate::finding::{FileFinding, FilePlace};
 use crate::fits::type_fits;
 use crate::footer::Unmarked;
 use crate::geo_names::{is_named, json_of};
+use crate::geometry::geometry_of;
 use crate::marks::child_at;
+use crate::reserved::is_reserved;
 use crate::unreadable::is_unreadable;
 use arrow_columns::{AnyType, SchemaColumn};
+use arrow_values::DataType;
 use json::{Scratch, Value};
 use parquet_footer::{LogicalType, SchemaElement};
 use std::alloc::{AllocError, Global};
@@ -148,13 +151,77 @@ fn refused(
     other: &SchemaColumn,
     column: &SchemaColumn,
 ) -> Result<Resolution, AllocError>
-    ensures { IfOk result (λ made. resolution made ≡ resolve_by false true (column_tree other.now) (column_tree column.now)) }
+    ensures { IfOk result (λ made. resolution made ≡ refused (column_tree other.now) (column_tree column.now)) }
 {
     let found = contradiction(alloc, other, column)?;
     Ok(Resolution {
         column: bare(alloc, other)?,
         found: Some(found),
         refuted: is_geo_name(column.extension_type_name()),
+    })
+}
+
+/// Whether an element, if there is one, says that its column is one of geometries.
+fn says_geometry(child: Option<&SchemaElement<'_>>) -> bool
+    ensures { result ≡ says_geometry (option_map (λ e. element e.now) child.entry) }
+{
+    match child {
+        Some(child) => geometry_of(child).is_some(),
+        None => false,
+    }
+}
+
+/// Whether a type is one of bytes.
+fn is_binary(any: &AnyType) -> bool
+    ensures { result ≡ is_binary (type_tree any.now) }
+{
+    matches!(
+        any,
+        AnyType::Data(DataType::Binary | DataType::LargeBinary | DataType::BinaryView)
+    )
+}
+
+/// Whether a stored column has the type of its element. Errs only when out of memory.
+fn takes_type(
+    alloc: Global,
+    child: Option<&SchemaElement<'_>>,
+    column: &SchemaColumn,
+) -> Result<bool, AllocError>
+    ensures { IfOk result (λ takes. takes ≡ takes_type (option_map (λ e. element e.now) child.entry) (column_tree column.now)) }
+{
+    if !says_geometry(child) {
+        return Ok(false);
+    }
+    let is_own = is_reserved(alloc, column.extension_type_name())?;
+    Ok(!(is_own || is_binary(&column.data_type)))
+}
+
+/// A stored column that fits the column of its element: of the element's type, where that makes it a
+/// column of geometries and the stored type is none of bytes. Errs only when out of memory.
+fn fitted(
+    alloc: Global,
+    child: Option<&SchemaElement<'_>>,
+    other: &SchemaColumn,
+    column: SchemaColumn,
+) -> Result<SchemaColumn, AllocError>
+    ensures { IfOk result (λ made. column_tree made ≡ fitted (option_map (λ e. element e.now) child.entry) (column_tree other.now) (column_tree column)) }
+{
+    if !takes_type(alloc, child, &column)? {
+        return Ok(column);
+    }
+    let data_type = owned_type(alloc, &other.data_type)?;
+    let SchemaColumn {
+        name,
+        nullable,
+        metadata,
+        data_type: stored,
+    } = column;
+    drop(stored);
+    Ok(SchemaColumn {
+        name,
+        nullable,
+        data_type,
+        metadata,
     })
 }
 
@@ -176,7 +243,7 @@ fn resolve(
         return Ok(as_it_is(bare(alloc, other)?));
     }
     if type_fits(&other.data_type, &column.data_type) {
-        return Ok(as_it_is(column));
+        return Ok(as_it_is(fitted(alloc, child, other, column)?));
     }
     if may_hold(geo, child, &column) {
         return refused(alloc, other, &column);

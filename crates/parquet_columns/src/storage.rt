@@ -2,8 +2,9 @@
 ghost use Rattle.std.specs.Prelude.{◌≡◌};
 ghost use Rattle.parquet_footer.specs.Logical.{logical};
 ghost use Rattle.parquet_footer.specs.Element.{element};
-ghost use Rattle.parquet_columns.specs.Storage.{time_storage, other_storage, logical_storage, converted_storage, storage_of, holds_digits, is_stored, fixed_text, storage_text};
+ghost use Rattle.parquet_columns.specs.Storage.{time_storage, other_storage, logical_storage, converted_storage, storage_of, holds_digits, digits_in, has_length, stands_on, is_stored, fixed_text, storage_text};
 
+use crate::meaning::precision_of;
 use parquet_footer::{LogicalType, PhysicalType, SchemaElement, TimeUnit};
 
 /// How the values of a type are stored.
@@ -43,7 +44,6 @@ fn other_storage(id: u16) -> Storage
     match id {
         1 | 4 | 12 | 13 => Storage::Bytes,
         2 | 3 | 16 => Storage::Group,
-        5 => Storage::Decimal,
         6 => Storage::Int32,
         14 => Storage::Fixed(16),
         15 => Storage::Fixed(2),
@@ -58,6 +58,7 @@ fn logical_storage(named: LogicalType<'_>) -> Storage
     match named {
         LogicalType::Geometry(_) => Storage::Bytes,
         LogicalType::Geography(_, _) => Storage::Bytes,
+        LogicalType::Decimal(_, _) => Storage::Decimal,
         LogicalType::Time(_, unit) => time_storage(unit),
         LogicalType::Timestamp(_, _) => Storage::Int64,
         LogicalType::Integer(bits, _) => {
@@ -72,7 +73,7 @@ fn logical_storage(named: LogicalType<'_>) -> Storage
 }
 
 /// How the values of a converted type are stored.
-fn converted_storage(number: u32) -> Storage
+fn converted_storage(number: i32) -> Storage
     ensures { result ≡ converted_storage number }
 {
     match number {
@@ -101,7 +102,7 @@ pub(crate) fn storage_of(found: &SchemaElement<'_>) -> Storage
 }
 
 /// Whether decimal numbers of so many digits are stored so.
-fn holds_digits(digits: u32, physical: Option<PhysicalType>) -> bool
+pub(crate) fn holds_digits(digits: u32, physical: Option<PhysicalType>) -> bool
     ensures { result ≡ holds_digits digits physical }
 {
     match physical {
@@ -112,9 +113,29 @@ fn holds_digits(digits: u32, physical: Option<PhysicalType>) -> bool
     }
 }
 
-/// Whether an element is stored so.
-pub(crate) fn is_stored(storage: Storage, found: &SchemaElement<'_>) -> bool
-    ensures { result ≡ is_stored storage (element found.now) }
+/// The digits of decimal numbers; 0 where they are out of range.
+fn digits_in(precision: i32) -> u32
+    ensures { result ≡ digits_in precision }
+{
+    match precision {
+        0..=76 => precision as u32,
+        _ => 0,
+    }
+}
+
+/// Whether values have so many bytes; true where there is no length, or a negative one.
+fn has_length(length: u32, found: Option<i32>) -> bool
+    ensures { result ≡ has_length length found }
+{
+    match found {
+        Some(found) if found >= 0 => found as u32 == length,
+        _ => true,
+    }
+}
+
+/// Whether an element, whose physical type is known, is stored so.
+fn stands_on(storage: Storage, found: &SchemaElement<'_>) -> bool
+    ensures { result ≡ stands_on storage (element found.now) }
 {
     let physical = found.storage.physical_type;
     match storage {
@@ -122,13 +143,21 @@ pub(crate) fn is_stored(storage: Storage, found: &SchemaElement<'_>) -> bool
         Storage::Bytes => matches!(physical, Some(PhysicalType::ByteArray)),
         Storage::Int32 => matches!(physical, Some(PhysicalType::Int32)),
         Storage::Int64 => matches!(physical, Some(PhysicalType::Int64)),
-        Storage::Decimal => holds_digits(found.precision.unwrap_or(0), physical),
+        Storage::Decimal => holds_digits(digits_in(precision_of(found)), physical),
         Storage::Fixed(length) => {
             matches!(physical, Some(PhysicalType::FixedLenByteArray))
-                && found.storage.type_length.unwrap_or(0) == length
+                && has_length(length, found.storage.type_length)
         }
         Storage::Group => physical.is_none(),
     }
+}
+
+/// Whether an element is stored so, or its physical type is not known.
+pub(crate) fn is_stored(storage: Storage, found: &SchemaElement<'_>) -> bool
+    ensures { result ≡ is_stored storage (element found.now) }
+{
+    matches!(found.storage.physical_type, Some(PhysicalType::Unknown(_)))
+        || stands_on(storage, found)
 }
 
 /// The words of so many bytes.

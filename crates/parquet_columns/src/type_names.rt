@@ -15,7 +15,6 @@ fn other_name(id: u16) -> &'static str
         2 => "MAP",
         3 => "LIST",
         4 => "ENUM",
-        5 => "DECIMAL",
         6 => "DATE",
         11 => "UNKNOWN",
         12 => "JSON",
@@ -34,6 +33,7 @@ fn logical_name(named: LogicalType<'_>) -> &'static str
     match named {
         LogicalType::Geometry(_) => "GEOMETRY",
         LogicalType::Geography(_, _) => "GEOGRAPHY",
+        LogicalType::Decimal(_, _) => "DECIMAL",
         LogicalType::Time(_, _) => "TIME",
         LogicalType::Timestamp(_, _) => "TIMESTAMP",
         LogicalType::Integer(_, _) => "INTEGER",
@@ -42,7 +42,7 @@ fn logical_name(named: LogicalType<'_>) -> &'static str
 }
 
 /// The name of a converted type.
-fn converted_name(number: u32) -> &'static str
+fn converted_name(number: i32) -> &'static str
     ensures { result.now ≡ converted_name number }
 {
     match number {
@@ -99,5 +99,6 @@ pub(crate) fn physical_name(physical: Option<PhysicalType>) -> &'static str
         Some(PhysicalType::Double) => "DOUBLE",
         Some(PhysicalType::ByteArray) => "BYTE_ARRAY",
         Some(PhysicalType::FixedLenByteArray) => "FIXED_LEN_BYTE_ARRAY",
+        Some(PhysicalType::Unknown(_)) => "another type",
     }
 }

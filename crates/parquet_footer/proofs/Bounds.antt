@@ -2,11 +2,11 @@
 use Rattle.std.proofs.Common.{◌≡◌, ℕ, zero, suc, ◌-◌, ◌/◌, ◌≤◌, nat_lt, List, [], ◌∷◌, length, Bool, true, false, Option, Some, None, Result, Ok, Err, subst, arith, length-drop, ◌==◌, if◌then◌else◌}
 use Rattle.parquet_footer.specs.declared.fault.Fault.{Fault}
 use Rattle.parquet_footer.specs.Fault.{needed, ◌>>=◌}
-use Rattle.parquet_footer.specs.Wire.{byte_at, number_at, number_past, count_at, bytes_past, binary_at, text_at, list_at, map_at, field_at}
-use Rattle.parquet_footer.specs.Fields.{Spot, noted, noting, pair_at, value_of, number_in, named, name_in, text_in, flag_in, structs_in}
+use Rattle.parquet_footer.specs.Wire.{byte_at, number_at, number_past, signed_at, count_at, bytes_past, binary_at, text_at, list_at, map_at, field_at}
+use Rattle.parquet_footer.specs.Fields.{Spot, noted, noting, pair_at, value_of, number_in, count_in, numbers_at, text_in, flag_in, structs_in}
 use Rattle.parquet_footer.specs.Spelled.{spelled_at, spelled_in}
-use Rattle.parquet_footer.specs.Logical.{algorithm_in, union_at, unit_of, unit_in, clock_at, width_in, integer_at, geometry_at, geography_at, member_at, logical_at, logical_in}
-use Rattle.parquet_footer.specs.Element.{physical_types, repetitions, storage_at, numbers_at, element_at}
+use Rattle.parquet_footer.specs.Logical.{algorithm_in, union_at, unit_in, decimal_at, clock_at, width_in, integer_at, geometry_at, geography_at, member_at, logical_by, logical_at, logical_in}
+use Rattle.parquet_footer.specs.Element.{storage_at, element_at}
 use Rattle.parquet_footer.specs.Footer.{all_at, key_value_at, footer_at}
 use Rattle.parquet_footer.specs.Skip.{fields_at, items_past, plain_past, over, struct_past, pair_past, nested_past, value_past}
 
@@ -58,6 +58,10 @@ past_within n most (b ∷ rest) h =
     either _ n _ _ _ (reads _ n _ less) (either _ n _ _ _ (refuses _ n _ h) (past_within n (most - 1) rest less))
 
 module _ (n : ℕ) (bytes : List ℕ) (h : length bytes ≤ n) where
+  pub signed_within : Within (λ x. length x.1 ≤ n) n (signed_at bytes)
+  unfolding signed_at
+  signed_within = step (λ x. length x.1 ≤ n) _ n _ _ (number_within n 5 bytes h) (λ x k. reads _ n _ k)
+
   pub count_within : Within (λ x. length x.1 ≤ n) n (count_at bytes)
   unfolding count_at
   count_within = step (λ x. length x.1 ≤ n) _ n _ _ (number_within n 5 bytes h) (λ x k. checked _ n _ _ _ h (reads _ n _ k))
@@ -165,7 +169,18 @@ value_of_within n type p h = checked _ n _ _ _ h (reads _ n _ h)
 
 pub number_in_within : (n : ℕ) (p : Option Spot) → Found n p → Within (λ x. Unit {0}) n (number_in p)
 number_in_within n None f = reads _ n _ tt
-number_in_within n (Some p) f = step (λ x. length x ≤ n) _ n _ _ (value_of_within n 5 p f) (λ x k. step (λ x. length x.1 ≤ n) _ n _ _ (count_within n x k) (λ x _. reads _ n _ tt))
+number_in_within n (Some p) f = step (λ x. length x ≤ n) _ n _ _ (value_of_within n 5 p f) (λ x k. step (λ x. length x.1 ≤ n) _ n _ _ (signed_within n x k) (λ x _. reads _ n _ tt))
+
+pub count_in_within : (n : ℕ) (p : Option Spot) → Found n p → Within (λ x. Unit {0}) n (count_in p)
+count_in_within n None f = reads _ n _ tt
+count_in_within n (Some p) f = step (λ x. length x ≤ n) _ n _ _ (value_of_within n 5 p f) (λ x k. step (λ x. length x.1 ≤ n) _ n _ _ (count_within n x k) (λ x _. reads _ n _ tt))
+
+module _ (n one other : ℕ) (bytes : List ℕ) (h : length bytes ≤ n) where
+  pub numbers_within : Within (λ x. Unit {0}) n (numbers_at one other bytes)
+  unfolding numbers_at
+  numbers_within = step (λ x. FoundBoth n x.0 × (length x.1 ≤ n)) _ n _ _ (pair_within n one other bytes h) (λ found k.
+      step (λ x. Unit {0}) _ n _ _ (number_in_within n found.0.0 k.0.0) (λ first _.
+      step (λ x. Unit {0}) _ n _ _ (number_in_within n found.0.1 k.0.1) (λ second _. reads _ n _ tt)))
 
 pub text_in_within : (n : ℕ) (p : Option Spot) → Found n p → Within (λ x. Unit {0}) n (text_in p)
 unfolding text_in
@@ -195,28 +210,23 @@ pub place_within : (n : ℕ) (bytes : List ℕ) (p : Option Spot) → length byt
 place_within n bytes None h f = refuses _ n _ h
 place_within n bytes (Some p) h f = reads _ n _ f
 
--- names by numbers
+-- the one member of a union, if it has one
+abbrev pub Member : ℕ → Option (ℕ × Spot) → Type 0
+Member n None = Unit {0}
+Member n (Some m) = length m.1.1 ≤ n
+
+-- the parts of an element
 module _ (n : ℕ) (bytes : List ℕ) (h : length bytes ≤ n) where
-  pub named_within : {A : Type 0} (names : List A) (number : Option ℕ) → Within (λ x. Unit {0}) n (named names number bytes)
-  named_within names None = reads _ n _ tt
-  named_within names (Some m) = checked _ n _ _ _ h (reads _ n _ tt)
-
-  pub name_within : {A : Type 0} (names : List A) (p : Option Spot) → Found n p → Within (λ x. Unit {0}) n (name_in names p bytes)
-  unfolding name_in
-  name_within names p f = step (λ x. Unit {0}) _ n _ _ (number_in_within n p f) (λ number _. named_within names number)
-
   abbrev Pair : ((Option Spot × Option Spot) × List ℕ) → Type 0
   Pair x = FoundBoth n x.0 × (length x.1 ≤ n)
 
   pub storage_within : (size : ℕ) → Within (λ x. Unit {0}) n (storage_at size bytes)
   unfolding storage_at
-  storage_within size = step Pair _ n _ _ (pair_within n 1 2 bytes h) (λ types k.
-      step (λ x. Unit {0}) _ n _ _ (name_within physical_types types.0.0 k.0.0) (λ physical_type _.
-      step (λ x. Unit {0}) _ n _ _ (number_in_within n types.0.1 k.0.1) (λ type_length _.
+  storage_within size = step (λ x. Unit {0}) _ n _ _ (numbers_within n 1 2 bytes h) (λ types _.
       step Pair _ n _ _ (pair_within n 3 4 bytes h) (λ names l.
-      step (λ x. Unit {0}) _ n _ _ (name_within repetitions names.0.0 l.0.0) (λ repetition _.
+      step (λ x. Unit {0}) _ n _ _ (number_in_within n names.0.0 l.0.0) (λ repetition _.
       step (λ x. Unit {0}) _ n _ _ (spelled_in_within n size names.0.1 l.0.1) (λ text _.
-      step (λ x. Unit {0}) _ n _ _ (needed_within n bytes text h) (λ name _. reads _ n _ tt)))))))
+      step (λ x. Unit {0}) _ n _ _ (needed_within n bytes text h) (λ name _. reads _ n _ tt)))))
 
   pub geometry_within : Within (λ x. Unit {0}) n (geometry_at bytes)
   unfolding geometry_at
@@ -233,28 +243,29 @@ module _ (n : ℕ) (bytes : List ℕ) (h : length bytes ≤ n) where
       step (λ x. Unit {0}) _ n _ _ (text_in_within n found.0.0 k.0.0) (λ crs _.
       step (λ x. Unit {0}) _ n _ _ (algorithm_within found.0.1 k.0.1) (λ algorithm _. reads _ n _ tt)))
 
-  pub unit_within : (id : ℕ) → Within (λ x. Unit {0}) n (unit_of id bytes)
-  unit_within id = either _ n (id == 1) _ _ (reads _ n _ tt) (either _ n (id == 2) _ _ (reads _ n _ tt) (either _ n (id == 3) _ _ (reads _ n _ tt) (refuses _ n _ h)))
-
   pub flag_within : (p : Option Spot) → Found n p → Within (λ x. Unit {0}) n (flag_in bytes p)
   flag_within p f = step (λ p. length p.1 ≤ n) _ n _ _ (place_within n bytes p h f) (λ p k. checked _ n _ _ _ k (reads _ n _ tt))
 
   pub width_in_within : (p : Option Spot) → Found n p → Within (λ x. Unit {0}) n (width_in bytes p)
   unfolding width_in
   width_in_within p f = step (λ p. length p.1 ≤ n) _ n _ _ (place_within n bytes p h f) (λ p k.
-      step (λ x. length x ≤ n) _ n _ _ (value_of_within n 3 p k) (λ x l. step (λ x. length x.1 ≤ n) _ n _ _ (byte_within n x l) (λ b _. checked _ n _ _ _ h (reads _ n _ tt))))
+      step (λ x. length x ≤ n) _ n _ _ (value_of_within n 3 p k) (λ x l. step (λ x. length x.1 ≤ n) _ n _ _ (byte_within n x l) (λ b _. reads _ n _ tt)))
 
-  pub union_within : Within (λ x. length x.1.1 ≤ n) n (union_at bytes)
+  pub union_within : Within (Member n) n (union_at bytes)
   unfolding union_at
-  union_within = step (λ x. length x.2 ≤ n) _ n _ _ (field_within n 0 bytes h) (λ f k. checked _ n _ _ _ h
+  union_within = step (λ x. length x.2 ≤ n) _ n _ _ (field_within n 0 bytes h) (λ f k. either _ n _ _ _ (reads _ n _ tt)
       (step (λ x. length x ≤ n) _ n _ _ (value_within n 64 f.1 f.2 k) (λ rest l.
       step (λ x. length x.1 ≤ n) _ n _ _ (byte_within n rest l) (λ end _. checked _ n _ _ _ l (reads _ n _ k)))))
+
+  pub decimal_within : Within (λ x. Unit {0}) n (decimal_at bytes)
+  unfolding decimal_at
+  decimal_within = step (λ x. Unit {0}) _ n _ _ (numbers_within n 1 2 bytes h) (λ numbers _. reads _ n _ tt)
 
 module _ (n : ℕ) (bytes : List ℕ) (h : length bytes ≤ n) where
   pub unit_in_within : (p : Option Spot) → Found n p → Within (λ x. Unit {0}) n (unit_in bytes p)
   unfolding unit_in
   unit_in_within p f = step (λ p. length p.1 ≤ n) _ n _ _ (place_within n bytes p h f) (λ p k. step (λ x. length x ≤ n) _ n _ _ (value_of_within n 12 p k) (λ x l.
-      step (λ x. length x.1.1 ≤ n) _ n _ _ (union_within n x l) (λ u _. unit_within n x l u.0)))
+      step (Member n) _ n _ _ (union_within n x l) (λ u _. reads _ n _ tt)))
 
   pub clock_within : (id : ℕ) → Within (λ x. Unit {0}) n (clock_at id bytes)
   unfolding clock_at
@@ -272,14 +283,17 @@ module _ (n : ℕ) (bytes : List ℕ) (h : length bytes ≤ n) where
   pub member_within : (id : ℕ) → Within (λ x. Unit {0}) n (member_at id bytes)
   unfolding member_at
   member_within id =
-      either _ n (id == 7) _ _ (clock_within n bytes h id) (either _ n (id == 8) _ _ (clock_within n bytes h id) (either _ n (id == 10) _ _ (integer_within n bytes h)
-      (either _ n (id == 17) _ _ (geometry_within n bytes h) (either _ n (id == 18) _ _ (geography_within n bytes h) (reads _ n _ tt)))))
+      either _ n (id == 5) _ _ (decimal_within n bytes h) (either _ n (id == 7) _ _ (clock_within n bytes h id) (either _ n (id == 8) _ _ (clock_within n bytes h id) (either _ n (id == 10) _ _ (integer_within n bytes h)
+      (either _ n (id == 17) _ _ (geometry_within n bytes h) (either _ n (id == 18) _ _ (geography_within n bytes h) (reads _ n _ tt))))))
+
+by_within : (n : ℕ) (m : Option (ℕ × Spot)) → Member n m → Within (λ x. Unit {0}) n (logical_by m)
+by_within n None k = reads _ n _ tt
+by_within n (Some m) k = step (λ x. length x ≤ n) _ n _ _ (value_of_within n 12 m.1 k) (λ x l. member_within n x l m.0)
 
 module _ (n : ℕ) (bytes : List ℕ) (h : length bytes ≤ n) where
   pub logical_within : Within (λ x. Unit {0}) n (logical_at bytes)
   unfolding logical_at
-  logical_within = step (λ x. length x.1.1 ≤ n) _ n _ _ (union_within n bytes h) (λ m k.
-      step (λ x. length x ≤ n) _ n _ _ (value_of_within n 12 m.1 k) (λ x l. member_within n x l m.0))
+  logical_within = step (Member n) _ n _ _ (union_within n bytes h) (λ m k. by_within n m k)
 
 pub logical_in_within : (n : ℕ) (p : Option Spot) → Found n p → Within (λ x. Unit {0}) n (logical_in p)
 unfolding logical_in
@@ -287,19 +301,15 @@ logical_in_within n None f = reads _ n _ tt
 logical_in_within n (Some p) f = step (λ x. length x ≤ n) _ n _ _ (value_of_within n 12 p f) (λ x k. step (λ x. Unit {0}) _ n _ _ (logical_within n x k) (λ says _. reads _ n _ tt))
 
 module _ (n : ℕ) (bytes : List ℕ) (h : length bytes ≤ n) where
-  numbers_within : (one other : ℕ) → Within (λ x. Unit {0}) n (numbers_at one other bytes)
-  unfolding numbers_at
-  numbers_within one other = step (λ x. FoundBoth n x.0 × (length x.1 ≤ n)) _ n _ _ (pair_within n one other bytes h) (λ found k.
-      step (λ x. Unit {0}) _ n _ _ (number_in_within n found.0.0 k.0.0) (λ first _.
-      step (λ x. Unit {0}) _ n _ _ (number_in_within n found.0.1 k.0.1) (λ second _. reads _ n _ tt)))
-
   pub element_within : (size : ℕ) → Within (λ x. length x.1 ≤ n) n (element_at size bytes)
   unfolding element_at
   element_within size = step (λ x. Unit {0}) _ n _ _ (storage_within n bytes h size) (λ storage _.
-      step (λ x. Unit {0}) _ n _ _ (numbers_within 5 6) (λ one _.
-      step (λ x. Unit {0}) _ n _ _ (numbers_within 7 8) (λ two _.
+      step (λ x. FoundBoth n x.0 × (length x.1 ≤ n)) _ n _ _ (pair_within n 5 6 bytes h) (λ found l.
+      step (λ x. Unit {0}) _ n _ _ (count_in_within n found.0.0 l.0.0) (λ num_children _.
+      step (λ x. Unit {0}) _ n _ _ (number_in_within n found.0.1 l.0.1) (λ converted_type _.
+      step (λ x. Unit {0}) _ n _ _ (numbers_within n 7 8 bytes h) (λ digits _.
       step (λ x. FoundBoth n x.0 × (length x.1 ≤ n)) _ n _ _ (pair_within n 10 10 bytes h) (λ last k.
-      step (λ x. Unit {0}) _ n _ _ (logical_in_within n last.0.0 k.0.0) (λ logical_type _. reads _ n _ k.1)))))
+      step (λ x. Unit {0}) _ n _ _ (logical_in_within n last.0.0 k.0.0) (λ logical_type _. reads _ n _ k.1)))))))
 
   pub key_value_within : (size : ℕ) → Within (λ x. length x.1 ≤ n) n (key_value_at size bytes)
   unfolding key_value_at

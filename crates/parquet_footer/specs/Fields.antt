@@ -1,10 +1,10 @@
 -- The fields of a struct that are read, by their ids.
-use Rattle.std.specs.Prelude.{ℕ, Bool, ◌||◌, is_some, slice_get, List, [], length, Option, Some, None, Result, Ok, ◌==◌, if◌then◌else◌}
+use Rattle.std.specs.Prelude.{ℕ, ℤ, Bool, ◌||◌, List, [], length, Option, Some, None, Result, Ok, ◌==◌, if◌then◌else◌}
 use Rattle.parquet_footer.specs.declared.fault.Fault.{Fault}
-use Rattle.parquet_footer.specs.declared.fault.FooterRule.TheVariants.{WireType, Repeated, Name}
+use Rattle.parquet_footer.specs.declared.fault.FooterRule.TheVariants.{WireType, Repeated}
 use Rattle.parquet_footer.specs.declared.fields.Place.{Place}
 use Rattle.parquet_footer.specs.Fault.{refused, kept, needed, ◌>>=◌}
-use Rattle.parquet_footer.specs.Wire.{count_at, text_at, list_at}
+use Rattle.parquet_footer.specs.Wire.{signed_at, count_at, text_at, list_at}
 use Rattle.parquet_footer.specs.Skip.{fields_at, value_past}
 
 -- the type of a value, and the bytes that it begins
@@ -41,24 +41,28 @@ value_of type p = do
   Ok p.1
 
 -- the values of fields, where they are there
-abbrev pub number_in : Option Spot → Result (Option ℕ) Fault
+abbrev pub number_in : Option Spot → Result (Option ℤ) Fault
 number_in None = Ok None
 number_in (Some p) = do
+  bytes ← value_of 5 p
+  n ← signed_at bytes
+  Ok (Some n.0)
+
+-- a number that is not negative
+abbrev pub count_in : Option Spot → Result (Option ℕ) Fault
+count_in None = Ok None
+count_in (Some p) = do
   bytes ← value_of 5 p
   n ← count_at bytes
   Ok (Some n.0)
 
--- the name that a number denotes: the names stand in the order of their numbers, from 0 on
-abbrev pub named : {A : Type 0} → List A → Option ℕ → List ℕ → Result (Option A) Fault
-named names None bytes = Ok None
-named names (Some n) bytes = do
-  _ ← kept (is_some (slice_get names n)) Name bytes
-  Ok (slice_get names n)
-
-unfoldable pub name_in : {A : Type 0} → List A → Option Spot → List ℕ → Result (Option A) Fault
-name_in names place bytes = do
-  number ← number_in place
-  named names number bytes
+-- the numbers in two fields of a struct, by their ids
+unfoldable pub numbers_at : ℕ → ℕ → List ℕ → Result (Option ℤ × Option ℤ) Fault
+numbers_at one other bytes = do
+  found ← pair_at one other bytes
+  first ← number_in found.0.0
+  second ← number_in found.0.1
+  Ok (first, second)
 
 unfoldable pub text_in : Option Spot → Result (Option (List ℕ)) Fault
 text_in None = Ok None

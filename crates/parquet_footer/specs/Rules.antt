@@ -16,9 +16,8 @@ rule_message rules.Depth = codes "nested too deep"
 rule_message rules.FieldId = codes "the id of a field is too large"
 rule_message rules.Repeated = codes "a field stands twice"
 rule_message rules.Missing = codes "a field is missing"
-rule_message rules.Union = codes "a union has no field, or several"
+rule_message rules.Union = codes "a union has several fields"
 rule_message rules.Utf8 = codes "a text is not UTF-8"
-rule_message rules.Name = codes "a number denotes no name of the format"
 
 -- what a rule asks
 abbrev pub rule_wanted : FooterRule → List ℕ
@@ -33,7 +32,6 @@ rule_wanted rules.Repeated = codes "each field once"
 rule_wanted rules.Missing = codes "each required field"
 rule_wanted rules.Union = codes "a union of one field"
 rule_wanted rules.Utf8 = codes "UTF-8"
-rule_wanted rules.Name = codes "a number that denotes a name of the format"
 
 -- why a footer is not read: what is wrong, and what is asked
 abbrev pub error_message : FooterError → List ℕ

@@ -1,5 +1,5 @@
 -- Values of Thrift's compact protocol at the front of the bytes, each with the bytes behind it.
-use Rattle.std.specs.Prelude.{ℕ, ◌+◌, ◌-◌, ◌*◌, ◌/◌, ◌%◌, ◌^◌, List, [], ◌∷◌, length, take, drop, Result, Ok, not, nat_lt, nat_le, ◌==◌, if◌then◌else◌}
+use Rattle.std.specs.Prelude.{ℕ, ◌+◌, ◌-◌, ◌*◌, ◌/◌, ◌%◌, ◌^◌, ℤ, pos, negsuc, List, [], ◌∷◌, length, take, drop, Result, Ok, not, nat_lt, nat_le, ◌==◌, if◌then◌else◌}
 use Rattle.std.specs.Str.{is_utf8}
 use Rattle.parquet_footer.specs.declared.fault.Fault.{Fault}
 use Rattle.parquet_footer.specs.declared.fault.FooterRule.TheVariants.{End, Number, Negative, Length, WireType, FieldId, Utf8}
@@ -26,7 +26,16 @@ number_past most (b ∷ rest) =
     if nat_lt b 128 then Ok rest else
     if nat_lt most 2 then refused Number (b ∷ rest) else number_past (most - 1) rest
 
--- zigzag: 0 is 0, 1 is -1, 2 is 1, 3 is -2 and so on, of which those that are not negative are read
+-- zigzag: 0 is 0, 1 is -1, 2 is 1, 3 is -2 and so on
+abbrev pub zigzag : ℕ → ℤ
+zigzag n = if n % 2 == 0 then pos (n / 2) else negsuc (n / 2)
+
+unfoldable pub signed_at : List ℕ → Result (ℤ × List ℕ) Fault
+signed_at bytes = do
+  n ← number_at 5 bytes
+  Ok (zigzag n.0, n.1)
+
+-- one that is not negative
 unfoldable pub count_at : List ℕ → Result (ℕ × List ℕ) Fault
 count_at bytes = do
   n ← number_at 5 bytes

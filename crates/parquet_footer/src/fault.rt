@@ -13,7 +13,7 @@ pub enum FooterRule {
     End,
     /// A number is below 2^32 and takes at most five bytes, or ten where it is passed over.
     Number,
-    /// A number of a field that is read is not negative.
+    /// A number of children, and an id that stands in full, are not negative.
     Negative,
     /// A text, a list, a set or a map has no more bytes or items than there are bytes left.
     Length,
@@ -27,12 +27,10 @@ pub enum FooterRule {
     Repeated,
     /// A field that is required is there.
     Missing,
-    /// A union has one field.
+    /// A union has one field, or none.
     Union,
     /// A text is UTF-8.
     Utf8,
-    /// A number that denotes one of several names denotes one that the format has.
-    Name,
 }
 
 impl FooterRule {
@@ -50,9 +48,8 @@ impl FooterRule {
             FooterRule::FieldId => "the id of a field is too large",
             FooterRule::Repeated => "a field stands twice",
             FooterRule::Missing => "a field is missing",
-            FooterRule::Union => "a union has no field, or several",
+            FooterRule::Union => "a union has several fields",
             FooterRule::Utf8 => "a text is not UTF-8",
-            FooterRule::Name => "a number denotes no name of the format",
         }
     }
 
@@ -76,7 +73,6 @@ impl FooterRule {
             FooterRule::Missing => "each required field",
             FooterRule::Union => "a union of one field",
             FooterRule::Utf8 => "UTF-8",
-            FooterRule::Name => "a number that denotes a name of the format",
         }
     }
 }

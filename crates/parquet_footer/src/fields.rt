@@ -1,11 +1,11 @@
 //! The fields of a struct that are read, by their ids.
 ghost use Rattle.std.specs.Prelude.{◌≡◌, option_map};
 ghost use Rattle.parquet_footer.specs.Fault.{Returns};
-ghost use Rattle.parquet_footer.specs.Fields.{spot, spots, noted, pair_at, number_in, name_in, text_in, flag_in, structs_in};
+ghost use Rattle.parquet_footer.specs.Fields.{spot, spots, noted, pair_at, number_in, count_in, numbers_at, text_in, flag_in, structs_in};
 
 use crate::fault::{Fault, FooterRule, broken};
 use crate::skip::{LEVELS, value_past};
-use crate::wire::{count_at, field_at, list_at, text_at};
+use crate::wire::{count_at, field_at, list_at, signed_at, text_at};
 
 /// The type of a value, and the bytes that it begins.
 #[derive(Clone, Copy)]
@@ -53,8 +53,19 @@ pub fn pair_at(bytes: &[u8], one: u16, other: u16) -> Result<(Found<'_>, Found<'
 }
 
 /// The number in a field, where it is there.
-pub fn number_in(place: Found<'_>) -> Result<Option<u32>, Fault>
+pub fn number_in(place: Found<'_>) -> Result<Option<i32>, Fault>
     ensures { result ≡ number_in (spots place.entry) }
+{
+    match place {
+        None => Ok(None),
+        Some(Place { kind: 5, bytes }) => Ok(Some(signed_at(bytes)?.0)),
+        Some(place) => Err(broken(FooterRule::WireType, place.bytes)),
+    }
+}
+
+/// The number in a field that is not negative, where it is there.
+pub fn count_in(place: Found<'_>) -> Result<Option<u32>, Fault>
+    ensures { result ≡ count_in (spots place.entry) }
 {
     match place {
         None => Ok(None),
@@ -63,19 +74,13 @@ pub fn number_in(place: Found<'_>) -> Result<Option<u32>, Fault>
     }
 }
 
-/// The name that the number in a field denotes, where it is there: the names stand in the order of their numbers, from 0 on.
-#[tactic(auto, unfolding(crate::specs::Fields::name_in))]
-pub fn name_in<T: Copy>(names: &[T], place: Found<'_>, bytes: &[u8]) -> Result<Option<T>, Fault>
-    ensures { result ≡ name_in names.now (spots place.entry) bytes.now }
+/// The numbers in two fields of a struct, by their ids, where they are there.
+#[tactic(auto, unfolding(crate::specs::Fields::numbers_at))]
+pub fn numbers_at(bytes: &[u8], one: u16, other: u16) -> Result<(Option<i32>, Option<i32>), Fault>
+    ensures { result ≡ numbers_at one other bytes.now }
 {
-    match number_in(place) {
-        Ok(Some(number)) => match names.get(number as usize) {
-            Some(name) => Ok(Some(*name)),
-            None => Err(broken(FooterRule::Name, bytes)),
-        },
-        Ok(None) => Ok(None),
-        Err(fault) => Err(fault),
-    }
+    let (first, second, _) = pair_at(bytes, one, other)?;
+    Ok((number_in(first)?, number_in(second)?))
 }
 
 /// The text in a field, where it is there.

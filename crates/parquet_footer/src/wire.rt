@@ -1,7 +1,7 @@
 //! Values of Thrift's compact protocol at the front of the bytes, each with the bytes behind it.
 ghost use Rattle.std.specs.Prelude.{◌≡◌, ◌<◌, length};
 ghost use Rattle.parquet_footer.specs.Fault.{Returns};
-ghost use Rattle.parquet_footer.specs.Wire.{number_at, number_past, count_at, bytes_past, binary_at, text_at, item_type, list_at, map_at, field_at};
+ghost use Rattle.parquet_footer.specs.Wire.{number_at, number_past, zigzag, signed_at, count_at, bytes_past, binary_at, text_at, item_type, list_at, map_at, field_at};
 
 use crate::fault::{Fault, FooterRule, broken};
 
@@ -46,6 +46,24 @@ pub fn number_past(bytes: &[u8], most: u32) -> Result<&[u8], Fault>
         Some((byte, behind)) if *byte < 128 => Ok(behind),
         Some(_) => Err(broken(FooterRule::Number, rest)),
     }
+}
+
+/// The number that zigzag writes so.
+fn zigzag(number: u32) -> i32
+    ensures { result ≡ zigzag number }
+{
+    let half = (number / 2) as i32;
+    if number % 2 == 0 { half } else { -1 - half }
+}
+
+/// A number in zigzag.
+#[tactic(auto, unfolding(crate::specs::Wire::signed_at))]
+#[inline(never)]
+pub fn signed_at(bytes: &[u8]) -> Result<(i32, &[u8]), Fault>
+    ensures { Returns (λ x. (x.0, x.1.now)) result (signed_at bytes.now) }
+{
+    let (number, rest) = number_at(bytes, 5)?;
+    Ok((zigzag(number), rest))
 }
 
 /// A number in zigzag that is not negative.

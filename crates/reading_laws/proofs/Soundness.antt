@@ -16,11 +16,11 @@ use Rattle.crs_identity.specs.declared.verdict.Verdict.TheVariants.{Contradict}
 use Rattle.geoparquet.specs.Codes.{severity_of}
 use Rattle.geoparquet.specs.Contradictions.{encodings_findings, encoding_contradicts_findings, edges_claims_findings, edges_contradict_findings, element_encoding, field_encoding, layout_encoding, element_metadata, own_metadata, element_edges, field_edges, said_edges}
 use Rattle.geoparquet.specs.CrsClaims.{pair_verdict, is_contradict, is_not_compared, verdict_findings, three_findings, claim_shown, own_shown, crs_at, crs_claims_findings, crs_contradicts_findings, element_json, field_json, element_crs, own_crs_in, said_crs}
-use Rattle.geoparquet.specs.Counting.{edges_on_projected_findings}
+use Rattle.geoparquet.specs.Counting.{edges_on_projected_findings, own_on_projected_findings}
 use Rattle.geoparquet.specs.Extensions.{IsJson}
 use Rattle.geoparquet.specs.Findings.{Finding}
 use Rattle.geoparquet.specs.Spelled.{spelled}
-use Rattle.geoparquet.specs.GeoFindings.{columns_findings, primary_findings, has_primary, key_finding, key_findings, storage_findings, fact_findings, box_findings, covered_findings, claim_findings, part_findings, own_findings, value_findings, member_findings, members_findings, column_alone_findings, alone_findings, missing_findings, object_findings, json_findings, geo_findings, unread_finding, AreTextFindings, AreSourceFindings}
+use Rattle.geoparquet.specs.GeoFindings.{columns_findings, primary_findings, has_primary, key_finding, name_finding, key_findings, storage_findings, fact_findings, box_findings, covered_findings, claim_findings, part_findings, own_findings, value_findings, member_findings, members_findings, column_alone_findings, alone_findings, missing_findings, object_findings, json_findings, geo_findings, unread_finding, AreTextFindings, AreSourceFindings}
 use Rattle.geoparquet.specs.Ordered.{are_some, columns_of, has_member}
 use Rattle.geoparquet.specs.RepeatedKeys.{repeated_findings}
 use Rattle.geoparquet.specs.Pairs.{first_pair, differ, of_element, of_field, pair_findings, text_findings}
@@ -148,18 +148,20 @@ together key c e f g k encoding crs edges no_encoding no_crs no_edges =
     }
 
 own_together : (key : Text) (c : Option ColumnTree) (e : Option Element) → HasNoError (own_findings key c e) → GoesTogether e c None None None
+unfolding own_findings
 own_together key c e h =
     let encodings = encodings_findings key None c e None in
     let crss = crs_claims_findings key None c e None in
     let edges = edges_claims_findings key None c e None in
-    let rest = before (encodings ++ crss) edges h in
-    together key c e None None None None None None (before encodings crss rest) (behind encodings crss rest) (behind (encodings ++ crss) edges h)
+    let three = before (encodings ++ crss ++ edges) (own_on_projected_findings key c e) h in
+    let two = before (encodings ++ crss) edges three in
+    together key c e None None None None None None (before encodings crss two) (behind encodings crss two) (behind (encodings ++ crss) edges three)
 
 part_together : (cs : List ColumnTree) (version : Version) (key : Text) (c : Option ColumnTree) (e : Option Element) (j : Json)
     → HasNoError (part_findings cs version key c e j)
-    → GoesTogether e c (layout_encoding version c j) (said_crs version (get (codes "crs") j)) (said_edges version (get (codes "edges") j))
+    → GoesTogether e c (layout_encoding version c e j) (said_crs version (get (codes "crs") j)) (said_edges version (get (codes "edges") j))
 part_together cs version key c e j h =
-    let storage = storage_findings version key c j in
+    let storage = storage_findings version key c e j in
     let facts = fact_findings version key j in
     let boxes = box_findings version key c e j in
     let covered = covered_findings cs version key c j in
@@ -172,7 +174,7 @@ part_together cs version key c e j h =
     let encoding = get (codes "encoding") j in
     let crs = get (codes "crs") j in
     let edge = get (codes "edges") j in
-    together key c e encoding crs edge (layout_encoding version c j) (said_crs version crs) (said_edges version edge)
+    together key c e encoding crs edge (layout_encoding version c e j) (said_crs version crs) (said_edges version edge)
     (before encodings crss two)
     (behind encodings crss two)
     (behind (encodings ++ crss) edges three)
@@ -180,19 +182,19 @@ part_together cs version key c e j h =
 -- ---- members, and columns without one
 
 module _ (cs : List ColumnTree) (xs : List (ColumnTree × Option Element)) where
-  one_column : (key : Text) (j : Json) → HasNoError (key_findings cs key j) → is_one cs key ≡ true
-  one_column key j h =
-      let one = chosen (is_some (first_of cs key)) (unless (is_one cs key) (key_finding ColumnRepeated key j)) (key_finding ColumnMissing key j) [] refl h in
-      kept (is_one cs key) (key_finding ColumnRepeated key j) refl one.1
+  one_column : (key : Text) → HasNoError (key_findings cs key) → is_one cs key ≡ true
+  one_column key h =
+      let one = chosen (is_some (first_of cs key)) (unless (is_one cs key) (name_finding ColumnRepeated key)) (name_finding ColumnMissing key) [] refl h in
+      kept (is_one cs key) (name_finding ColumnRepeated key) refl one.1
 
   sound_member : (version : Version) (m : Text × Json) → HasNoError (member_findings cs xs version m) → IsSoundMember cs xs version m
   sound_member version m h =
       let c = first_of cs m.0 in
       let e = element_named xs m.0 in
-      let keys = before (key_findings cs m.0 m.1) (value_findings cs version m.0 c e m.1) h in
-      let values = behind (key_findings cs m.0 m.1) (value_findings cs version m.0 c e m.1) h in
+      let keys = before (key_findings cs m.0) (value_findings cs version m.0 c e m.1) h in
+      let values = behind (key_findings cs m.0) (value_findings cs version m.0 c e m.1) h in
       let part = chosen (is_object m.1) (part_findings cs version m.0 c e m.1) (key_finding Member m.0 m.1) (own_findings m.0 c e) refl values in
-      record { object = part.0; column = one_column m.0 m.1 keys; together = part_together cs version m.0 c e m.1 part.1 }
+      record { object = part.0; column = one_column m.0 keys; together = part_together cs version m.0 c e m.1 part.1 }
 
   sound_alone : (ms : List (Text × Json)) (x : ColumnTree × Option Element) → HasNoError (column_alone_findings ms x) → IsSoundAlone ms x
   sound_alone ms x h none = own_together x.0.name (Some x.0) x.1 (otherwise (has_member x.0.name ms) [] (own_findings x.0.name (Some x.0) x.1) none h)

@@ -53,7 +53,7 @@ pub record GoesTogether (e : Option Element) (c : Option ColumnTree) (encoding :
 pub record IsSoundMember (cs : List ColumnTree) (xs : List (ColumnTree × Option Element)) (version : Version) (m : Text × Json) : Type 0 where
   pub object : is_object m.1 ≡ true
   pub column : is_one cs m.0 ≡ true
-  pub together : GoesTogether (element_named xs m.0) (first_of cs m.0) (layout_encoding version (first_of cs m.0) m.1)
+  pub together : GoesTogether (element_named xs m.0) (first_of cs m.0) (layout_encoding version (first_of cs m.0) (element_named xs m.0) m.1)
       (said_crs version (get (codes "crs") m.1)) (said_edges version (get (codes "edges") m.1))
 
 -- the element and the field of a column that has no member go together

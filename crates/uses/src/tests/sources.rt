@@ -361,6 +361,13 @@ const SCHEMAS: &[(Form, &[u8], usize, usize)] = &[
         78,
         72,
     ),
+    (Form::ArrowStream, b"\x03\0\0\0abcdefghijkl", 16, 16),
+    (
+        Form::ArrowStream,
+        b"\x40\0\0\0a message of 64 bytes, of which the last 4 are not in the head..behind",
+        74,
+        68,
+    ),
     (
         Form::Foreign(Foreign::Zip),
         b"PK\x03\x04 of which no more is read than the first bytes, from which its format is told",

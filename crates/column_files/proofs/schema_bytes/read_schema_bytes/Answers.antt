@@ -1,6 +1,6 @@
-use Rattle.std.proofs.Common.{◌≡◌, ◌+◌, ◌-◌, ◌<◌, length, drop, ap, ◌∙◌, arith}
-use Rattle.column_files.specs.Files.{size_in}
+use Rattle.std.proofs.Common.{◌≡◌, ◌-◌, ◌<◌, length, ap, ◌∙◌, arith}
 use Rattle.column_files.specs.ForeignFound.{looked_at}
+use Rattle.column_files.specs.Reading.{message_end}
 use Rattle.column_files.proofs.FirstMessage.{Given, enough, by_size, by_first, by_rest}
 use Rattle.column_files.proofs.schema_bytes.read_schema_bytes.Goals.{in-ArrowStream, in-Foreign, in-ArrowFile}
 use Rattle.column_files.proofs.schema_bytes.read_schema_bytes.Goals as goal
@@ -14,8 +14,8 @@ returns-clause-enough g c =
     let bytes = c.in_ok-read_up_to.field-0 in
     let given : Given form head bytes.items old new = elim c.match-form.branch [
       | in-ArrowStream w ↦
-          let size : c.match-form.rest ≡ 8 + size_in (drop 4 head) - length head =
-          w.rest-is ∙ w.left_of_message-rest.ensures ∙ ap (λ h. 8 + size_in (drop 4 h) - length h) w.as_slice.ensures.value in
+          let size : c.match-form.rest ≡ message_end head - length head =
+          w.rest-is ∙ w.left_of_message-rest.ensures ∙ ap (λ h. message_end h - length h) w.as_slice.ensures.value in
           by_size form head bytes.items old new c.match-form.rest w.in-ArrowStream.is size c.in_ok-read_up_to.ensures.ok
       | in-Foreign w ↦
           let size : c.match-form.rest ≡ looked_at w.in-Foreign.foreign - length head =

@@ -1,6 +1,6 @@
 use Rattle.std.proofs.Common.{[], refl, map, ap, subst, ◌∙◌, rules}
 use Rattle.arrow_columns.specs.Column.{column_tree}
-use Rattle.parquet_columns.specs.Claims.{claim}
+use Rattle.parquet_columns.specs.Layouts.{root_element}
 use Rattle.std.specs.List.{zip}
 use Rattle.geoparquet.specs.Facts.{facts_of}
 use Rattle.geoparquet.specs.Findings.{finding}
@@ -24,20 +24,20 @@ returns c =
       by = made;
       are_by = subst (λ s. AreColumnsBy s given made) c.source_of-source.ensures said.columns;
       columns =
-          let facts = said.facts ∙ ap (λ s. facts_of s given (map claim c.as_slice-3.result.now)) c.source_of-source.ensures
-          ∙ ap (λ es. facts_of (source_in c.args.opened.form c.args.opened.geo) given (map claim es)) c.as_slice-3.ensures.value in
-          let named = c.in_ok-named.ensures ∙ ap (λ rs. nobody_where rs (all_named (map column_tree c.as_slice.result.now) (map claim c.as_slice-2.result.now))) c.as_slice-flags.ensures.value
-          ∙ ap (λ cs. nobody_where c.args.opened.refuted.items (all_named (map column_tree cs) (map claim c.as_slice-2.result.now))) c.as_slice.ensures.value
-          ∙ ap (λ es. nobody_where c.args.opened.refuted.items (all_named given (map claim es))) c.as_slice-2.ensures.value in
+          let facts = said.facts ∙ ap (λ s. facts_of s given (map root_element c.as_slice-3.result.now)) c.source_of-source.ensures
+          ∙ ap (λ es. facts_of (source_in c.args.opened.form c.args.opened.geo) given (map root_element es)) c.as_slice-3.ensures.value in
+          let named = c.in_ok-named.ensures ∙ ap (λ rs. nobody_where rs (all_named (map column_tree c.as_slice.result.now) (map root_element c.as_slice-2.result.now))) c.as_slice-flags.ensures.value
+          ∙ ap (λ cs. nobody_where c.args.opened.refuted.items (all_named (map column_tree cs) (map root_element c.as_slice-2.result.now))) c.as_slice.ensures.value
+          ∙ ap (λ es. nobody_where c.args.opened.refuted.items (all_named given (map root_element es))) c.as_slice-2.ensures.value in
           let known = ap (λ fs. all_known fs (map named_view c.in_ok-named.named.items)) facts
-          ∙ ap (all_known (facts_of (source_in c.args.opened.form c.args.opened.geo) given (map claim c.args.opened.elements.items))) named in
+          ∙ ap (all_known (facts_of (source_in c.args.opened.form c.args.opened.geo) given (map root_element c.args.opened.elements.items))) named in
           subst (λ ks. AreReported c.args.infer (weighing c.args.weights.now) (zip made ks) c.in_ok-columns.columns.items) known c.in_ok-columns.ensures;
       geo = answer.report;
       is_geo =
           let v = answer.report.version in
           let fs = map finding answer.report.findings.items in
-          subst (λ s. AreGeoFindings s given (map claim c.args.opened.elements.items) v fs) c.source_of-source.ensures
-          (subst (λ es. AreGeoFindings (source c.source_of-source.result) given (map claim es) v fs) c.as_slice-3.ensures.value said.findings);
+          subst (λ s. AreGeoFindings s given (map root_element c.args.opened.elements.items) v fs) c.source_of-source.ensures
+          (subst (λ es. AreGeoFindings (source c.source_of-source.result) given (map root_element es) v fs) c.as_slice-3.ensures.value said.findings);
       findings = c.in_ok-findings.ensures ∙ ap (weighed (weighing c.args.weights.now)) c.in_ok-found.ensures;
       bad_lines = refl;
       summary = record { invalid = search rules; geometry = search rules; failed = search rules; bad_lines = search rules };

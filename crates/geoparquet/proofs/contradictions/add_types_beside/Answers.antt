@@ -4,7 +4,6 @@ use Rattle.std.proofs.lemmas.List.Elements.{All-get_or}
 use Rattle.json.specs.Value.{value_view}
 use Rattle.value_tokens.specs.Values.{IsReadable}
 use Rattle.geoparquet.specs.Contradictions.{goes_with}
-use Rattle.geoparquet.specs.Findings.{finding}
 use Rattle.geoparquet.specs.declared.code.GeoCode.TheVariants.{TypesContradict}
 use Rattle.geoparquet.proofs.Items.{all_items, one_item, value_at}
 use Rattle.geoparquet.proofs.contradictions.add_types_beside.Goals as goal

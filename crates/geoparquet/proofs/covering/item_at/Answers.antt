@@ -1,4 +1,3 @@
-use Rattle.std.proofs.Common.{sym, ◌∙◌}
 use Rattle.json.specs.Value.{value_view}
 use Rattle.geoparquet.proofs.Putting.{item_read}
 use Rattle.geoparquet.proofs.covering.item_at.Goals as goal

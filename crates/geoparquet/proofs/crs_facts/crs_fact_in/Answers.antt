@@ -1,9 +1,9 @@
-use Rattle.std.proofs.Common.{◌≡◌, IfOk, Option, option_map, subst}
+use Rattle.std.proofs.Common.{◌≡◌, IfOk, option_map, subst}
 use Rattle.json.specs.Json.{Json}
 use Rattle.json.specs.Value.{value_view}
 use Rattle.geoparquet.specs.CrsClaims.{element_crs, own_crs_in}
 use Rattle.geoparquet.specs.FactSources.{BySource}
-use Rattle.geoparquet.specs.Facts.{crs_fact_of, crs_view, member_crs}
+use Rattle.geoparquet.specs.Facts.{crs_fact_of, crs_view}
 use Rattle.geoparquet.specs.Sources.{element_view}
 use Rattle.geoparquet.proofs.crs_facts.crs_fact_in.Goals as goal
 

@@ -1,4 +1,4 @@
-use Rattle.std.proofs.Common.{◌≡◌, IfOk, Option, option_map, subst}
+use Rattle.std.proofs.Common.{◌≡◌, IfOk, option_map, subst}
 use Rattle.json.specs.Json.{Json}
 use Rattle.json.specs.Value.{value_view}
 use Rattle.crs_identity.specs.Verdicts.{claim}

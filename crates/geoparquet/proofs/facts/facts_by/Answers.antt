@@ -1,8 +1,7 @@
-use Rattle.std.proofs.Common.{◌≡◌, ap, map, option_map, subst, sym, take, ◌∙◌}
+use Rattle.std.proofs.Common.{ap, map, option_map, sym, take, ◌∙◌}
 use Rattle.json.specs.Value.{value_view}
-use Rattle.arrow_values.specs.Tree.{Text}
-use Rattle.geoparquet.specs.Facts.{column_facts, facts_view, if_object}
-use Rattle.geoparquet.specs.GeoColumns.{left_for, value_in}
+use Rattle.geoparquet.specs.Facts.{column_facts, if_object}
+use Rattle.geoparquet.specs.GeoColumns.{left_for}
 use Rattle.geoparquet.specs.Sources.{sourced}
 use Rattle.geoparquet.specs.Versions.{version_of}
 use Rattle.geoparquet.proofs.FactLists.{facts_end, facts_next, readable, tree_of, trees_more}

@@ -1,5 +1,5 @@
 use Rattle.std.proofs.Common.{Some, map, option_map, ap, sym, ◌∙◌}
-use Rattle.json.specs.Value.{items_view, value_view}
+use Rattle.json.specs.Value.{value_view}
 use Rattle.json.proofs.Trees.{view-Array}
 use Rattle.geoparquet.specs.Rules.{items_in}
 use Rattle.geoparquet.proofs.Items.{array_readable, list_of_items}

@@ -1,0 +1,32 @@
+use Rattle.std.proofs.Common.{◌≡◌, ◌-◌, ◌+◌, length, map, take, drop, ap, ◌∙◌, arith}
+use Rattle.std.proofs.lemmas.List.{length-drop, take_all}
+use Rattle.parquet_footer.specs.Element.{element}
+use Rattle.parquet_columns.specs.Layouts.{layout_of}
+use Rattle.parquet_columns.proofs.Children.{same_item}
+use Rattle.parquet_columns.proofs.Laying.{laid_one, laid_below, laid_all}
+use Rattle.parquet_columns.proofs.layouts.layouts_in.Goals as goal
+use Rattle.parquet_columns.proofs.layouts.layouts_in.Goals.{then-below-eq0+in_ok-push, else-below-eq0}
+
+pub loop-at-preserved : goal.loop-at-preserved
+loop-at-preserved c =
+    let l = c.loop-at in
+    let es = c.args.elements.now in
+    let i = l.at in
+    let lt = c.loop-at-test.true in
+    let count = c.count_of-count.ensures.count in
+    let small = c.count_of-count.ensures.small in
+    let size = length-drop i es in
+    let whole : take (length es - i) (drop i es) ≡ drop i es = take_all (length es - i) (drop i es) (omega (arith, size)) in
+    elim c.if-below-eq0.branch [
+      | then-below-eq0+in_ok-push w ↦ record {
+        so_far = laid_one es i l.made.items l.below l.invariant.so_far _ _ _ _ (ap (λ v. v.items) w.made-is ∙ w.in_ok-push.ensures.items) (w.layout_of.ensures ∙ ap (λ xs. layout_of (map element xs)) whole) (w.below-is ∙ count) (omega arith) lt (same_item es i _ lt);
+        few = omega (arith, small);
+      }
+      | else-below-eq0 w ↦ record {
+        so_far = laid_below es i l.made.items l.below l.invariant.so_far _ _ _ (ap (λ v. v.items) w.made-is) (w.below-is ∙ ap (λ n. l.below - 1 + n) count) (omega arith) lt (same_item es i _ lt);
+        few = omega (arith, small);
+      }
+    ]
+
+pub returns : goal.returns
+returns c = laid_all c.args.elements.now c.loop-at.at c.loop-at.made.items c.loop-at.below c.loop-at.invariant.so_far c.loop-at-test.false

@@ -1,0 +1,6 @@
+mod Printed
+mod Naming
+mod Joining
+mod Ranking
+mod Itself
+mod Exchanging

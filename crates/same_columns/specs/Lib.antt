@@ -1,0 +1,5 @@
+pub mod Compared
+pub mod Aspects
+pub mod Ranks
+pub mod Differences
+pub mod Laws
