@@ -26,7 +26,7 @@ PASSED_OVER = {
 CODE = r'''//! Reads messages again and again, or changes them and says what each is read as.
 #![tactic(auto)]
 
-use arrow_columns::ColumnType;
+use arrow_columns::AnyType;
 use arrow_ipc::{Endianness, IpcError, NESTING_LIMIT, Schema, read_file_footer, read_schema};
 use arrow_values::DataType;
 use parquet_footer::{FooterError, read_footer};
@@ -272,7 +272,7 @@ fn digest_of(alloc: Global, schema: &Schema) -> Result<u64, AllocError> {
     for column in schema.columns.as_slice() {
         digest = with_text(digest, column.notation(alloc)?.as_bytes());
         digest = with_metadata(digest, &column.metadata);
-        if let ColumnType::Data(data_type) = &column.data_type {
+        if let AnyType::Data(data_type) = &column.data_type {
             digest = with_nested(digest, data_type, NESTING_LIMIT);
         }
     }

@@ -4,6 +4,7 @@ import io
 import mmap
 import os
 import pathlib
+import re
 import tempfile
 import threading
 import unittest
@@ -11,7 +12,7 @@ import unittest
 from geoarrow_fields import Schema, SchemaError, canon, check, read, sources, write_schema
 from geoarrow_fields.sources import given_of
 
-from .shared import DATA, POINT, TEXT
+from .shared import DATA, POINT, TEXT, TOP
 
 LINES = f"{TEXT}\n{POINT}\n".encode()
 MESSAGE = b"\xff\xff\xff\xff" + (24).to_bytes(4, "little") + bytes(range(24))
@@ -170,6 +171,10 @@ class Files(InAFolder):
 
         given_of(Told(b"\xff" * 8 + b"rest"))
         self.assertLessEqual(max(asked), sources._AT_ONCE)
+
+    def test_as_many_bytes_tell_the_format_as_the_library_looks_at(self):
+        form = (TOP / "crates/column_files/src/form.rt").read_text(encoding="utf-8")
+        self.assertEqual(sources._MOST_LOOKED_AT, int(re.search(r"HEAD_BYTES: usize = (\d+);", form)[1]))
 
     def test_files_of_text(self):
         with open(self.file(LINES), encoding="utf-8") as file:
