@@ -8,10 +8,10 @@
  * At GEOARROW_REFUSED what is written is one line, with a line feed behind it, which says why the bytes are refused. It is the line of
  * a finding: a JSON object without blanks, with these keys in this order, of which those that do not apply are left out. `kind` is
  * `finding`, and `severity` is `error`; `code` says what is wrong; `file` is the name that was given; the place is `index`, that of a
- * column, `in`, the part of the file, `message`, `footer` or `elements`, and the numbers `byte`, `line` and `element`; `found` says
+ * column, `in`, the part of the file, `footer` or `elements`, and the numbers `byte` and `line`; `found` says
  * what stands there, `expected` what is expected, and `help` what to try. As
- * `{"kind":"finding","severity":"error","code":"Encrypted","found":"PARE","expected":"PAR1","help":"A copy with a plain footer is needed"}`.
- * docs/FORMAT.md, 2.8, has all codes, and where lines, bytes, elements and columns are counted from.
+ * `{"kind":"finding","severity":"error","code":"Encrypted","byte":4092,"found":"PARE","expected":"PAR1","help":"A copy with a plain footer is needed"}`.
+ * docs/FORMAT.md, 2.8, has all codes, and where lines, bytes and columns are counted from.
  *
  * What a caller owes:
  * - Each pointer is not null, also where its length is 0, and leads to so many bytes; `len` leads to a size_t. No length is
@@ -81,8 +81,8 @@ uint8_t geoarrow_run(uint8_t command, const uint8_t *input, size_t input_len, ui
  * `{"kind":"finding","severity":"error","code":"GeoEpoch","column":"g","in":"geo","pointer":"/columns/g/epoch","found":"\"2020\"","expected":"a number"}`.
  *
  * `options` is 0 to 3, a sum of GEOARROW_INFER_TYPES and GEOARROW_NOTES. `name` is the name of the file in UTF-8, which the lines
- * have at `file`; where `name_len` is 0 they have none. Of an Arrow or Parquet file its end may stand for the file; a byte of an
- * Arrow file is then counted from the first byte given.
+ * have at `file`; where `name_len` is 0 they have none. Of an Arrow or Parquet file its first eight bytes and
+ * its end may stand for the file; a byte is then counted from the first byte given, as if nothing stood between them.
  * Statuses: DONE and REFUSED, with the lines in `out`; SHORT, of either; MEMORY and UNKNOWN, at which `out` and `*len` are
  * unchanged. */
 uint8_t geoarrow_report(uint8_t options, const uint8_t *name, size_t name_len, const uint8_t *bytes, size_t bytes_len, uint8_t *out,

@@ -4,6 +4,7 @@ A model of its own, which shares no code with the crates. `said` gives the parts
 tables of its code, `value` is the JSON of such parts, `line` their line, and `words` what a table says
 of them; `column_line` is the line of a column (2.5).
 """
+import collections
 import json
 import pathlib
 import re
@@ -18,6 +19,8 @@ COLUMN_KEYS = (
     "crs_from", "edges", "edges_from", "epoch", "orientation", "geometry_types", "bbox", "verdicts",
     "findings")
 SHOWN = 120
+# How many findings of one code are told: of a column (2.6), and of a file (5.1).
+OF_COLUMN, OF_FILE = 16, 100
 
 
 def tables(head):
@@ -55,6 +58,31 @@ def said(code, wanted=None, **parts):
     expected, advice = WORDS[code][0 if parts.get("in") in ("field", "extension metadata") else -1]
     expected = expected if wanted is None else f"{expected} ({wanted})"
     return {"severity": WEIGHS[code], "code": code, "expected": expected, "help": advice, **parts}
+
+
+def first_of(most, key, found):
+    """Of findings with one key the first so many, of which the last stands for the others, too; those
+    without a key stay."""
+    counts, kept, last = collections.Counter(), [], {}
+    for it in found:
+        counts[key(it)] += 1
+        if key(it) is None or counts[key(it)] <= most:
+            kept.append(dict(it))
+            last[key(it)] = kept[-1]
+        else:
+            last[key(it)]["more"] = last[key(it)].get("more", 0) + 1 + it.get("more", 0)
+    return kept
+
+
+def kept_of_column(found):
+    """What is told of findings of a column."""
+    return first_of(OF_COLUMN, lambda it: it["code"], found)
+
+
+def kept_of_file(found):
+    """What is told of findings of a file, of which some name a column."""
+    named = first_of(OF_COLUMN, lambda it: None if it.get("column") is None else (it["code"], it["column"]), found)
+    return first_of(OF_FILE, lambda it: it["code"], named)
 
 
 def there(parts):

@@ -21,8 +21,10 @@ from .geo_json import ABSENT, Members, NotJson, Number, at, read, text_of
 
 ROWS = pathlib.Path(__file__).resolve().parent.parent / "crates/file_rows/data/geo"
 NAME, METADATA = "ARROW:extension:name", "ARROW:extension:metadata"
-# The rule, the key of `columns`, a JSON pointer, what stands at that place, and what is wanted.
-Finding = collections.namedtuple("Finding", "code column pointer found wanted more", defaults=(0,))
+# The rule, the key of `columns`, a JSON pointer, what stands at that place, and what is wanted; and
+# the source that it is found in.
+GEO, ELEMENT, FIELD = "geo", "element", "field"
+Finding = collections.namedtuple("Finding", "code column pointer found wanted more source", defaults=(0, GEO))
 MOST = 16  # (findings of one code in a column that are told one by one)
 
 # What a file has at `geo` where it has no value: nothing is missing, or it is a Parquet file.
@@ -262,8 +264,8 @@ def add_member(it):
         add_box(it)
         add_covering(it)
     add_contradictions(it)
-    if not is_old and on_projected(*it.claims()):
-        it.add("EdgesOnProjected", "edges")
+    if not is_old:
+        add_on_projected(it.judged, it.key, *it.claims())
 
 
 def add_encoding(it):
@@ -429,8 +431,12 @@ def add_bounds(it, bounds):
     for bound, path in paths:
         if path[1] != bound:
             it.add("GeoCoveringName", "covering", "bbox", bound, 1, wanted=bound)
-    code, bound = fault_of_group(it, paths)
-    if code:
+    code, bound, kind = fault_of_group(it, paths)
+    if code == "GeoCoveringType":
+        place = pointer_to(("columns", it.key, "covering", "bbox", bound))
+        found = shown(geo_layouts.notation(kind))
+        it.judged.found.append(Finding(code, it.key, place, found, None))
+    elif code:
         it.add(code, "covering", "bbox", bound)
 
 
@@ -440,32 +446,37 @@ def is_path(value):
 
 
 def fault_of_group(it, paths):
-    """The first fault of the group that paths lead to, and the first bound that shows it."""
+    """The first fault of the group that paths lead to, the first bound that shows it, and the type to
+    which that leads."""
     name = paths[0][1][0]
     of_name = [column for column in it.judged.columns if column["name"] == name]
     children = fields_of(of_name[0]["type"]) if len(of_name) == 1 else {}
     for bound, path in paths:
         if path[0] != name or path[1] not in children:
-            return "GeoCoveringColumn", bound
+            return "GeoCoveringColumn", bound, None
     kind = children[paths[0][1][1]]
     for bound, path in paths:
         if children[path[1]] not in ("float32", "float64") or children[path[1]] != kind:
-            return "GeoCoveringType", bound
+            return "GeoCoveringType", bound, children[path[1]]
     is_other = set(children) - set(HIGH) - {path[1] for _, path in paths}
     if is_other or it.column and it.column["nullable"] != of_name[0]["nullable"]:
-        return "GeoCoveringShape", paths[0][0]
-    return None, None
+        return "GeoCoveringShape", paths[0][0], None
+    return None, None, None
+
+
+def fields_in(kind):
+    """The fields of a struct; of one of other types they stand beside its notation."""
+    return kind.get("struct", ()) if isinstance(kind, dict) else ()
 
 
 def fields_of(kind):
-    """The types of the fields of a struct, by their names."""
-    fields = kind.get("struct", ()) if isinstance(kind, dict) else ()
-    return {field["name"]: field["type"] for field in fields}
+    """The types of the fields of a struct, by their names: of the first of each name."""
+    return {field["name"]: field["type"] for field in reversed(fields_in(kind))}
 
 
 def is_box_group(kind):
     """Whether a type is a struct of the bounds of a covering, each once, and of no others."""
-    fields = kind.get("struct", ()) if isinstance(kind, dict) else ()
+    fields = fields_in(kind)
     names = sorted(field["name"] for field in fields)
     kinds = [field["type"] for field in fields]
     return names in (sorted(FLAT), sorted(HIGH)) and kinds in (
@@ -599,9 +610,8 @@ def add_alone(judged, column, element):
     name = column["name"]
     of_element, field = claims_of(column, element)
     for code, _, found, wanted in disagreements(of_element, field, NOTHING):
-        judged.found.append(Finding(code, name, "", found, wanted))
-    if on_projected(of_element, NOTHING, field):
-        judged.found.append(Finding("EdgesOnProjected", name, "", None, None))
+        judged.found.append(Finding(code, name, "", found, wanted, source=FIELD))
+    add_on_projected(judged, name, of_element, NOTHING, field)
 
 
 def add_contradictions(it):
@@ -613,7 +623,7 @@ def add_contradictions(it):
         if field_says is None:
             it.add(code, fact, wanted=wanted)
         else:
-            it.judged.found.append(Finding(code, it.key, "", field_says, wanted))
+            it.judged.found.append(Finding(code, it.key, "", field_says, wanted, source=FIELD))
 
 
 def claims_of_member(it):
@@ -653,16 +663,20 @@ def class_of(*claims):
     return geo_crs.class_of(crs) if crs else None
 
 
-def effective_edges(*claims):
-    """The edges that count, by the same rule; planar where none are said."""
-    said = [it for it in claims if it.edges]
-    ordered = [it.edges for it in said if not it.edges_are_default] + [it.edges for it in said]
-    return ordered[0] if ordered else "planar"
+def effective_edges(element, member, field):
+    """The source of the edges that count, by the same rule, and these; planar where none are said."""
+    said = [it for it in ((ELEMENT, element), (GEO, member), (FIELD, field)) if it[1].edges]
+    written = [it for it in said if not it[1].edges_are_default]
+    return next(((source, claims.edges) for source, claims in written + said), (None, "planar"))
 
 
-def on_projected(*claims):
-    """Whether the edges that count are not planar, and the CRS that counts is projected."""
-    return effective_edges(*claims) != "planar" and class_of(*claims) == "projected"
+def add_on_projected(judged, key, *claims):
+    """That the edges that count are not planar, and the CRS that counts is projected: in the source of
+    the edges, whose place is known in a member."""
+    source, edges = effective_edges(*claims)
+    if edges != "planar" and class_of(*claims) == "projected":
+        place = pointer_to(("columns", key, "edges")) if source == GEO else ""
+        judged.found.append(Finding("EdgesOnProjected", key, place, text_of(edges), None, source=source))
 
 
 def element_of(words):
@@ -696,8 +710,11 @@ def asked(command, text):
 
 
 def words_of(finding):
-    """A finding as a row spells it: how many more it stands for only where there are some."""
-    said = "|".join("-" if part is None else part for part in finding[:5])
+    """A finding as a row spells it: the source that it is found in, where that is not `geo`, in place
+    of a pointer; how many more it stands for only where there are some."""
+    place = finding.pointer if finding.source == GEO else finding.source
+    parts = (finding.code, finding.column, place, finding.found, finding.wanted)
+    said = "|".join("-" if part is None else part for part in parts)
     return f"{said}|{finding.more} more" if finding.more else said
 
 

@@ -81,23 +81,26 @@ def help_of(code, version, found):
     return f"Did you mean {near}?" if near else said(code, "help", ROWS[code][4], version)
 
 
-# Where what is in no place of the metadata of GeoParquet is: of a file without any, and what a field
-# says against its element.
-FIELDS = {
-    "NoGeoMetadata": ("file", None),
-    "EncodingContradicts": ("field", None),
-    "CrsContradicts": ("extension metadata", "/crs"),
-    "CrsNotCompared": ("extension metadata", "/crs"),
-    "EdgesContradict": ("extension metadata", "/edges"),
-    "EdgesOnProjected": ("extension metadata", "/edges")}
+# Where findings are in what an element or a field says.
+OWN = {"EncodingContradicts": None, "CrsContradicts": "/crs", "CrsNotCompared": "/crs",
+       "EdgesContradict": "/edges", "EdgesOnProjected": "/edges"}
+
+
+def place(finding):
+    """The part that a finding is in, and its pointer there: in the metadata of GeoParquet, in the file
+    where it has none, in the elements, or in a field."""
+    if finding.source == "geo":
+        return ("file", None) if finding.code == "NoGeoMetadata" else ("geo", finding.pointer)
+    pointer = OWN[finding.code]
+    if finding.source == "element":
+        return "elements", pointer
+    return "field" if pointer is None else "extension metadata", pointer
 
 
 def parts(version, finding):
     """The parts of a finding, by the rules of a version."""
     code = finding.code
-    part, pointer = "geo", finding.pointer
-    if not pointer:
-        part, pointer = FIELDS.get(code, (part, pointer))
+    part, pointer = place(finding)
     return {
         "severity": severity(code), "code": code, "column": finding.column, "in": part,
         "pointer": pointer, "found": finding.found,

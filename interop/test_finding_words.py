@@ -113,5 +113,30 @@ class Lines(unittest.TestCase):
         self.assertEqual(finding_words.shown_bytes(b"a\xe7\x82\n"), "a\\xe7\\x82\n")
 
 
+def listed(file, name):
+    """The texts of a definition that lists some."""
+    text = (CRATES / file).read_text(encoding="utf-8")
+    return re.findall('codes "([^"]*)"', re.search(f"^{name} =(.*?)\\[\\]", text, re.M | re.S)[1])
+
+
+def in_backticks(file, begin, end):
+    """The texts in backticks of a document between two phrases."""
+    text = (CRATES.parent / file).read_text(encoding="utf-8")
+    return re.findall("`([^`]*)`", text[text.index(begin):].split(end)[0])
+
+
+class Lists(unittest.TestCase):
+    def test_names_of_geometries(self):
+        names = in_backticks("docs/FORMAT.md", "Columns of geometries are named", ", in any letters")
+        self.assertEqual(names, listed("column_check/specs/GeometryNames.antt", "geometry_names"))
+
+    def test_endings_of_files_in_folders(self):
+        endings = listed("check_options/specs/Folder.antt", "endings")
+        self.assertEqual(in_backticks("docs/FORMAT.md", "A folder stands for its files", ", and for"), endings)
+        self.assertEqual(in_backticks("docs/USE.md", "end in `.parquet`", ", down all"), endings)
+        program = (CRATES.parent / "python/geoarrow_fields/__main__.py").read_text(encoding="utf-8")
+        self.assertEqual(re.findall('"([^"]*)"', re.search(r"^ENDINGS = \((.*)\)", program, re.M)[1]), endings)
+
+
 if __name__ == "__main__":
     unittest.main()

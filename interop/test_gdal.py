@@ -310,5 +310,5 @@ class Check(InAFolderWithGdal):
         status, text, told = self.ran("--check", "--json", "--program", CHECK, self.made("places.gpkg"))
         found = [json.loads(one) for one in text.splitlines()]
         self.assertEqual((status, told), (0, ""))
-        self.assertEqual([one["state"] for one in found], ["plain", "inferred", "plain", "plain", "geometry"])
+        self.assertEqual([one["state"] for one in found], ["plain", "plain", "plain", "plain", "geometry"])
         self.assertTrue(found[3]["type"].startswith("timestamp[ms"))

@@ -107,7 +107,8 @@ class Words(unittest.TestCase):
         self.assertEqual(list(names.values()), list(geo_words.ROWS))
         self.assertEqual(list(names.values()), list(geo_findings.CODES))
         rules, weights = self.table(words, "rule_of"), self.table(codes, "severity_of")
-        expected, advice = self.table(words, "expected_of"), self.table(words, "advice_of")
+        expected = self.table(words, "expected_of")
+        advice = {**self.table(words, "advice_of"), **self.table(words, "member_advice")}
         for key, code in names.items():
             with self.subTest(code):
                 self.assertEqual(geo_words.severity(code), weights[key].lower())

@@ -11,10 +11,10 @@ import unittest
 from .finding_words import tables, text_in
 
 CRATES = pathlib.Path(__file__).resolve().parent.parent / "crates"
-IPC, FOOTER, ELEMENTS, FILES = (
+IPC, FOOTER, ELEMENTS, FILES, ENDS = (
     (CRATES / crate / "specs" / file).read_text(encoding="utf-8")
-    for crate, file in (("arrow_ipc", "Rules.antt"), ("parquet_footer", "Rules.antt"),
-                        ("parquet_columns", "Rules.antt"), ("column_files", "Refusals.antt")))
+    for crate, file in (("arrow_ipc", "Rules.antt"), ("parquet_footer", "Rules.antt"), ("parquet_columns", "Rules.antt"),
+                        ("column_files", "Refusals.antt"), ("column_files", "Endings.antt")))
 PRINTED = (CRATES / "file_check/specs/Printed.antt").read_text(encoding="utf-8")
 UNLIKE = (CRATES / "file_check/specs/Unlike.antt").read_text(encoding="utf-8")
 FORMAT = (CRATES.parent / "docs/FORMAT.md").read_text(encoding="utf-8")
@@ -47,15 +47,15 @@ def defined():
     """The rows of 2.8 by the definitions, but for those that stand for other tables."""
     parts, no_help = ("code", "found", "expected", "help"), {"": None}
     of_rules = {rule: code for rule, code in said(FILES, "rule_code").items() if rule}
-    of_parquet = ({**said(FOOTER, name), **said(ELEMENTS, name)} for name in ("error_message", "error_wanted"))
+    encrypted = re.findall(f"rule = Encrypted; .*found = {TEXT}; expected = {TEXT} ", ENDS)
     of_long_lines, = re.findall(
         f"^long_told .*\n  code = {TEXT};\n.*\n  found = {TEXT};\n  expected = {TEXT};\n  help = None;", FILES, re.M)
     return (
         rows(*(said(FILES, f"line_{part}") for part in parts)) | {(*of_long_lines, None)}
         | rows(*(said(FILES, f"fault_{part}") for part in parts))
-        | rows(of_rules, said(IPC, "rule_message"), said(IPC, "rule_wanted"), said(FILES, "rule_help"))
+        | {(said(FILES, "end_code")["Encrypted"], *it, said(FILES, "end_help")["Encrypted"]) for it in encrypted}
+        | rows(of_rules, said(IPC, "rule_message"), said(IPC, "rule_wanted"), no_help)
         | rows(said(FILES, "ipc_code"), said(IPC, "error_message"), said(IPC, "error_wanted"), no_help)
-        | rows(said(FILES, "parquet_code"), *of_parquet, said(FILES, "parquet_help"))
         | rows(said(IPC, "write_code"), said(IPC, "write_message"), said(IPC, "write_wanted"), no_help))
 
 
@@ -65,8 +65,11 @@ class Words(unittest.TestCase):
         whole = [row for row in told if row[1] is not None]
         self.assertEqual(len(whole), len(set(whole)))
         self.assertEqual(set(whole), defined())
-        others = [*re.findall(f"^  code = {TEXT};$", PRINTED, re.M), said(FILES, "fault_code")["Foreign"], said(FILES, "parquet_code")["Invalid"],
-                  said(FILES, "rule_code")[""], said(FILES, "parquet_code")["Elements"]]
+        codes, ends = said(FILES, "fault_code"), said(FILES, "end_code")
+        cut = [(ends["Truncated"], words, said(FILES, "end_help")["Truncated"]) for words in (*said(ENDS, "magic_words").values(), None)]
+        self.assertEqual(sorted((row[0], row[2] or "", row[3]) for row in told if row[0] == ends["Truncated"]), sorted((code, words or "", help) for code, words, help in cut))
+        others = [*re.findall(f"^  code = {TEXT};$", PRINTED, re.M), codes["Foreign"], codes["Footer"], codes["Tree"], said(FILES, "rule_code")[""],
+                  ends["FooterLength"], *(code for code, _, _ in cut)]
         self.assertEqual(sorted(row[0] for row in told if row[1] is None), sorted(others))
 
     def test_codes(self):

@@ -71,7 +71,7 @@ With them why files are refused, bad lines and what is not met; all on standard 
   lines: error[Expect]: no column b
   lines: error[NoGeometry]: no column of geometries
   2
-  cut.parquet: error[FooterLength]: found a footer of no bytes, or of more than stand before its size; expected a footer before its size
+  cut.parquet: error[FooterLength] byte 0: found 827474256; expected a footer before its size
   2
   nowhere: error[CannotRead]: found No such file or directory (os error 2); expected a file that can be read
   2
@@ -219,6 +219,154 @@ What a column is expected to hold: parts in any order
   ../examples/schema.jsonl: error[Expect]: column id holds no geometries
   [1]
 
+Letters are alike in words, edges are words too, and a CRS is met by one that agrees with it, whatever its form; one that is not known by none
+
+  $ crs() {
+  >     printf '{"metadata":{"ARROW:extension:metadata":"{%s}","ARROW:extension:name":"geoarrow.%s"},"name":"%s","nullable":true,"type":"%s"}\n' "$1" "${3-wkb}" "$2" "${4-binary}"
+  > }
+  > (crs '\"crs\":\"EPSG:4326\",\"edges\":\"spherical\"' code; crs '' none wkt utf8; crs '\"crs\":{\"type\":\"GeographicCRS\",\"name\":\"WGS 84\",\"id\":{\"authority\":\"OGC\",\"code\":\"CRS84\"}}' projjson) > "$TMPDIR/crs.jsonl"
+  > cd "$TMPDIR" && for want in code=EPSG:4326 code=epsg:4326,Spherical,WKB,Wkb code=ogc:crs84 code=EPSG:3857 code=planar code=EPSG:432 none=PLANAR,Wkt none=EPSG:4326 none=unknown projjson=EPSG:4326,planar projjson=OGC:CRS83 'projjson=WGS 84'
+  > do
+  >     geoarrow_check -q --expect "$want" crs.jsonl && echo "met: $want"
+  > done
+  met: code=EPSG:4326
+  met: code=epsg:4326,Spherical,WKB,Wkb
+  met: code=ogc:crs84
+  crs.jsonl: error[Expect]: column code is not EPSG:3857: wkb - -, EPSG:4326, spherical
+  crs.jsonl: error[Expect]: column code is not planar: wkb - -, EPSG:4326, spherical
+  crs.jsonl: error[Expect]: column code is not EPSG:432: wkb - -, EPSG:4326, spherical
+  met: none=PLANAR,Wkt
+  crs.jsonl: error[Expect]: column none is not EPSG:4326: wkt - -, no CRS, planar
+  crs.jsonl: error[Expect]: column none is not unknown: wkt - -, no CRS, planar
+  met: projjson=EPSG:4326,planar
+  crs.jsonl: error[Expect]: column projjson is not OGC:CRS83: wkb - -, OGC:CRS84, planar
+  crs.jsonl: error[Expect]: column projjson is not WGS 84: wkb - -, OGC:CRS84, planar
+  [1]
+
+An expectation of which a part is empty is refused
+
+  $ for want in g= g=, g=point, g=,point g=point,,XY
+  > do
+  >     geoarrow_check --expect "$want" x 2>&1 | head -n 1
+  > done
+  error: a part of WANT is empty in 'g='
+  error: a part of WANT is empty in 'g=,'
+  error: a part of WANT is empty in 'g=point,'
+  error: a part of WANT is empty in 'g=,point'
+  error: a part of WANT is empty in 'g=point,,XY'
+
+A folder stands for its files with seven endings, down all folders, in the order of bytes; what begins with `_` or `.` is left out, and a link to a folder is not followed
+
+  $ cd "$TMPDIR" && mkdir -p lake/sub/deep lake/_tmp lake/.h lake/none lake/d.parquet && for file in b.jsonl a.ndjson A.jsonl sub/x.jsonl sub-1.jsonl sub/deep/y.ndjson _tmp/z.jsonl .h/z.jsonl sub/_q.jsonl sub/.q.jsonl c.json d.JSONL e.jsonl.crc jsonl d.parquet/part.jsonl
+  > do
+  >     echo '{"name":"a","nullable":true,"type":"null"}' > lake/$file
+  > done
+  > ln -s ../sub lake/none/link && ln -s ../b.jsonl lake/none/link.jsonl
+  > for words in lake 'lake/none/ lake//sub' 'lake/c.json lake/_tmp' lake/none/link
+  > do
+  >     echo $(geoarrow_check --json $words | sed 's/.*"file":"\([^"]*\)".*/\1/')
+  > done
+  > for end in parquet geoparquet arrow feather arrows jsonl ndjson; do : > lake/none/f.$end; done
+  > geoarrow_check -q lake/none | cut -d: -f1
+  lake/A.jsonl lake/a.ndjson lake/b.jsonl lake/d.parquet/part.jsonl lake/none/link.jsonl lake/sub-1.jsonl lake/sub/deep/y.ndjson lake/sub/x.jsonl
+  lake/none/link.jsonl lake//sub/deep/y.ndjson lake//sub/x.jsonl
+  lake/c.json lake/_tmp/z.jsonl
+  lake/none/link/deep/y.ndjson lake/none/link/x.jsonl
+  lake/none/f.arrow
+  lake/none/f.arrows
+  lake/none/f.feather
+  lake/none/f.geoparquet
+  lake/none/f.jsonl
+  lake/none/f.ndjson
+  lake/none/f.parquet
+  8 files
+
+A folder that is not listed, or not all of it, is refused, and the other files are read; one without files says nothing, and an Arrow stream is of one file
+
+  $ cd "$TMPDIR" && mkdir -p some/part none && L='{"name":"a","nullable":true,"type":"null"}' && echo "$L" > some/b.jsonl && echo "$L" > some/part/c.jsonl && echo "$L" > "$(printf 'some/part/\377.jsonl')"
+  > geoarrow_check --json some 2>&1 | sed 's/"found":"[^"]*"/"found":".."/; s/found .*;/found ..;/'
+  > geoarrow_check none && geoarrow_check --ipc some; echo $?
+  > rm some/part/*l && geoarrow_check --ipc some > one && geoarrow_check --ipc some/b.jsonl | cmp - one && echo one
+  {"kind":"column","file":"some/b.jsonl","index":0,"column":"a","state":"plain","type":"null"}
+  {"kind":"finding","severity":"error","code":"CannotRead","file":"some/part","found":"..","expected":"a file that can be read"}
+  some/part: error[CannotRead]: found ..; expected a file that can be read
+  {"kind":"column","file":"some/part/c.jsonl","index":0,"column":"a","state":"plain","type":"null"}
+  geoarrow_check: --ipc takes one file
+  2
+  one
+
+Colours are on a terminal alone, unless they are refused; or as is asked, in tables and lines of errors
+
+  $ on_terminal() { python3 -c 'import pty, sys; pty.spawn(sys.argv[1:])' "$@" | tr -d '\r'; }
+  > cd "$TMPDIR" && cp "$top/crates/geoarrow_check/data/stored.parquet" . && echo '{"metadata":{"ARROW:extension:name":"geoarrow.wkb"},"name":"a","nullable":true,"type":"utf8"}' > a.jsonl && unset NO_COLOR COLUMNS
+  > for words in '-q a.jsonl' '-q --color never a.jsonl' '--problems a.jsonl' '--problems stored.parquet' '--problems --deny warnings stored.parquet' '--format github a.jsonl'
+  > do
+  >     on_terminal geoarrow_check $words | sed -n 's/\(NoGeoMetadata\]\|WrongStorage\]\|::error\|title\).*/\1/; /\[/p; /::/p' | cat -v
+  > done
+  > NO_COLOR=1 on_terminal geoarrow_check -q a.jsonl | cat -v
+  > NO_COLOR= on_terminal geoarrow_check -q a.jsonl | cut -c-12 | cat -v
+  > for words in '-q' '-q --color=always' '--color auto -q' '--color never --color always --problems' '--color always --format github'
+  > do
+  >     NO_COLOR=1 geoarrow_check $words a.jsonl | grep WrongStorage | sed 's/\(WrongStorage][^ ]*\).*/\1/' | cat -v
+  > done
+  a.jsonl: ^[[1;31merror[WrongStorage]
+  a.jsonl: error[WrongStorage]
+      ^[[1;31merror[WrongStorage]
+  ^[[1;33mwarning[NoGeoMetadata]
+  ^[[1;31merror[NoGeoMetadata]
+  ::error
+  a.jsonl: error[WrongStorage] column a, field: found utf8; expected binary, large_binary or binary_view. For WKT use geoarrow.wkt.
+  a.jsonl: ^[[1
+  a.jsonl: error[WrongStorage]
+  a.jsonl: ^[[1;31merror[WrongStorage]^[[0m
+  a.jsonl: error[WrongStorage]
+      ^[[1;31merror[WrongStorage]^[[0m
+  ::error file=a.jsonl,title=WrongStorage::column a, field: found utf8; expected binary, large_binary or binary_view. For WKT use geoarrow.wkt.
+
+A table is not wider than a terminal whose columns are known, as long as its cells have 8; each other output is as wide as before
+
+  $ on_terminal() { python3 -c 'import pty, sys; pty.spawn(sys.argv[1:])' "$@" | tr -d '\r'; }
+  > cd "$TMPDIR" && echo '{"metadata":{"ARROW:extension:name":"geoarrow.linestring","ARROW:extension:metadata":"{\"crs\":\"EPSG:31370\",\"edges\":\"spherical\"}"},"name":"the_roads_of_a_country","nullable":true,"type":{"list":{"name":"vertices","nullable":false,"type":{"fixed_size_list":{"name":"xym","nullable":false,"type":"float64"},"size":3}}}}' > roads.jsonl
+  > for columns in 73 71 60 48 20 '' x
+  > do
+  >     COLUMNS=$columns on_terminal geoarrow_check --color never roads.jsonl | tail -n 1
+  > done
+  > COLUMNS=20 geoarrow_check roads.jsonl | tail -n 1
+  the_roads_of_a_country  linestring interleaved XYM  EPSG:31370  spherical
+  the_roads_of_a_country  linestring interleaved..  EPSG:31370  spherical
+  the_roads_of_a_..  linestring inte..  EPSG:31370  spherical
+  the_roads..  linestrin..  EPSG:31370  spherical
+  the_ro..  linest..  EPSG:3..  spheri..
+  the_roads_of_a_country  linestring interleaved XYM  EPSG:31370  spherical
+  the_roads_of_a_country  linestring interleaved XYM  EPSG:31370  spherical
+  the_roads_of_a_country  linestring interleaved XYM  EPSG:31370  spherical
+
+An Arrow stream is refused to a terminal, as bytes are no text
+
+  $ python3 -c 'import os, pty, sys; print(os.waitstatus_to_exitcode(pty.spawn(sys.argv[1:])))' geoarrow_check --ipc ../crates/geoarrow_check/data/file.arrow | tr -d '\r' | grep -v '^$'
+  error: --ipc prints bytes, and the output is a terminal
+  Usage: geoarrow_check [OPTIONS] [FILE]...
+  For more information, try '--help'.
+  2
+
+A text has the columns of a terminal that its characters have: East Asian wide ones two, combining ones none, an emoji two with its selector
+
+  $ python3 -c 'import json
+  > for name in ("東京", "e\u0301", "x", "❤\ufe0f", "東" * 20, "東" * 21, "x" + "東" * 20, "e\u0301" * 40, "e\u0301" * 41, "❤\ufe0f" * 20, "❤\ufe0f" * 21):
+  >     print(json.dumps({"name": name, "nullable": True, "type": "null"}))' | geoarrow_check -
+  column                                    holds  CRS  edges
+  東京                                      null
+  é                                         null
+  x                                         null
+  ❤️                                        null
+  東東東東東東東東東東東東東東東東東東東東  null
+  東東東東東東東東東東東東東東東東東東東..  null
+  x東東東東東東東東東東東東東東東東東東..   null
+  éééééééééééééééééééééééééééééééééééééééé  null
+  éééééééééééééééééééééééééééééééééééééé..  null
+  ❤️❤️❤️❤️❤️❤️❤️❤️❤️❤️❤️❤️❤️❤️❤️❤️❤️❤️❤️❤️  null
+  ❤️❤️❤️❤️❤️❤️❤️❤️❤️❤️❤️❤️❤️❤️❤️❤️❤️❤️❤️..  null
+
 Only the end of an Arrow file is read, and only the first message of a stream
 
   $ (printf 'ARROW1\000\000'; tail -c 2000 ../crates/geoarrow_check/data/file.arrow) > "$TMPDIR/file" && geoarrow_check --quiet --expect g=linestring "$TMPDIR/file"
@@ -239,7 +387,7 @@ A stream as written before Arrow 0.15, without the marker, as flatc wrote it: as
   {"kind":"column","file":"old.arrows","index":0,"column":"line\nfeed","state":"plain","type":"uint32"}
   {"kind":"column","index":0,"column":"line\nfeed","state":"plain","type":"uint32"}
   {"kind":"column","index":0,"column":"line\nfeed","state":"plain","type":"uint32"}
-  cut: error[Truncated] message, byte 4: found a message that is cut off; expected as many bytes as its size says. The file is cut off, or still being written
+  cut: error[Truncated] byte 100: found 96 bytes; expected 164 bytes. The file is cut off, or still being written
   [2]
 
 200,000 lines in memory that does not grow: 16 MB of addresses suffice, and the places of columns go on
@@ -306,20 +454,20 @@ A file of no bytes, or of blank lines alone, is empty
   >     geoarrow_check $words - < /dev/null 2>&1
   >     cat blank | geoarrow_check $words - 2>&1
   > done | LC_ALL=C sort | uniq -c
-       10 -: error[EmptyFile]: found no bytes, or blanks alone; expected an Arrow file, an Arrow stream, a Parquet file or lines of fields. The writing or the copy broke off before its first byte
-        5 blank: error[EmptyFile]: found no bytes, or blanks alone; expected an Arrow file, an Arrow stream, a Parquet file or lines of fields. The writing or the copy broke off before its first byte
-        5 none: error[EmptyFile]: found no bytes, or blanks alone; expected an Arrow file, an Arrow stream, a Parquet file or lines of fields. The writing or the copy broke off before its first byte
-        1 {"kind":"finding","severity":"error","code":"EmptyFile","file":"blank","found":"no bytes, or blanks alone","expected":"an Arrow file, an Arrow stream, a Parquet file or lines of fields","help":"The writing or the copy broke off before its first byte"}
-        1 {"kind":"finding","severity":"error","code":"EmptyFile","file":"none","found":"no bytes, or blanks alone","expected":"an Arrow file, an Arrow stream, a Parquet file or lines of fields","help":"The writing or the copy broke off before its first byte"}
-        2 {"kind":"finding","severity":"error","code":"EmptyFile","found":"no bytes, or blanks alone","expected":"an Arrow file, an Arrow stream, a Parquet file or lines of fields","help":"The writing or the copy broke off before its first byte"}
+       10 -: error[EmptyFile] byte 0: found 0 bytes, or blanks alone; expected an Arrow file, an Arrow stream, a Parquet file or lines of fields. The writing or the copy broke off before its first byte
+        5 blank: error[EmptyFile] byte 0: found 0 bytes, or blanks alone; expected an Arrow file, an Arrow stream, a Parquet file or lines of fields. The writing or the copy broke off before its first byte
+        5 none: error[EmptyFile] byte 0: found 0 bytes, or blanks alone; expected an Arrow file, an Arrow stream, a Parquet file or lines of fields. The writing or the copy broke off before its first byte
+        2 {"kind":"finding","severity":"error","code":"EmptyFile","byte":0,"found":"0 bytes, or blanks alone","expected":"an Arrow file, an Arrow stream, a Parquet file or lines of fields","help":"The writing or the copy broke off before its first byte"}
+        1 {"kind":"finding","severity":"error","code":"EmptyFile","file":"blank","byte":0,"found":"0 bytes, or blanks alone","expected":"an Arrow file, an Arrow stream, a Parquet file or lines of fields","help":"The writing or the copy broke off before its first byte"}
+        1 {"kind":"finding","severity":"error","code":"EmptyFile","file":"none","byte":0,"found":"0 bytes, or blanks alone","expected":"an Arrow file, an Arrow stream, a Parquet file or lines of fields","help":"The writing or the copy broke off before its first byte"}
 
   $ geoarrow_check /dev/null
-  /dev/null: error[EmptyFile]: found no bytes, or blanks alone; expected an Arrow file, an Arrow stream, a Parquet file or lines of fields. The writing or the copy broke off before its first byte
+  /dev/null: error[EmptyFile] byte 0: found 0 bytes, or blanks alone; expected an Arrow file, an Arrow stream, a Parquet file or lines of fields. The writing or the copy broke off before its first byte
   [2]
 
   $ geoarrow_check --json - < /dev/null
-  {"kind":"finding","severity":"error","code":"EmptyFile","found":"no bytes, or blanks alone","expected":"an Arrow file, an Arrow stream, a Parquet file or lines of fields","help":"The writing or the copy broke off before its first byte"}
-  -: error[EmptyFile]: found no bytes, or blanks alone; expected an Arrow file, an Arrow stream, a Parquet file or lines of fields. The writing or the copy broke off before its first byte
+  {"kind":"finding","severity":"error","code":"EmptyFile","byte":0,"found":"0 bytes, or blanks alone","expected":"an Arrow file, an Arrow stream, a Parquet file or lines of fields","help":"The writing or the copy broke off before its first byte"}
+  -: error[EmptyFile] byte 0: found 0 bytes, or blanks alone; expected an Arrow file, an Arrow stream, a Parquet file or lines of fields. The writing or the copy broke off before its first byte
   [2]
 
 A blank line is passed over, wherever it stands, and counts as a line
@@ -555,8 +703,8 @@ JSON that is pretty-printed, or an array; and lines behind a byte order mark, wh
   [2]
 
   $ printf '[\n  {"name": "a"}\n]\n' | geoarrow_check --json -
-  {"kind":"finding","severity":"error","code":"ForeignFormat","found":"a JSON array","expected":"an Arrow file, an Arrow stream, a Parquet file or lines of fields","help":"Try jq -c '.[]' FILE | geoarrow_check -"}
-  -: error[ForeignFormat]: found a JSON array; expected an Arrow file, an Arrow stream, a Parquet file or lines of fields. Try jq -c '.[]' FILE | geoarrow_check -
+  {"kind":"finding","severity":"error","code":"ForeignFormat","byte":0,"found":"a JSON array","expected":"an Arrow file, an Arrow stream, a Parquet file or lines of fields","help":"Try jq -c '.[]' FILE | geoarrow_check -"}
+  -: error[ForeignFormat] byte 0: found a JSON array; expected an Arrow file, an Arrow stream, a Parquet file or lines of fields. Try jq -c '.[]' FILE | geoarrow_check -
   [2]
 
   $ printf '\357\273\277{"name":"a","nullable":true,"type":"null"}\n' | geoarrow_check --json -
@@ -594,54 +742,54 @@ A file of a format that is not read is named, with what to try, whatever is prin
   > do
   >     geoarrow_check $words a.gpkg
   > done
-  {"kind":"finding","severity":"error","code":"ForeignFormat","file":"a.gpkg","found":"a GeoPackage or SQLite database","expected":"an Arrow file, an Arrow stream, a Parquet file or lines of fields","help":"Try ogr2ogr out.parquet FILE"}
-  a.gpkg: error[ForeignFormat]: found a GeoPackage or SQLite database; expected an Arrow file, an Arrow stream, a Parquet file or lines of fields. Try ogr2ogr out.parquet FILE
-  a.gpkg: error[ForeignFormat]: found a GeoPackage or SQLite database; expected an Arrow file, an Arrow stream, a Parquet file or lines of fields. Try ogr2ogr out.parquet FILE
-  a.gpkg: error[ForeignFormat]: found a GeoPackage or SQLite database; expected an Arrow file, an Arrow stream, a Parquet file or lines of fields. Try ogr2ogr out.parquet FILE
-  a.gpkg: error[ForeignFormat]: found a GeoPackage or SQLite database; expected an Arrow file, an Arrow stream, a Parquet file or lines of fields. Try ogr2ogr out.parquet FILE
-  a.gpkg: error[ForeignFormat]: found a GeoPackage or SQLite database; expected an Arrow file, an Arrow stream, a Parquet file or lines of fields. Try ogr2ogr out.parquet FILE
+  {"kind":"finding","severity":"error","code":"ForeignFormat","file":"a.gpkg","byte":0,"found":"a GeoPackage or SQLite database","expected":"an Arrow file, an Arrow stream, a Parquet file or lines of fields","help":"Try ogr2ogr out.parquet FILE"}
+  a.gpkg: error[ForeignFormat] byte 0: found a GeoPackage or SQLite database; expected an Arrow file, an Arrow stream, a Parquet file or lines of fields. Try ogr2ogr out.parquet FILE
+  a.gpkg: error[ForeignFormat] byte 0: found a GeoPackage or SQLite database; expected an Arrow file, an Arrow stream, a Parquet file or lines of fields. Try ogr2ogr out.parquet FILE
+  a.gpkg: error[ForeignFormat] byte 0: found a GeoPackage or SQLite database; expected an Arrow file, an Arrow stream, a Parquet file or lines of fields. Try ogr2ogr out.parquet FILE
+  a.gpkg: error[ForeignFormat] byte 0: found a GeoPackage or SQLite database; expected an Arrow file, an Arrow stream, a Parquet file or lines of fields. Try ogr2ogr out.parquet FILE
+  a.gpkg: error[ForeignFormat] byte 0: found a GeoPackage or SQLite database; expected an Arrow file, an Arrow stream, a Parquet file or lines of fields. Try ogr2ogr out.parquet FILE
   [2]
 
   $ cd "$TMPDIR" && printf 'SQLite format 3\000' > a.gpkg && (printf 'PK\003\004'; yes) | geoarrow_check a.gpkg -
-  a.gpkg: error[ForeignFormat]: found a GeoPackage or SQLite database; expected an Arrow file, an Arrow stream, a Parquet file or lines of fields. Try ogr2ogr out.parquet FILE
-  -: error[ForeignFormat]: found a zip archive; expected an Arrow file, an Arrow stream, a Parquet file or lines of fields. Unzip it, and check what is in it
+  a.gpkg: error[ForeignFormat] byte 0: found a GeoPackage or SQLite database; expected an Arrow file, an Arrow stream, a Parquet file or lines of fields. Try ogr2ogr out.parquet FILE
+  -: error[ForeignFormat] byte 0: found a zip archive; expected an Arrow file, an Arrow stream, a Parquet file or lines of fields. Unzip it, and check what is in it
   2 files: 0 columns, 0 of geometries; no findings; 2 files not read
   [2]
 
   $ printf 'PAR1PAR1' | geoarrow_check --json -
-  {"kind":"finding","severity":"error","code":"FooterLength","found":"a footer of no bytes, or of more than stand before its size","expected":"a footer before its size"}
-  -: error[FooterLength]: found a footer of no bytes, or of more than stand before its size; expected a footer before its size
+  {"kind":"finding","severity":"error","code":"FooterLength","byte":0,"found":"827474256","expected":"a footer before its size"}
+  -: error[FooterLength] byte 0: found 827474256; expected a footer before its size
   [2]
 
   $ printf 'PAR1\000\000\000\000PAR1' | geoarrow_check --json -
-  {"kind":"finding","severity":"error","code":"FooterLength","found":"a footer of no bytes, or of more than stand before its size","expected":"a footer before its size"}
-  -: error[FooterLength]: found a footer of no bytes, or of more than stand before its size; expected a footer before its size
+  {"kind":"finding","severity":"error","code":"FooterLength","byte":4,"found":"0","expected":"a footer before its size"}
+  -: error[FooterLength] byte 4: found 0; expected a footer before its size
   [2]
 
   $ printf 'PAR1    PARE' | geoarrow_check --json -
-  {"kind":"finding","severity":"error","code":"Encrypted","found":"PARE","expected":"PAR1","help":"A copy with a plain footer is needed"}
-  -: error[Encrypted]: found PARE; expected PAR1. A copy with a plain footer is needed
+  {"kind":"finding","severity":"error","code":"Encrypted","byte":8,"found":"PARE","expected":"PAR1","help":"A copy with a plain footer is needed"}
+  -: error[Encrypted] byte 8: found PARE; expected PAR1. A copy with a plain footer is needed
   [2]
 
   $ printf 'PARE    \004\000\000\000PARE' > "$TMPDIR/encrypted.parquet" && cd "$TMPDIR" && geoarrow_check --json encrypted.parquet; geoarrow_check - < encrypted.parquet
-  {"kind":"finding","severity":"error","code":"Encrypted","file":"encrypted.parquet","found":"PARE","expected":"PAR1","help":"A copy with a plain footer is needed"}
-  encrypted.parquet: error[Encrypted]: found PARE; expected PAR1. A copy with a plain footer is needed
-  -: error[Encrypted]: found PARE; expected PAR1. A copy with a plain footer is needed
+  {"kind":"finding","severity":"error","code":"Encrypted","file":"encrypted.parquet","byte":12,"found":"PARE","expected":"PAR1","help":"A copy with a plain footer is needed"}
+  encrypted.parquet: error[Encrypted] byte 12: found PARE; expected PAR1. A copy with a plain footer is needed
+  -: error[Encrypted] byte 12: found PARE; expected PAR1. A copy with a plain footer is needed
   [2]
 
   $ printf 'PAR1    ' | geoarrow_check --json -
-  {"kind":"finding","severity":"error","code":"Truncated","found":"another end","expected":"PAR1 at the end","help":"The file is cut off, or still being written"}
-  -: error[Truncated]: found another end; expected PAR1 at the end. The file is cut off, or still being written
+  {"kind":"finding","severity":"error","code":"Truncated","byte":8,"found":"5041523120202020","expected":"PAR1 at the end","help":"The file is cut off, or still being written"}
+  -: error[Truncated] byte 8: found 5041523120202020; expected PAR1 at the end. The file is cut off, or still being written
   [2]
 
   $ printf '\377\377\377\377\010\000\000\000\004\000\000\000' | geoarrow_check --json -
-  {"kind":"finding","severity":"error","code":"Truncated","in":"message","byte":8,"found":"a message that is cut off","expected":"as many bytes as its size says","help":"The file is cut off, or still being written"}
-  -: error[Truncated] message, byte 8: found a message that is cut off; expected as many bytes as its size says. The file is cut off, or still being written
+  {"kind":"finding","severity":"error","code":"Truncated","byte":12,"found":"4 bytes","expected":"8 bytes","help":"The file is cut off, or still being written"}
+  -: error[Truncated] byte 12: found 4 bytes; expected 8 bytes. The file is cut off, or still being written
   [2]
 
   $ head -c 100 ../crates/geoarrow_check/data/stream.arrows | geoarrow_check --json - 2>&1
-  {"kind":"finding","severity":"error","code":"Truncated","in":"message","byte":8,"found":"a message that is cut off","expected":"as many bytes as its size says","help":"The file is cut off, or still being written"}
-  -: error[Truncated] message, byte 8: found a message that is cut off; expected as many bytes as its size says. The file is cut off, or still being written
+  {"kind":"finding","severity":"error","code":"Truncated","byte":100,"found":"92 bytes","expected":"120 bytes","help":"The file is cut off, or still being written"}
+  -: error[Truncated] byte 100: found 92 bytes; expected 120 bytes. The file is cut off, or still being written
   [2]
 
 The byte of an Arrow file's fault is that of the file, by its path and by standard input: its end is cut off, or the type of a field, whose table begins at 518, is none; also behind 4096 bytes
@@ -654,17 +802,40 @@ The byte of an Arrow file's fault is that of the file, by its path and by standa
   >     geoarrow_check - < $file.arrow
   >     cat behind.arrow | geoarrow_check -
   > done
-  cut.arrow: error[Truncated] byte 690: found another end; expected ARROW1 at the end. The file is cut off, or still being written
-  behind.arrow: error[Truncated] byte 4786: found another end; expected ARROW1 at the end. The file is cut off, or still being written
+  cut.arrow: error[Truncated] byte 700: found 6e3a6e616d650000; expected ARROW1 at the end. The file is cut off, or still being written
+  behind.arrow: error[Truncated] byte 4796: found 6e3a6e616d650000; expected ARROW1 at the end. The file is cut off, or still being written
   2 files: 0 columns, 0 of geometries; no findings; 2 files not read
-  -: error[Truncated] byte 690: found another end; expected ARROW1 at the end. The file is cut off, or still being written
-  -: error[Truncated] byte 4786: found another end; expected ARROW1 at the end. The file is cut off, or still being written
+  -: error[Truncated] byte 700: found 6e3a6e616d650000; expected ARROW1 at the end. The file is cut off, or still being written
+  -: error[Truncated] byte 4796: found 6e3a6e616d650000; expected ARROW1 at the end. The file is cut off, or still being written
   tag.arrow: error[BadMessage] byte 518: found an unknown type; expected a type of Schema.fbs, 1 to 26
   behind.arrow: error[BadMessage] byte 4614: found an unknown type; expected a type of Schema.fbs, 1 to 26
   2 files: 0 columns, 0 of geometries; no findings; 2 files not read
   -: error[BadMessage] byte 518: found an unknown type; expected a type of Schema.fbs, 1 to 26
   -: error[BadMessage] byte 4614: found an unknown type; expected a type of Schema.fbs, 1 to 26
   [2]
+
+A byte of the footer of a Parquet file is that of the file too, by its path and by standard input, also behind 4096 bytes
+
+  $ cd "$TMPDIR" && python3 -c 'import sys; sys.stdout.buffer.write(bytes.fromhex("504152311504192c4806736368656d61150200150c2502180267ff0016d00f190c191c18026bfe1801760018086120777269746572003200000050415231"))' > names.parquet && (printf 'PAR1'; head -c 4096 /dev/zero; tail -c +5 names.parquet) > behind.parquet
+  > for file in names behind
+  > do
+  >     geoarrow_check --format github --notes $file.parquet
+  >     geoarrow_check --format github --notes - < $file.parquet
+  >     cat $file.parquet | geoarrow_check --format github --notes -
+  > done
+  ::error file=names.parquet,title=NameNotText::elements, byte 25: found g\xff; expected UTF-8. The name is shown with U+FFFD for what is not UTF-8, and no key names the column.
+  ::notice file=names.parquet,title=KeyNotText::footer, byte 37: found k\xfe; expected UTF-8. It is passed over.
+  ::error title=NameNotText::elements, byte 25: found g\xff; expected UTF-8. The name is shown with U+FFFD for what is not UTF-8, and no key names the column.
+  ::notice title=KeyNotText::footer, byte 37: found k\xfe; expected UTF-8. It is passed over.
+  ::error title=NameNotText::elements, byte 25: found g\xff; expected UTF-8. The name is shown with U+FFFD for what is not UTF-8, and no key names the column.
+  ::notice title=KeyNotText::footer, byte 37: found k\xfe; expected UTF-8. It is passed over.
+  ::error file=behind.parquet,title=NameNotText::footer, byte 4121: found g\xff; expected UTF-8. The name is shown with U+FFFD for what is not UTF-8, and no key names the column.
+  ::notice file=behind.parquet,title=KeyNotText::footer, byte 4133: found k\xfe; expected UTF-8. It is passed over.
+  ::error title=NameNotText::footer, byte 4121: found g\xff; expected UTF-8. The name is shown with U+FFFD for what is not UTF-8, and no key names the column.
+  ::notice title=KeyNotText::footer, byte 4133: found k\xfe; expected UTF-8. It is passed over.
+  ::error title=NameNotText::footer, byte 4121: found g\xff; expected UTF-8. The name is shown with U+FFFD for what is not UTF-8, and no key names the column.
+  ::notice title=KeyNotText::footer, byte 4133: found k\xfe; expected UTF-8. It is passed over.
+  [1]
 
 With --json the fault is a line of JSON too, alone, or behind the lines of columns; also of a file that the system does not give
 
@@ -675,14 +846,14 @@ With --json the fault is a line of JSON too, alone, or behind the lines of colum
   >     echo $? >> said
   >     cat said
   > done
-  {"kind":"finding","severity":"error","code":"Truncated","file":"cut.arrow","byte":690,"found":"another end","expected":"ARROW1 at the end","help":"The file is cut off, or still being written"}
-  cut.arrow: error[Truncated] byte 690: found another end; expected ARROW1 at the end. The file is cut off, or still being written
+  {"kind":"finding","severity":"error","code":"Truncated","file":"cut.arrow","byte":700,"found":"6e3a6e616d650000","expected":"ARROW1 at the end","help":"The file is cut off, or still being written"}
+  cut.arrow: error[Truncated] byte 700: found 6e3a6e616d650000; expected ARROW1 at the end. The file is cut off, or still being written
   2
   {"kind":"finding","severity":"error","code":"BadLine","file":"bytes","byte":3,"line":1,"found":"bytes that are not UTF-8","expected":"UTF-8"}
   bytes: error[BadLine] byte 3, line 1: found bytes that are not UTF-8; expected UTF-8
   2
-  {"kind":"finding","severity":"error","code":"FooterLength","file":"cut.parquet","found":"a footer of no bytes, or of more than stand before its size","expected":"a footer before its size"}
-  cut.parquet: error[FooterLength]: found a footer of no bytes, or of more than stand before its size; expected a footer before its size
+  {"kind":"finding","severity":"error","code":"FooterLength","file":"cut.parquet","byte":4,"found":"5","expected":"a footer before its size"}
+  cut.parquet: error[FooterLength] byte 4: found 5; expected a footer before its size
   2
   {"kind":"column","file":"lines","index":0,"column":"a","state":"plain","type":"null"}
   {"kind":"finding","severity":"error","code":"BadLine","file":"lines","byte":13,"line":3,"found":"no JSON, or more than 127 levels of it","expected":"a JSON object"}
@@ -720,13 +891,13 @@ The status by what is found, notes too, of the files of a row each: how many, th
   >     geoarrow_check --quiet file > /dev/null
   >     echo $?
   > done | LC_ALL=C sort | uniq -c
-       93 0
-       25 1
-        5 ArrowSchemaContradicts 1
+      121 0
+       33 1
+       38 ArrowSchemaContradicts 1
         1 ArrowSchemaContradicts CrsContradicts 1
         6 ArrowSchemaContradicts GeoCovering 1
-        3 ArrowSchemaContradicts GeoLayout 1
-       18 ArrowSchemaContradicts NoGeoMetadata 1
+        4 ArrowSchemaContradicts GeoLayout 1
+       32 ArrowSchemaContradicts NoGeoMetadata 1
         1 ArrowSchemaNames 0
         1 ArrowSchemaNames GeoEncoding 1
         1 ArrowSchemaNames GeoNotInFooter 0
@@ -745,40 +916,43 @@ The status by what is found, notes too, of the files of a row each: how many, th
         2 EdgesOnProjected 0
         4 ElementInvalid 1
         1 ElementInvalid NestedGeometry 1
-        4 EmptyGroup 0
+       11 EmptyGroup 0
         1 EmptyGroup NestedGeometry 0
-        4 EncodingContradicts 1
-        2 GeoColumnMissing 1
+        6 EncodingContradicts 1
+        5 GeoColumnMissing 1
         2 GeoColumnMissing GeoColumnUndeclared 1
         1 GeoColumnMissing GeoMember 1
         1 GeoColumnMissing NameNotText 1
-        1 GeoColumnRepeated 1
+        2 GeoColumnRepeated 1
+        1 GeoColumnRepeated GeoLayout 1
         1 GeoColumnUndeclared RepeatedKey 0
-        1 GeoColumns GeoPrimaryColumn GeoVersion 1
-        1 GeoCovering 1
+        2 GeoColumns GeoPrimaryColumn GeoVersion 1
+        2 GeoCovering 1
         1 GeoCoveringAbsent 0
-        1 GeoCoveringColumn 1
+        3 GeoCoveringColumn 1
         3 GeoCoveringName 1
-        2 GeoCoveringShape 0
-        2 GeoCoveringType 1
+        2 GeoCoveringName GeoCoveringType 1
+        6 GeoCoveringShape 0
+        6 GeoCoveringType 1
         2 GeoCrs 1
         2 GeoEdges 1
-        5 GeoEncoding 1
+        8 GeoEncoding 1
         1 GeoEncoding GeoVersion RepeatedKey 1
-        7 GeoLayout 1
+       25 GeoLayout 1
+        1 GeoMember 1
         1 GeoNewVersion 0
         1 GeoNotInFooter 0
-       14 GeoNotJson 1
+       15 GeoNotJson 1
         1 GeoNotObject 1
-        5 GeoOldVersion 0
-        1 GeoOldVersion 1
-        2 GeoTypes 1
+        7 GeoOldVersion 0
+        3 GeoTypes 1
         1 GeoTypesVersion 1
         1 GeoVersion 1
         1 KeyNotText 0
         4 LogicalTypeInvalid 1
         1 NestedGeometry 0
         6 NoGeoMetadata 0
+        1 NoGeoMetadata 1
        21 RepeatedKey 0
         2 TypesContradict 1
         6 UnknownAlgorithm 0
@@ -1015,9 +1189,9 @@ Files that are refused, bad lines, and what is not met stand there too; nothing 
   ::error file=lines,title=BadLine::line 2: found JSON that is no object; expected a JSON object
   ::error file=lines,title=Expect::no column b
   ::error file=lines,title=NoGeometry::no column of geometries
-  ::error file=cut.parquet,title=FooterLength::found a footer of no bytes, or of more than stand before its size; expected a footer before its size
+  ::error file=cut.parquet,title=FooterLength::byte 0: found 827474256; expected a footer before its size
   ::error file=nowhere,title=CannotRead::found No such file or directory (os error 2); expected a file that can be read
-  ::error title=EmptyFile::found no bytes, or blanks alone; expected an Arrow file, an Arrow stream, a Parquet file or lines of fields. The writing or the copy broke off before its first byte
+  ::error title=EmptyFile::byte 0: found 0 bytes, or blanks alone; expected an Arrow file, an Arrow stream, a Parquet file or lines of fields. The writing or the copy broke off before its first byte
   2
 
   $ (cat point.jsonl; yes 1 | head -n 101) | geoarrow_check --format github - | tail -n 2
@@ -1037,11 +1211,11 @@ A log of SARIF: a result for each line of github, with its level, its file as a 
   {"ruleId":"BadLine","level":"error","message":{"text":"line 2: found JSON that is no object; expected a JSON object"},"locations":[{"physicalLocation":{"artifactLocation":{"uri":"a%20b%25c%3A%C3%A9%23%3F"},"region":{"startLine":2}}}]},
   {"ruleId":"ByteOrderMark","level":"note","message":{"text":"file, byte 0: expected lines without one. It is passed over."},"locations":[{"physicalLocation":{"artifactLocation":{"uri":"a%20b%25c%3A%C3%A9%23%3F"},"region":{"byteOffset":0}}}]},
   {"ruleId":"NoGeometry","level":"error","message":{"text":"no column of geometries"},"locations":[{"physicalLocation":{"artifactLocation":{"uri":"a%20b%25c%3A%C3%A9%23%3F"}}}]},
-  {"ruleId":"Truncated","level":"error","message":{"text":"byte 690: found another end; expected ARROW1 at the end. The file is cut off, or still being written"},"locations":[{"physicalLocation":{"artifactLocation":{"uri":"cut.arrow"},"region":{"byteOffset":690}}}]},
-  {"ruleId":"FooterLength","level":"error","message":{"text":"found a footer of no bytes, or of more than stand before its size; expected a footer before its size"},"locations":[{"physicalLocation":{"artifactLocation":{"uri":"cut.parquet"}}}]},
-  {"ruleId":"Truncated","level":"error","message":{"text":"byte 690: found another end; expected ARROW1 at the end. The file is cut off, or still being written"},"locations":[{"physicalLocation":{"artifactLocation":{"uri":"cut.arrow"},"region":{"byteOffset":690}}}]},
+  {"ruleId":"Truncated","level":"error","message":{"text":"byte 700: found 6e3a6e616d650000; expected ARROW1 at the end. The file is cut off, or still being written"},"locations":[{"physicalLocation":{"artifactLocation":{"uri":"cut.arrow"},"region":{"byteOffset":700}}}]},
+  {"ruleId":"FooterLength","level":"error","message":{"text":"byte 0: found 827474256; expected a footer before its size"},"locations":[{"physicalLocation":{"artifactLocation":{"uri":"cut.parquet"},"region":{"byteOffset":0}}}]},
+  {"ruleId":"Truncated","level":"error","message":{"text":"byte 700: found 6e3a6e616d650000; expected ARROW1 at the end. The file is cut off, or still being written"},"locations":[{"physicalLocation":{"artifactLocation":{"uri":"cut.arrow"},"region":{"byteOffset":700}}}]},
   {"ruleId":"CannotRead","level":"error","message":{"text":"found No such file or directory (os error 2); expected a file that can be read"},"locations":[{"physicalLocation":{"artifactLocation":{"uri":"nowhere"}}}]},
-  {"ruleId":"EmptyFile","level":"error","message":{"text":"found no bytes, or blanks alone; expected an Arrow file, an Arrow stream, a Parquet file or lines of fields. The writing or the copy broke off before its first byte"}}
+  {"ruleId":"EmptyFile","level":"error","message":{"text":"byte 0: found 0 bytes, or blanks alone; expected an Arrow file, an Arrow stream, a Parquet file or lines of fields. The writing or the copy broke off before its first byte"}}
   ],"tool":{"driver":{"name":"geoarrow_check","rules":[
   {"id":"ByteOrderMark","shortDescription":{"text":"lines begin with a byte order mark"}},
   {"id":"BadLine","shortDescription":{"text":"a line is no column"}},
@@ -1148,13 +1322,13 @@ Types of geometries are alike or not, whatever their notations are; those of oth
   2 files: 10 columns, 7 of geometries; 4 errors and 1 warning in 1 file
   [1]
 
-  $ cd "$TMPDIR" && echo '{"name":"named","nullable":true,"type":"binary"}' > a.jsonl
-  > echo '{"metadata":{"ARROW:extension:name":"geoarrow.wkb"},"name":"named","nullable":true,"type":"binary"}' > b.jsonl
+  $ cd "$TMPDIR" && echo '{"name":"geom","nullable":true,"type":"binary"}' > a.jsonl
+  > echo '{"metadata":{"ARROW:extension:name":"geoarrow.wkb"},"name":"geom","nullable":true,"type":"binary"}' > b.jsonl
   > geoarrow_check --same -q a.jsonl b.jsonl
   > geoarrow_check --same --infer -q a.jsonl b.jsonl
-  b.jsonl: error[NotSame] column named: found WKB; expected no encoding. The first file has another encoding.
+  b.jsonl: error[NotSame] column geom: found WKB; expected no encoding. The first file has another encoding.
   2 files: 2 columns, 1 of geometries; 1 error in 1 file
-  b.jsonl: error[NotSame] column named: found WKB; expected no encoding. The first file has another encoding.
+  b.jsonl: error[NotSame] column geom: found WKB; expected no encoding. The first file has another encoding.
   2 files: 2 columns, 2 of geometries; 1 error in 1 file
   [1]
 
@@ -1195,12 +1369,24 @@ Differences as lines of JSON, behind all lines of their file; and as results of 
   {"kind":"finding","severity":"error","code":"NotSame","file":"b.jsonl","column":"b","found":"utf8","expected":"no such column","help":"The first file has no such column."}
   [('NotSame', 'error', 'column a: found utf8; expected int8. The first file has another type.'), ('NotSame', 'error', 'column b: found utf8; expected no such column. The first file has no such column.')] [{'id': 'NotSame', 'shortDescription': {'text': 'a column is not as in the first file'}}]
 
-A file that is refused, or has a bad line, is not compared, and is not the first one; files of different formats are, and standard input, which has no name in lines of JSON
+A file that is refused is not compared, and is not the first one; one with bad lines is, by the columns that it has; files of different formats are, and standard input, which has no name in lines of JSON
 
   $ cd "$TMPDIR" && : > empty && echo '{"name":"a","nullable":true,"type":"int8"}' > a.jsonl && printf '%s\nbad\n' '{"name":"b","nullable":true,"type":"int8"}' > bad.jsonl
-  > echo '{"name":"a","nullable":true,"type":"utf8"}' | geoarrow_check --same --json empty bad.jsonl a.jsonl empty bad.jsonl - 2> /dev/null | grep NotSame
+  > echo '{"name":"a","nullable":true,"type":"utf8"}' | geoarrow_check --same --json empty a.jsonl empty bad.jsonl - 2> /dev/null | grep NotSame
+  > echo '{"name":"a","nullable":true,"type":"utf8"}' | geoarrow_check --same -q bad.jsonl bad.jsonl a.jsonl
+  > (cat bad.jsonl; head -c 1048577 /dev/zero | tr '\0' x) > long.jsonl && geoarrow_check --same -q a.jsonl long.jsonl | cut -c-40
   > cp "$top/crates/geoarrow_check/data/file.arrow" "$top/crates/geoarrow_check/data/geo.parquet" . && geoarrow_check --same --format github file.arrow file.arrow | grep -c NotSame; geoarrow_check --same --json geo.parquet a.jsonl | grep NotSame
+  {"kind":"finding","severity":"error","code":"NotSame","file":"bad.jsonl","column":"b","found":"int8","expected":"no such column","help":"The first file has no such column."}
+  {"kind":"finding","severity":"error","code":"NotSame","file":"bad.jsonl","column":"a","expected":"int8","help":"The column is missing."}
   {"kind":"finding","severity":"error","code":"NotSame","column":"a","found":"utf8","expected":"int8","help":"The first file has another type."}
+  bad.jsonl: error[BadLine] byte 1, line 2: found no JSON, or more than 127 levels of it; expected a JSON object
+  bad.jsonl: error[BadLine] byte 1, line 2: found no JSON, or more than 127 levels of it; expected a JSON object
+  a.jsonl: error[NotSame] column a: found int8; expected no such column. The first file has no such column.
+  a.jsonl: error[NotSame] column b: expected int8. The column is missing.
+  3 files: 3 columns, 0 of geometries; 4 errors in 3 files
+  long.jsonl: error[BadLine] byte 1, line 
+  long.jsonl: error[LongLine] line 3: foun
+  2 files: 1 column, 0 of geometries; no f
   0
   {"kind":"finding","severity":"error","code":"NotSame","file":"a.jsonl","column":"a","found":"int8","expected":"no such column","help":"The first file has no such column."}
   {"kind":"finding","severity":"error","code":"NotSame","file":"a.jsonl","column":"geom","expected":"binary","help":"The column is missing."}
@@ -1426,13 +1612,41 @@ Output that fails
   geoarrow_check: No space left on device (os error 28)
   [2]
 
-Output that nobody reads to its end: nothing is said, and the status is that of other tools
+Output that nobody reads to its end: nothing is said, and the status is that of the files so far
 
   $ cd "$TMPDIR" && yes '{"name":"a","nullable":true,"type":"null"}' | head -n 50000 > lines && for words in --json --lines --infer
   > do
   >     (geoarrow_check $words lines 2> said; echo $? > status) | head -n 1 > /dev/null
   >     cat said status
   > done
-  141
-  141
-  141
+  > (geoarrow_check --json "$top/examples/schema.jsonl" lines 2> said; echo $? > status) | head -n 1 > /dev/null
+  > cat said status
+  0
+  0
+  0
+  1
+
+The man page and the completions for bash are those that the help makes
+
+  $ ../bin/man "$TMPDIR" && cmp ../docs/geoarrow_check.1 "$TMPDIR/geoarrow_check.1" && cmp ../docs/geoarrow_check.bash "$TMPDIR/geoarrow_check.bash"
+
+  $ cat > "$TMPDIR/completed" <<'END'
+  > . ../docs/geoarrow_check.bash
+  > completed() { COMP_WORDS=(geoarrow_check "$@"); COMP_CWORD=$#; _geoarrow_check; echo "${COMPREPLY[@]}"; }
+  > completed --c
+  > completed --format ''
+  > completed --color = ne
+  > completed --format =
+  > completed --deny GeoBb
+  > completed x.parquet --explain EmptyF
+  > completed ex | wc -w
+  > END
+  > bash "$TMPDIR/completed"
+  --color --codes
+  text json github sarif
+  never
+  text json github sarif
+  GeoBbox GeoBboxOrder GeoBboxRange GeoBboxDimension
+  EmptyFile
+  0
+

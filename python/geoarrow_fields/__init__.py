@@ -15,7 +15,7 @@ from . import library, sources
 from .c_schema import SchemaError
 from .columns import Column, Columns, Finding, columns_of
 from .library import Command
-from .refusals import InvalidColumns, RefusedSource, moved
+from .refusals import InvalidColumns, RefusedSource, moved, moved_lines
 from .schema_lines import Schema, lines
 
 __all__ = [
@@ -34,7 +34,7 @@ def check(source: Any, infer: bool = False, strict: bool = False, notes: bool = 
     - the bytes of one, or an object whose buffer they are, as an array of bytes;
     - lines in a list or a tuple;
     - an object that gives a schema, a field or an array over Arrow's C data interface, such as one of pyarrow or polars (`lines`).
-    Of a file only the bytes that say what its columns are are read. What is found in a column are its `findings`, why it is invalid first; `findings` of what is answered
+    Of a file only the bytes that say what its columns are are read. What is found in a column are its `findings`, also why it is invalid; `findings` of what is answered
     are what is found beside the columns, in the footer of a Parquet file, in the schema that it stores and in its GeoParquet metadata. With `infer`, a column without an
     extension name is taken for what is inferred from its data type. With `strict`, `InvalidColumns` is raised where one is invalid, and `RefusedSource` where a line is bad. With `notes`, what is only
     worth to know is among the findings.
@@ -52,8 +52,8 @@ def check(source: Any, infer: bool = False, strict: bool = False, notes: bool = 
         return Columns()
     status, text = library.report(given.name, given.content, infer, notes)
     if status == library.REFUSED:
-        raise RefusedSource(moved(text.rstrip("\n"), given.uncounted))
-    columns = columns_of(text)
+        raise RefusedSource(moved(text.rstrip("\n"), given.left_out))
+    columns = columns_of(moved_lines(text, given.left_out))
     if strict and columns.bad_lines:
         raise RefusedSource(columns.bad_lines[0].json)
     invalid = [one for one in columns if one.is_invalid] if strict else []

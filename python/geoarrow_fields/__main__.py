@@ -6,7 +6,8 @@ standard output; with --json it stands there as lines of JSON, and is said on st
 two files and more a line says how many columns and findings there are, but with --json. The status is
 1 where a column is invalid or a finding, of a column or of a file, is an error, and 2 where a file is
 refused, a line is no column, a file or the words cannot be read, or the output fails. Where nobody
-reads the output any more, the command ends without a word, with the status 141.
+reads the output any more, the command ends without a word, with the status of the files so far. A
+folder stands for its files with one of seven endings.
 """
 import argparse
 import io
@@ -16,12 +17,13 @@ import sys
 from typing import Any, List, NoReturn, Optional, Union
 
 from . import Columns, RefusedSource, check
+from .files import paths_of
 from .sources import file_name
 from .tables import shown
 
 INVALID, FAILED = 1, 2
-NO_READER = 128 + 13  # what a shell says of a command that the signal SIGPIPE ends
-OF_THE_PROGRAM = ("--allow", "--codes", "--deny", "--expect", "--explain", "--format", "--ipc", "--lines", "--problems", "--quiet", "--require-geometry", "--same", "-q")
+ENDINGS = (".parquet", ".geoparquet", ".arrow", ".feather", ".arrows", ".jsonl", ".ndjson")  # of the files of a folder
+OF_THE_PROGRAM = ("--allow", "--codes", "--color", "--deny", "--expect", "--explain", "--format", "--ipc", "--lines", "--problems", "--quiet", "--require-geometry", "--same", "-q")
 
 
 class _OfTheProgram(argparse.Action):
@@ -38,7 +40,7 @@ def main(words: Optional[List[str]] = None) -> int:
         "check", help="say what each column holds, and why it is invalid",
         epilog=f"{', '.join(OF_THE_PROGRAM[:-1])} and {OF_THE_PROGRAM[-1]} are options of the program geoarrow_check alone.")
     of_check.add_argument(
-        "files", metavar="FILE", nargs="+", help="an Arrow file (Feather), an Arrow stream, a Parquet file, or lines of fields; - is standard input")
+        "files", metavar="FILE", nargs="+", help="an Arrow file (Feather), an Arrow stream, a Parquet file, or lines of fields; - is standard input, and a folder stands for its files")
     of_check.add_argument("--infer", action="store_true", help="infer a type for columns without an extension name")
     of_check.add_argument("--notes", action="store_true", help="print notes too: of what is allowed, and only worth to know")
     of_check.add_argument("--json", action="store_true", help="a line of JSON for each column, in place of a table")
@@ -48,16 +50,19 @@ def main(words: Optional[List[str]] = None) -> int:
     if sys.stdout is None:
         _say("standard output: it is closed")
         return FAILED
+    asked.files = list(paths_of(asked.files, ENDINGS))
+    status = 0
     try:
         tally = Tally()
-        status = max(_checked(file, asked, tally) for file in asked.files)
+        for file in asked.files:
+            status = max(_checked(file, asked, tally), status)
         if len(asked.files) > 1 and not asked.json:
             print(tally)
         sys.stdout.flush()
     except OSError as error:  # of the output: that of a file is said, and the next one is checked
         os.dup2(os.open(os.devnull, os.O_WRONLY), sys.stdout.fileno())  # where Python writes once more, at its end
         if isinstance(error, BrokenPipeError):
-            return NO_READER
+            return status
         _say(f"standard output: {error.strerror or error}")
         return FAILED
     return status

@@ -11,8 +11,8 @@ from . import tables
 @dataclasses.dataclass(frozen=True)
 class Finding:
     """What is found in a file or in one of its columns: its severity, `error`, `warning` or `note`, and its code; the place, that is the name of the
-    column, or its index where it is not written, the names of the child fields down from it, the source, as `geo` or `footer`, the JSON pointer into it, the byte,
-    the line and the element; what stands there, what is expected, and what helps; and how many more there are of its code that are not told one by one, or of a
+    column, or its index where it is not written, the names of the child fields down from it, the source, as `geo` or `footer`, the JSON pointer into it, the byte
+    and the line; what stands there, what is expected, and what helps; and how many more there are of its code that are not told one by one, or of a
     line that is no column how many more lines are none. What does not apply is None, or empty, or 0. The `findings` of a column do not name it. `json` is the
     object of the report (docs/FORMAT.md, 5.1)."""
 
@@ -29,7 +29,6 @@ class Finding:
     more: int = 0
     index: Optional[int] = None
     line: Optional[int] = None
-    element: Optional[int] = None
     json: str = dataclasses.field(default="", repr=False, compare=False)
 
     @property
@@ -53,7 +52,7 @@ class Finding:
             yield f"at {'.'.join(self.path)}"
         if self.source is not None:
             yield f"{self.source} {self.pointer}" if self.pointer else self.source
-        for word, number in (("byte", self.byte), ("line", self.line), ("element", self.element)):
+        for word, number in (("byte", self.byte), ("line", self.line)):
             if number is not None:
                 yield f"{word} {number}"
         if self.more and self.line is None:
@@ -211,7 +210,7 @@ def _finding_of(said: Dict[str, Any], text: str) -> Finding:
     known = said.get
     return Finding(
         said["severity"], said["code"], known("column"), tuple(known("path", ())), known("in"), known("pointer"), known("byte"), known("found"),
-        known("expected"), known("help"), known("more", 0), known("index"), known("line"), known("element"), text)
+        known("expected"), known("help"), known("more", 0), known("index"), known("line"), text)
 
 
 def _row(column: Column) -> tables.Row:

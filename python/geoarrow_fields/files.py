@@ -8,7 +8,7 @@ columns, with why they are invalid, and behind these of the file, the `errors` a
 """
 import dataclasses
 import os
-from typing import Any, Dict, Iterable, Iterator, List
+from typing import Any, Dict, Iterable, Iterator, List, Tuple
 
 import geoarrow_fields
 
@@ -42,26 +42,27 @@ def failed(path: str, error: BaseException) -> Report:
     return {"file": path, "columns": 0, "geometries": [], "invalid": [], "errors": [], "warnings": [], "error": said}
 
 
-def paths_of(words: Iterable[str]) -> Iterator[str]:
-    """The files that words name: a file as it is named, and of a folder all files in it, in the order of their paths.
+def paths_of(words: Iterable[str], endings: Tuple[str, ...] = ("",)) -> Iterator[str]:
+    """The files that words name: a file as it is named, and of a folder all files in it whose names have one of the endings, in the order of the bytes of
+    their paths; among them the folders that the system does not list.
 
     In a folder, files and folders whose names begin with `_` or `.` are left out, as Spark, Hive and pyarrow.dataset leave them out: those are marks
     and checksums, as `_SUCCESS`, `_delta_log` and `.part-0.parquet.crc`, and no data. A file of 0 bytes is not left out: it cannot be read, since it is most
     often one whose upload broke off.
     """
     for word in words:
-        if os.path.isdir(word):
-            yield from _paths_in(word)
+        if word != "-" and os.path.isdir(word):
+            yield from _paths_in(word, endings)
         else:
             yield word
 
 
-def _paths_in(top: str) -> Iterator[str]:
-    found = []
-    for folder, folders, names in os.walk(top):
+def _paths_in(top: str, endings: Tuple[str, ...]) -> Iterator[str]:
+    found: List[str] = []
+    for folder, folders, names in os.walk(top, onerror=lambda error: found.append(error.filename)):
         folders[:] = filter(_is_data, folders)
-        found += [os.path.join(folder, name) for name in filter(_is_data, names)]
-    return iter(sorted(found))
+        found += [os.path.join(folder, name) for name in filter(_is_data, names) if name.endswith(endings)]
+    return iter(sorted(found, key=os.fsencode))
 
 
 def _is_data(name: str) -> bool:

@@ -7,9 +7,8 @@ from . import c_schema
 from .schema_lines import lines
 
 _HEAD = 8  # bytes that tell the format; of a stream they have the size of its first message
-_ARROW_FILE = b"ARROW1"
 # How many bytes stand behind the footer: its size in four bytes, and the magic.
-_TAILS = {_ARROW_FILE: 10, b"PAR1": 8, b"PARE": 8}
+_TAILS = {b"ARROW1": 10, b"PAR1": 8, b"PARE": 8}
 _CONTINUATION = b"\xff\xff\xff\xff"
 _MOST_LOOKED_AT = 64  # bytes from which the library tells the format
 _AT_ONCE = 1 << 20  # bytes that are asked for at once: a size that a file tells is not believed
@@ -22,12 +21,6 @@ class Given(NamedTuple):
     left_out: int = 0  # bytes of a file between its head and its end
     is_schema: bool = False  # whether these are the lines of a schema, which may have no columns
     name: bytes = b""  # of a file that is named by its path
-
-    @property
-    def uncounted(self) -> int:
-        """How many bytes of an Arrow file stand before a byte that the library names, and are not counted there: those that are left out. A byte of any other
-        file is counted in a part of it that is given as a whole."""
-        return self.left_out if self.content.startswith(_ARROW_FILE) else 0
 
 
 def given_of(source: Any) -> Given:

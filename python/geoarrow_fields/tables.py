@@ -1,12 +1,13 @@
 """Tables of columns, as `geoarrow_check` prints them (docs/FORMAT.md, 2.7), and in HTML."""
 import html as markup
 import re
+import unicodedata
 from typing import Any, Iterable, List, Tuple
 
 Row = Tuple[Tuple[str, str, str, str], List[str]]  # the cells, and the lines below them
 
 HEAD = ("column", "holds", "CRS", "edges")
-_CELL = 40  # characters of a cell at most
+_CELL = 40  # columns of a cell at most, as a terminal shows it
 _CONTROL = re.compile("[\x00-\x1f\x7f-\x9f]")
 
 
@@ -14,10 +15,10 @@ def text(rows: Iterable[Row], behind: Iterable[str] = ()) -> str:
     """A table of text: a line for each row, with its cells below one another, and the lines below it set in; and the lines behind the table. A long cell is
     cut, so that one long text does not make each line long."""
     listed: List[Row] = [(HEAD, []), *((_shown_cells(cells), notes) for cells, notes in rows)]
-    widths = [max(map(len, column)) for column in zip(*(cells for cells, _ in listed))]
+    widths = [max(map(_width, column)) for column in zip(*(cells for cells, _ in listed))]
     lines = []
     for cells, notes in listed:
-        lines.append("  ".join(cell.ljust(width) for cell, width in zip(cells, widths)).rstrip())
+        lines.append("  ".join(cell + " " * (width - _width(cell)) for cell, width in zip(cells, widths)).rstrip())
         lines.extend(f"    {shown(note).rstrip()}" for note in notes)
     lines.extend(map(shown, behind))
     return "\n".join(lines)
@@ -72,8 +73,30 @@ def _shown_cells(cells: Tuple[str, str, str, str]) -> Tuple[str, str, str, str]:
 
 
 def _cell(given: str) -> str:
-    """A text as a cell: of a long one the first characters, and two points."""
-    return shown(given if len(given) <= _CELL else given[:_CELL - 2] + "..")
+    """A text as a cell: of a wide one the first characters that have room, and two points."""
+    text = shown(given)
+    if _width(text) <= _CELL:
+        return text
+    left = _CELL - 2
+    for place, one in enumerate(text):
+        left -= _width(one)
+        if left < 0:
+            return text[:place] + ".."
+    return text
+
+
+def _width(given: str) -> int:
+    """How many columns of a terminal a text has."""
+    return len(given) if given.isascii() else sum(map(_character_width, given))
+
+
+def _character_width(one: str) -> int:
+    """How many columns a character has: U+FE0F widens the one before it."""
+    if one == "\ufe0f":
+        return 1
+    if unicodedata.category(one) in ("Mn", "Me", "Cf"):
+        return 0
+    return 2 if unicodedata.east_asian_width(one) in "WF" else 1
 
 
 def _escaped(given: str) -> str:

@@ -12,7 +12,7 @@ import geoarrow_fields
 from geoarrow_fields import RefusedSource, check, library, read, write_schema
 
 SIZES = (0, 1, 4095, 4096, 4097, 65535, 65536, 65537, (1 << 20) - 1, 1 << 20, (1 << 20) + 1, 5_000_000)
-KEYS = ("code", "file", "index", "source", "byte", "line", "element", "found", "expected", "help")
+KEYS = ("code", "file", "index", "source", "byte", "line", "found", "expected", "help")
 
 
 def said_of(error):
@@ -119,7 +119,7 @@ class Cases(unittest.TestCase):
         x = {"code": "Code", "found": "x", "expected": "y"}
         for words, wanted, place in (
                 ("r1", x, ""), ("r1l7", {**x, "line": 7}, " line 7"), ("r1l7b30", {**x, "line": 7, "byte": 30}, " byte 30, line 7"),
-                ("r1e0", {**x, "element": 0}, " element 0"), ("r1i2", {**x, "index": 2}, " column 2"), ("r1b0", {**x, "byte": 0}, " byte 0"),
+                ("r1i2", {**x, "index": 2}, " column 2"), ("r1b0", {**x, "byte": 0}, " byte 0"),
                 ("r3", {**x, "found": "xxx"}, ""), ("r200000", {**x, "found": "x" * 200_000}, ""),
                 ("r3000000b4", {**x, "found": "x" * 3_000_000, "byte": 4}, " byte 4")):
             for call, given in ((check, words.encode()), (check, [words]), (check, io.BytesIO(words.encode())), (write_schema, [words])):
@@ -154,10 +154,10 @@ class Cases(unittest.TestCase):
         self.assertEqual(said_of(error), {"code": "Code", "found": "x", "expected": "y", "line": 3, "file": str(self.path)})
 
     def test_the_byte_of_another_file(self):
-        """Of a Parquet file the end is given too, but its bytes are counted in the footer; a stream's in its first message, which is given as a whole."""
-        for whole in (
-                b"PAR1" + bytes(1000) + b"r1b12" + (5).to_bytes(4, "little") + b"PAR1", b"PARE" + bytes(1000) + b"r1b12" + (5).to_bytes(4, "little") + b"PARE",
-                b"\xff\xff\xff\xff" + (8).to_bytes(4, "little") + b"r1b12   " + bytes(1000), b"r1b12" + bytes(1000)):
-            for source in (whole, self.file(whole), io.BytesIO(whole)):
+        """Of a Parquet file the end is given too, behind its first eight bytes; a stream is given up to the end of its first message, and lines as a whole."""
+        for whole, left_out in (
+                (b"PAR1" + bytes(1000) + b"r1b12" + (5).to_bytes(4, "little") + b"PAR1", 996), (b"PARE" + bytes(1000) + b"r1b12" + (5).to_bytes(4, "little") + b"PARE", 996),
+                (b"\xff\xff\xff\xff" + (8).to_bytes(4, "little") + b"r1b12   " + bytes(1000), 0), (b"r1b12" + bytes(1000), 0)):
+            for source, byte in ((whole, 12), (self.file(whole), 12 + left_out), (io.BytesIO(whole), 12 + left_out)):
                 error = self.refused(check, source)
-                self.assertEqual(error.byte, 12)
+                self.assertEqual(error.byte, byte)

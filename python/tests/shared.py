@@ -13,6 +13,7 @@ DATA = TOP / "crates/geoarrow_check/data"
 POINT = '{"metadata":{"ARROW:extension:name":"geoarrow.point"},"name":"p","nullable":true,"type":{"fixed_size_list":{"name":"xy","nullable":true,"type":"float64"},"size":2}}'
 CANON = '{"metadata":{"ARROW:extension:name":"geoarrow.point"},"name":"p","nullable":true,"type":{"fixed_size_list":{"name":"xy","nullable":false,"type":"float64"},"size":2}}'
 TEXT = '{"name":"t","nullable":true,"type":"utf8"}'
+WKT = '{"name":"wkt","nullable":true,"type":"utf8"}'
 OTHER = '{"name":"at","nullable":true,"type":{"other":"timestamp[ms, tz=UTC]"}}'
 BROKEN = '{"metadata":{"ARROW:extension:metadata":"{\\"edges\\":1}","ARROW:extension:name":"geoarrow.linestring"},"name":"b","nullable":true,"type":{"list":{"name":"v","nullable":true,"type":{"struct":[]}}}}'
 CRS = '{"metadata":{"ARROW:extension:metadata":"{\\"crs\\":{\\"type\\":\\"GeographicCRS\\",\\"name\\":\\"WGS 84\\",\\"id\\":{\\"authority\\":\\"OGC\\",\\"code\\":\\"CRS84\\"},\\"scope\\":1.50},\\"crs_type\\":\\"projjson\\",\\"edges\\":\\"spherical\\"}","ARROW:extension:name":"geoarrow.wkb"},"name":"g","nullable":true,"type":"binary"}'
@@ -25,7 +26,7 @@ BROKEN_FOUND = (
 NOT_WHOLE = "note[CrsNotWhole] extension metadata /crs/scope: found 1.50; expected whole numbers. For this alone read and canon of geoarrow_fields refuse the field; other readers do not."
 # Why sources are refused, and a line is none, in words (docs/FORMAT.md, 2.8).
 READ = "an Arrow file, an Arrow stream, a Parquet file or lines of fields"
-IS_EMPTY = f"error[EmptyFile]: found no bytes, or blanks alone; expected {READ}. The writing or the copy broke off before its first byte"
+IS_EMPTY = f"error[EmptyFile] byte 0: found 0 bytes, or blanks alone; expected {READ}. The writing or the copy broke off before its first byte"
 IS_TEXT = f"error[ForeignFormat]: found text; expected {READ}. Lines have one JSON object each"
 NO_NAME = 'error[BadLine] line 1: found no string at "name"; expected a string at "name"'
 NO_GEO_METADATA = Finding("warning", "NoGeoMetadata", source="file", expected="metadata of GeoParquet at the key geo")
@@ -47,7 +48,7 @@ def said_of(finding, is_line=False):
     members = {
         "kind": "finding" if is_line else None, "severity": finding.severity, "code": finding.code, "index": finding.index, "column": finding.column,
         "path": list(finding.path) or None, "in": finding.source, "pointer": finding.pointer, "byte": finding.byte, "line": finding.line,
-        "element": finding.element, "found": finding.found, "expected": finding.expected, "help": finding.help, "more": finding.more or None}
+        "found": finding.found, "expected": finding.expected, "help": finding.help, "more": finding.more or None}
     return json.dumps({key: value for key, value in members.items() if value is not None}, ensure_ascii=False, separators=(",", ":"))
 
 

@@ -2,7 +2,7 @@
  *   n   so many bytes are written, if there is room; otherwise SHORT
  *   s   this status is answered, and nothing is written
  *   r   the bytes are refused: the line that says why, in which so many bytes are found, is written, if there is room; otherwise SHORT
- *   i, b, l, e   the index of the column, the byte, the line or the element that stands there
+ *   i, b, l   the index of the column, the byte or the line that stands there
  *   o   the options (or the command) are written, as one digit
  *   f   the name of the file is written
  * The line says the file too, where the call gives a name. All the room that a call is told of is written to, as a call may. */
@@ -62,7 +62,6 @@ static uint8_t refused(const words *said, const uint8_t *name, size_t name_len, 
     at = number(at, said, 'i', "index");
     at = number(at, said, 'b', "byte");
     at = number(at, said, 'l', "line");
-    at = number(at, said, 'e', "element");
     at += sprintf(at, "\"found\":\"");
     memset(at, 'x', found_len);
     at += found_len;

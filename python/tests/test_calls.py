@@ -17,7 +17,7 @@ from geoarrow_fields import (
     Column, Finding, InvalidColumns, Schema, SchemaError, canon, check, library, lines, read, write_schema)
 from geoarrow_fields.columns import columns_of
 
-from .shared import BROKEN, BROKEN_FOUND, CANON, CRS, DATA, FOUND, NO_GEO_METADATA, OTHER, POINT, TEXT, TOP, said_of, with_crs
+from .shared import BROKEN, BROKEN_FOUND, CANON, CRS, DATA, FOUND, NO_GEO_METADATA, OTHER, POINT, TEXT, TOP, WKT, said_of, with_crs
 
 
 class Answers(unittest.TestCase):
@@ -94,7 +94,7 @@ class Checks(unittest.TestCase):
     def test_notes(self):
         self.assertEqual([one.code for one in check([CRS])[0].findings], [])
         self.assertEqual([one.code for one in check([CRS], notes=True)[0].findings], ["CrsNotWhole"])
-        self.assertEqual([one.code for one in check([TEXT], infer=True, notes=True)[0].findings], [])
+        self.assertEqual([one.code for one in check([WKT], infer=True, notes=True)[0].findings], [])
 
     def test_empty_metadata(self):
         line = CANON.replace('{"ARROW', '{"ARROW:extension:metadata":"","ARROW')
@@ -103,8 +103,8 @@ class Checks(unittest.TestCase):
         self.assertEqual(read(line), "error arrow")
 
     def test_what_is_inferred(self):
-        columns = check([TEXT], infer=True)
-        self.assertEqual(columns, [Column("t", 0, "inferred", "wkt - -", None, "planar")])
+        columns = check([WKT, TEXT], infer=True)
+        self.assertEqual(columns, [Column("wkt", 0, "inferred", "wkt - -", None, "planar"), Column("t", 1, "plain", "utf8")])
         self.assertIs(columns[0].is_geometry, False)
 
     def test_a_crs_and_its_text(self):

@@ -14,7 +14,7 @@ from geoarrow_fields import check
 from geoarrow_fields.__main__ import OF_THE_PROGRAM, main
 from geoarrow_fields.columns import columns_of
 
-from .shared import BROKEN, CANON, CRS, DATA, IS_EMPTY, NO_NAME, NOT_WHOLE, READ, TEXT, TOP, printed
+from .shared import BROKEN, CANON, CRS, DATA, IS_EMPTY, NO_NAME, NOT_WHOLE, READ, TEXT, TOP, WKT, printed
 
 PROGRAM = TOP / "crates/geoarrow_check/out/geoarrow_check"
 NO_FILE = "No such file or directory (os error 2)"
@@ -42,6 +42,18 @@ class Command(unittest.TestCase):
             self.assertEqual(printed(["check", folder + "/no"]), (words, "", 2))
             self.assertEqual(printed(["check", "--json", folder + "/no"]), (line, words, 2))
 
+    def test_a_folder_stands_for_its_files(self):
+        with tempfile.TemporaryDirectory() as folder:
+            wanted = ["A.ndjson", "b-1.jsonl", "b/c.jsonl", "b.arrow", "d.parquet/e.feather"]
+            for name in (*wanted, "_f.jsonl", ".g.jsonl", "_h/i.jsonl", "c.json", "d.JSONL", "e.jsonl.crc"):
+                path = pathlib.Path(folder, name)
+                path.parent.mkdir(exist_ok=True)
+                path.write_text(f"{TEXT}\n")
+            out, err, status = printed(["check", folder])
+            shown = [line[len(folder) + 1:-1] for line in out.split("\n") if line.endswith(":")]
+            self.assertEqual((shown, err, status), (["A.ndjson", "b-1.jsonl", "b.arrow", "b/c.jsonl", "d.parquet/e.feather"], "", 0))
+            self.assertEqual(printed(["check", folder + "/_h", folder + "/c.json"])[2], 0)
+
     def test_the_lines_that_the_program_is_to_print(self):
         words = (DATA.parent / "args").read_text().split()
         found = self.run_in_data(sys.executable, "-m", "geoarrow_fields", "check", *words)
@@ -51,14 +63,14 @@ class Command(unittest.TestCase):
     def test_files_that_are_empty(self):
         with tempfile.TemporaryDirectory() as folder:
             empty, blank, good = (str(pathlib.Path(folder, name)) for name in ("empty", "blank", "good"))
-            for path, text in ((empty, ""), (blank, "\n \t\r\n"), (good, f"{TEXT}\n\n")):
+            for path, text in ((empty, ""), (blank, "\n \t\r\n"), (good, f"{WKT}\n\n")):
                 pathlib.Path(path).write_bytes(text.encode())
             line = (
-                '{"kind":"finding","severity":"error","code":"EmptyFile"%s,"found":"no bytes, or blanks alone","expected":"' + READ
+                '{"kind":"finding","severity":"error","code":"EmptyFile"%s,"byte":0,"found":"0 bytes, or blanks alone","expected":"' + READ
                 + '","help":"The writing or the copy broke off before its first byte"}\n')
             refused = "".join(line % f',"file":"{path}"' for path in (empty, blank))
             words = f"{empty}: {IS_EMPTY}\n{blank}: {IS_EMPTY}\n"
-            plain, inferred = "column  holds  CRS  edges\nt       utf8\n", "column  holds              CRS  edges\nt       taken for wkt - -       planar\n"
+            plain, inferred = "column  holds  CRS  edges\nwkt     utf8\n", "column  holds              CRS  edges\nwkt     taken for wkt - -       planar\n"
             for options, table, geometries in (([], plain, 0), (["--infer", "--notes"], inferred, 1)):
                 behind = f"3 files: 1 column, {geometries} of geometries; no findings; 2 files not read\n"
                 self.assertEqual(printed(["check", *options, empty, blank, good]), (f"{words}{good}:\n{table}{behind}", "", 2))
@@ -124,7 +136,7 @@ class Command(unittest.TestCase):
             for option in ("", "--json"):
                 command = f'"{sys.executable}" -m geoarrow_fields check {option} "{large}" "{large}"; echo $? >&2'
                 found = self.run_in_data("sh", "-c", "{ " + command + "; } | head -1")
-                self.assertEqual((found.stdout.count(b"\n"), found.stderr), (1, b"141\n"))
+                self.assertEqual((found.stdout.count(b"\n"), found.stderr), (1, b"0\n"))
 
     def test_an_output_that_is_closed(self):
         command = f'"{sys.executable}" -m geoarrow_fields check "{TOP}/examples/schema.jsonl"'

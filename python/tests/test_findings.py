@@ -17,8 +17,8 @@ WHOLE = (
 SAID = Finding("warning", "One", "two", ("three", "fo.ur"), "five", "/six", 7, "eight", "nine", "ten.", 11)
 LEAST = '{"severity":"note","code":"One","expected":"two"}'
 COLUMN = '{"kind":"column","index":0,"column":"t","state":"plain","type":"utf8"%s}'
-# What no finding of `WHOLE` has: a column by its index, a line and an element.
-REFUSED = '{"kind":"finding","severity":"error","code":"One","index":2,"in":"three","byte":4,"line":5,"element":6,"found":"seven","expected":"eight"}'
+# What no finding of `WHOLE` has: a column by its index, and a line.
+REFUSED = '{"kind":"finding","severity":"error","code":"One","index":2,"in":"three","byte":4,"line":5,"found":"seven","expected":"eight"}'
 
 
 def line_of(said):
@@ -59,20 +59,20 @@ class Findings(unittest.TestCase):
             self.assertEqual((one, one.json), (SAID, line))
             self.assertEqual(said_of(one, line != WHOLE), line)
         self.assertEqual([field.name for field in dataclasses.fields(Finding)], [
-            "severity", "code", "column", "path", "source", "pointer", "byte", "found", "expected", "help", "more", "index", "line", "element", "json"])
+            "severity", "code", "column", "path", "source", "pointer", "byte", "found", "expected", "help", "more", "index", "line", "json"])
 
     def test_the_keys_of_what_is_refused(self):
         columns = columns_of(f"{COLUMN % ''}\n{REFUSED}\n{line_of(LEAST)}\n")
         (one,) = columns.bad_lines
-        self.assertEqual(one, Finding("error", "One", source="three", byte=4, found="seven", expected="eight", index=2, line=5, element=6))
+        self.assertEqual(one, Finding("error", "One", source="three", byte=4, found="seven", expected="eight", index=2, line=5))
         self.assertEqual((said_of(one, True), one.json), (REFUSED, REFUSED))
-        self.assertEqual(str(one), "error[One] column 2, three, byte 4, line 5, element 6: found seven; expected eight")
+        self.assertEqual(str(one), "error[One] column 2, three, byte 4, line 5: found seven; expected eight")
         self.assertEqual([str(other) for other in columns.findings], ["note[One]: expected two"])
         self.assertEqual([other.name for other in columns], ["t"])
 
     def test_a_bad_line_says_apart_how_many_more_there_are(self):
         (one,) = columns_of(REFUSED.replace("}", ',"more":9}') + "\n").bad_lines
-        self.assertEqual((one.more, str(one)), (9, "error[One] column 2, three, byte 4, line 5, element 6: found seven; expected eight"))
+        self.assertEqual((one.more, str(one)), (9, "error[One] column 2, three, byte 4, line 5: found seven; expected eight"))
 
     def test_unknown_keys_are_passed_over(self):
         more = LEAST.replace('"expected"', '"bytes":7,"lines":[{"line":1}],"expected"')
@@ -84,7 +84,7 @@ class Findings(unittest.TestCase):
         (one,) = of_file(LEAST)
         self.assertEqual(one, Finding("note", "One", expected="two"))
         self.assertEqual((one.column, one.path, one.source, one.pointer, one.byte, one.found, one.help, one.more), (None, (), None, None, None, None, None, 0))
-        self.assertEqual((one.index, one.line, one.element), (None, None, None))
+        self.assertEqual((one.index, one.line), (None, None))
         self.assertEqual((said_of(one, True), str(one)), (line_of(LEAST), "note[One]: expected two"))
 
     def test_words(self):

@@ -16,7 +16,7 @@ from unittest import mock
 
 from geoarrow_fields import files
 
-from .shared import BROKEN, BROKEN_FOUND, CRS, DATA, FOUND, IS_EMPTY, IS_TEXT, TEXT, TOP
+from .shared import BROKEN, BROKEN_FOUND, CRS, DATA, FOUND, IS_EMPTY, IS_TEXT, TEXT, TOP, WKT
 
 SCRIPT = TOP / "examples/many_files.py"
 HAS_DASK = all(importlib.util.find_spec(name) for name in ("dask", "distributed"))
@@ -36,7 +36,7 @@ class ManyFiles(unittest.TestCase):
         self.addCleanup(there.cleanup)
         self.folder = pathlib.Path(there.name)
         (self.folder / "below").mkdir()
-        for name, text in (("a", f"{TEXT}\n{CRS}\n"), ("b", f"{BROKEN}\n"), ("below/c", "\n"), ("d\n", f"{TEXT}\n")):
+        for name, text in (("a", f"{WKT}\n{CRS}\n"), ("b", f"{BROKEN}\n"), ("below/c", "\n"), ("d\n", f"{TEXT}\n")):
             (self.folder / name).write_text(text)
         shutil.copy(DATA / "file.arrow", self.folder / "e")
         (self.folder / "f").write_bytes((DATA / "file.arrow").read_bytes()[:-1])
@@ -46,7 +46,7 @@ class ManyFiles(unittest.TestCase):
             self.report("a", 2, ["g: wkb - -"]), self.report("b", 1, errors=[one.replace("] ", "] column b, ", 1) for one in BROKEN_FOUND], invalid=["b"]),
             self.report("below/c", error=IS_EMPTY), self.report("d\n", 1), self.report("e", 1, ["g: linestring interleaved XYM"]),
             self.report("f", error=(
-                f"error[Truncated] byte {(DATA / 'file.arrow').stat().st_size - 11}: found another end; expected ARROW1 at the end. "
+                f"error[Truncated] byte {(DATA / 'file.arrow').stat().st_size - 1}: found {(DATA / 'file.arrow').read_bytes()[-9:-1].hex()}; expected ARROW1 at the end. "
                 "The file is cut off, or still being written")),
             self.report("g", error="No such file or directory"),
             self.report("h", 3, ["geom: wkb - -", "place: wkb - -", "region: wkb - -"], FOUND[:2], FOUND[2:])]
@@ -86,7 +86,7 @@ class ManyFiles(unittest.TestCase):
         for names, wanted in (("a", 0), ("ab", 1), ("ah", 1), ("ahg", 2)):
             self.assertEqual(self.ran("--with", "loop", *(self.folder / name for name in names))[2], wanted)
         found, _, status = self.ran("--with", "loop", "--infer", self.folder / "a")
-        self.assertEqual((found[0]["geometries"], status), (["t: wkt - -", "g: wkb - -"], 0))
+        self.assertEqual((found[0]["geometries"], status), (["wkt: wkt - -", "g: wkb - -"], 0))
 
     def test_whatever_is_wrong_is_said(self):
         with mock.patch("geoarrow_fields.check", side_effect=RuntimeError("odd")):

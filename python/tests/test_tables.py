@@ -6,7 +6,7 @@ import unittest
 from geoarrow_fields import Finding, check
 from geoarrow_fields.columns import columns_of
 
-from .shared import BROKEN, BROKEN_FOUND, CRS, NO_GEO_METADATA, NOT_WHOLE, TEXT, TOP, with_crs
+from .shared import BROKEN, BROKEN_FOUND, CRS, NO_GEO_METADATA, NOT_WHOLE, TEXT, TOP, WKT, with_crs
 
 COLUMN = '{"kind":"column","index":0,"column":"t","state":"plain","type":"utf8"}'
 ERROR = '{"kind":"finding","severity":"error","code":"GeoBbox","column":"t","in":"geo","pointer":"/columns/t/bbox","found":"[1]","expected":"m","help":"h?"}'
@@ -38,14 +38,14 @@ class Cells(html.parser.HTMLParser):
 
 class Tables(unittest.TestCase):
     def test_a_table(self):
-        self.assertEqual(repr(check([CRS, BROKEN, TEXT], infer=True, notes=True)), """\
+        self.assertEqual(repr(check([CRS, BROKEN, WKT], infer=True, notes=True)), """\
 column  holds                        CRS        edges
 g       wkb - -                      OGC:CRS84  spherical
     %s
 b       invalid geoarrow.linestring
     %s
     %s
-t       taken for wkt - -                       planar""" % (NOT_WHOLE, *BROKEN_FOUND))
+wkt     taken for wkt - -                       planar""" % (NOT_WHOLE, *BROKEN_FOUND))
 
     def test_the_table_of_the_readme(self):
         readme = (TOP / "README.md").read_text()
@@ -81,6 +81,13 @@ t       taken for wkt - -                       planar""" % (NOT_WHOLE, *BROKEN_
         self.assertEqual(repr(check([other])).split("\n")[1], "o       " + "x" * 38 + "..")
         self.assertEqual(Cells(check([other])._repr_html_()).cells[4:], ["o", "x" * 38 + "..", "", ""])
 
+    def test_characters_of_two_columns_and_of_none(self):
+        cells = (
+            ("東" * 20, "東" * 20, 40), ("東" * 21, "東" * 19 + "..", 40), ("x" + "東" * 20, "x" + "東" * 18 + "..", 39), ("東京", "東京", 4),
+            ("e\u0301" * 40, "e\u0301" * 40, 40), ("e\u0301" * 41, "e\u0301" * 38 + "..", 40), ("\u2764\ufe0f", "\u2764\ufe0f", 2))
+        lines = repr(check([TEXT.replace('"t"', f'"{name}"') for name, _, _ in cells])).split("\n")
+        self.assertEqual(lines[1:], [cell + " " * (42 - columns) + "utf8" for _, cell, columns in cells])
+
     def test_control_characters(self):
         table = repr(check([TEXT.replace('"t"', '"a\\u001b[2J\\u0085\\nb"')]))
         self.assertEqual(table, "column     holds  CRS  edges\na?[2J??b   utf8".replace("a?[2J??b  ", "a?[2J??b ").replace("column    ", "column   "))
@@ -115,13 +122,13 @@ class Behind(unittest.TestCase):
 
 class Html(unittest.TestCase):
     def test_cells(self):
-        found = Cells(check([CRS, BROKEN, TEXT], infer=True, notes=True)._repr_html_())
+        found = Cells(check([CRS, BROKEN, WKT], infer=True, notes=True)._repr_html_())
         self.assertEqual(found.tags, {"table", "thead", "tbody", "tr", "th", "td"})
         self.assertEqual(found.cells, [
             "column", "holds", "CRS", "edges",
             "g", "wkb - -", "OGC:CRS84", "spherical", "", NOT_WHOLE,
             "b", "invalid geoarrow.linestring", "", "", "", BROKEN_FOUND[0], "", BROKEN_FOUND[1],
-            "t", "taken for wkt - -", "", "planar"])
+            "wkt", "taken for wkt - -", "", "planar"])
         self.assertEqual(found.spans, [4] * 7)
 
     def test_each_text_is_escaped(self):

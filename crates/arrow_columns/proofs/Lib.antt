@@ -1,4 +1,6 @@
 mod Joined
 mod Steps
 mod Known
+mod Placed
+mod Outlining
 mod Named

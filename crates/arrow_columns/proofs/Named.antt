@@ -8,7 +8,8 @@ use Rattle.std.proofs.lemmas.List.Folds.{find-append}
 use Rattle.std.proofs.lemmas.List.Sums.{sum_by-cons, sum_by_push}
 use Rattle.std.proofs.lemmas.Slice.Eq.{bytes_eq-Decides}
 use Rattle.arrow_values.specs.Tree.{Text}
-use Rattle.arrow_columns.specs.Column.{ColumnTree, column_tree}
+use Rattle.arrow_columns.specs.Types.{ColumnTree}
+use Rattle.arrow_columns.specs.Column.{column_tree}
 use Rattle.arrow_columns.specs.Names.{count_of, first_of, is_one, named_in, named_at, AreNamed}
 use Rattle.arrow_columns.specs.declared.column.SchemaColumn.{SchemaColumn}
 

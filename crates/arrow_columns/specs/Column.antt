@@ -1,26 +1,16 @@
 -- A column as contracts see it.
-use Rattle.std.specs.Prelude.{Bool, Option, string_bytes}
-use Rattle.arrow_values.specs.Tree.{Text, Tree, Metadata, FieldTree}
+use Rattle.std.specs.Prelude.{Option, string_bytes}
+use Rattle.arrow_values.specs.Tree.{Text, FieldTree}
 use Rattle.arrow_values.specs.View.{tree, texts_of}
 use Rattle.arrow_values.specs.Texts.{text_at, name_key, metadata_key}
+use Rattle.arrow_columns.specs.Types.{TypeTree, known, other, ColumnTree, part_trees}
 use Rattle.arrow_columns.specs.declared.column.SchemaColumn.{SchemaColumn}
 use Rattle.arrow_columns.specs.declared.column.AnyType.{AnyType}
 use Rattle.arrow_columns.specs.declared.column.AnyType.TheVariants.{Data, Other}
 
--- a type: a data type with all that is nested in it, or another type by its notation
-pub data TypeTree : Type 0 where
-  known : Tree → TypeTree
-  other : Text → TypeTree
-
-pub record ColumnTree : Type 0 where
-  pub name : Text
-  pub data_type : TypeTree
-  pub nullable : Bool
-  pub metadata : Metadata
-
 abbrev pub type_tree : AnyType → TypeTree
 type_tree (Data d) = known (tree d)
-type_tree (Other t) = other (string_bytes t)
+type_tree (Other o) = other (string_bytes o.notation) o.form o.ids.items (part_trees o.parts.items)
 
 abbrev pub column_tree : SchemaColumn → ColumnTree
 column_tree c = record {

@@ -5,7 +5,7 @@ use Rattle.std.specs.Fmt.{signed_decimal}
 use Rattle.arrow_values.specs.Tree.{Text, null, boolean, int8, int16, int32, int64, uint8, uint16, uint32, uint64, float16, float32, float64, date32, date64, binary, large_binary, binary_view, utf8, large_utf8, utf8_view, Plain, Tree, plain, list, large_list, fixed_size_list, struct, union, FieldTrees, no_fields, field, MemberTrees, no_members, member, FieldTree}
 use Rattle.arrow_values.specs.declared.tree.UnionMode.{UnionMode}
 use Rattle.arrow_values.specs.declared.tree.UnionMode.TheVariants.{Sparse, Dense}
-use Rattle.arrow_columns.specs.Column.{TypeTree, known, other, ColumnTree}
+use Rattle.arrow_columns.specs.Types.{TypeTree, known, other, ColumnTree}
 
 -- what stands behind a part whose values may not be null
 abbrev pub null_word : Bool → Text
@@ -83,7 +83,7 @@ field_text f = part_text f.name (tree_text f.tree) f.nullable
 -- any type of a column
 abbrev pub type_text : TypeTree → Text
 type_text (known t) = tree_text t
-type_text (other t) = t
+type_text (other s f ids ps) = s
 
 -- a column as a part of a nested type
 abbrev pub column_text : ColumnTree → Text

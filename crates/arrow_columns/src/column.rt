@@ -2,9 +2,11 @@
 ghost use Rattle.std.specs.Prelude.{◌≡◌, IfOk, string_bytes};
 ghost use Rattle.arrow_values.specs.Texts.{text_of};
 ghost use Rattle.arrow_columns.specs.Column.{type_tree, column_tree, column_of, name_on, metadata_on};
+ghost use Rattle.arrow_columns.specs.Types.{leaf};
 ghost use Rattle.arrow_columns.specs.Notation.{type_text, column_text};
 
 use crate::notation::{data_type_notation, part_notation};
+use crate::other::{Form, OtherType};
 use arrow_values::{
     DataType, EXTENSION_TYPE_METADATA_KEY, EXTENSION_TYPE_NAME_KEY, Field, text_at,
 };
@@ -17,7 +19,7 @@ use std::collections::BTreeMap;
 /// let column = SchemaColumn {
 ///     name: String::from_str(alloc, "at")?,
 ///     nullable: true,
-///     data_type: AnyType::Other(String::from_str(alloc, "timestamp[ms]")?),
+///     data_type: AnyType::leaf(alloc, String::from_str(alloc, "timestamp[ms]")?),
 ///     metadata: BTreeMap::new(alloc),
 /// };
 /// let text = column.notation(alloc)?;
@@ -42,15 +44,29 @@ pub struct SchemaColumn {
 /// let text = column_type.notation(alloc)?;
 /// assert_eq!(rt; text.as_str(), "float64");
 /// ```
+#[cycle(column)]
 #[derive(Debug, Drop)]
 pub enum AnyType {
     /// One of the 26 data types, with all that is nested in it.
     Data(DataType),
-    /// Any other type of Arrow, or a nested type with one of those anywhere below: its notation.
-    Other(String),
+    /// Any other type of Arrow, or a nested type with one of those anywhere below.
+    Other(OtherType),
 }
 
 impl AnyType {
+    /// Returns the type that is none of the 26 and of which nothing but the notation is known, as
+    /// `timestamp[ms]`. Allocates nothing.
+    pub fn leaf(alloc: Global, notation: String) -> AnyType
+        ensures { type_tree result ≡ leaf (string_bytes notation) }
+    {
+        AnyType::Other(OtherType {
+            notation,
+            form: Form::Leaf,
+            ids: Vec::new(alloc),
+            parts: Vec::new(alloc),
+        })
+    }
+
     /// The type in Arrow's usual notation, as `list<item: float64 not null>` or `timestamp[ms, tz=UTC]`; of an `Other` its
     /// text. Errs only when out of memory.
     pub fn notation(&self, alloc: Global) -> Result<String, AllocError>
@@ -58,7 +74,7 @@ impl AnyType {
     {
         match self {
             AnyType::Data(data_type) => data_type_notation(alloc, data_type),
-            AnyType::Other(text) => String::from_str(alloc, text.as_str()),
+            AnyType::Other(other) => String::from_str(alloc, other.notation.as_str()),
         }
     }
 }

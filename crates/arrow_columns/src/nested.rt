@@ -1,11 +1,16 @@
-//! Types with columns nested in them: data types where all that is nested is, and otherwise their notation.
+//! Types with columns nested in them: data types where all that is nested is, and otherwise other types, which keep
+//! the columns as their parts.
 ghost use Rattle.std.specs.Prelude.{◌≡◌, IfOk, map, option_map, string_bytes};
+ghost use Rattle.std.specs.Prelude.{◌∷◌, []};
 ghost use Rattle.arrow_columns.specs.Column.{type_tree, column_tree};
+ghost use Rattle.arrow_columns.specs.Types.{other, part_trees};
 ghost use Rattle.arrow_columns.specs.Notation.{column_text};
-ghost use Rattle.arrow_columns.specs.Nested.{only, list_text, list_type, all_known, known_fields, struct_type};
+ghost use Rattle.arrow_columns.specs.Nested.{only, list_text, list_type, all_known, known_fields, nested_type, struct_type};
+ghost use Rattle.arrow_columns.specs.declared.other.Form.TheVariants.{Struct, List as ListOf};
 
 use crate::column::{AnyType, SchemaColumn};
-use crate::notation::{nested_notation, part_notation, sized_notation};
+use crate::notation::{nested_notation, sized_notation};
+use crate::other::{Form, OtherType, Part};
 use arrow_values::{DataType, Field, Fields};
 use std::alloc::{AllocError, Global};
 
@@ -45,7 +50,7 @@ fn list_text(alloc: Global, form: ListForm, part: String) -> Result<String, Allo
 }
 
 /// The type of lists whose items are those of a column: a data type where the column's type is one, with the column as
-/// its field, or otherwise the notation, as `list<item: timestamp[ms]>`. Errs only when out of memory.
+/// its field, or otherwise another type, as `list<item: timestamp[ms]>`. Errs only when out of memory.
 pub fn list_type(alloc: Global, form: ListForm, item: SchemaColumn) -> Result<AnyType, AllocError>
     ensures { IfOk result (λ made. type_tree made ≡ list_type form (column_tree item)) }
 {
@@ -65,11 +70,30 @@ pub fn list_type(alloc: Global, form: ListForm, item: SchemaColumn) -> Result<An
                 ListForm::Fixed(size) => DataType::FixedSizeList(item, size),
             }))
         }
-        AnyType::Other(text) => {
-            let part = part_notation(alloc, name.as_str(), text.as_str(), nullable)?;
-            Ok(AnyType::Other(list_text(alloc, form, part)?))
-        }
+        AnyType::Other(other) => other_list(
+            alloc,
+            form,
+            SchemaColumn {
+                name,
+                nullable,
+                data_type: AnyType::Other(other),
+                metadata,
+            },
+        ),
     }
+}
+
+/// The type of lists whose items are those of a column that is of no data type.
+fn other_list(alloc: Global, form: ListForm, item: SchemaColumn) -> Result<AnyType, AllocError>
+    ensures { IfOk result (λ made. type_tree made ≡ other (list_text form (column_text (column_tree item))) (ListOf form) [] (part_trees (column_tree item ∷ []))) }
+{
+    let text = list_text(alloc, form, item.notation(alloc)?)?;
+    Ok(AnyType::Other(OtherType {
+        notation: text,
+        form: Form::List(form),
+        ids: Vec::new(alloc),
+        parts: vec![in alloc; Part::of_column(item)]?,
+    }))
 }
 
 /// Whether the types of all columns are data types. Allocates nothing.
@@ -116,14 +140,44 @@ pub fn parts_of(alloc: Global, columns: &[SchemaColumn]) -> Result<Vec<String>, 
     Ok(parts)
 }
 
+/// The columns as parts, in order. Errs only when out of memory.
+fn as_parts(alloc: Global, columns: Vec<SchemaColumn>) -> Result<Vec<Part>, AllocError>
+    ensures { IfOk result (λ parts. parts.items ≡ map column_tree columns.items) }
+{
+    let mut parts = Vec::with_capacity(alloc, columns.len())?;
+    'columns: for column in columns {
+        parts.push(Part::of_column(column))?;
+    }
+    Ok(parts)
+}
+
+/// Returns the type of a form that nests columns and is none of the 26, with that notation; of a
+/// union under those ids. Errs only when out of memory.
+pub fn nested_type(
+    alloc: Global,
+    notation: String,
+    form: Form,
+    ids: Vec<i8>,
+    columns: Vec<SchemaColumn>,
+) -> Result<AnyType, AllocError>
+    ensures { IfOk result (λ made. type_tree made ≡ nested_type (string_bytes notation) form ids.items (map column_tree columns.items)) }
+{
+    Ok(AnyType::Other(OtherType {
+        notation,
+        form,
+        ids,
+        parts: as_parts(alloc, columns)?,
+    }))
+}
+
 /// The type of structs of columns: a data type where all their types are, with the columns as its fields, or otherwise
-/// the notation, as `struct<x: float64, at: timestamp[ms]>`. Errs only when out of memory.
+/// another type, as `struct<x: float64, at: timestamp[ms]>`. Errs only when out of memory.
 ///
 /// ```rust
 /// let column = SchemaColumn {
 ///     name: String::from_str(alloc, "at")?,
 ///     nullable: false,
-///     data_type: AnyType::Other(String::from_str(alloc, "timestamp[ms]")?),
+///     data_type: AnyType::leaf(alloc, String::from_str(alloc, "timestamp[ms]")?),
 ///     metadata: BTreeMap::new(alloc),
 /// };
 /// let made = struct_type(alloc, vec![in alloc; column]?)?;
@@ -136,7 +190,7 @@ pub fn struct_type(alloc: Global, columns: Vec<SchemaColumn>) -> Result<AnyType,
     if !all_known(columns.as_slice()) {
         let parts = parts_of(alloc, columns.as_slice())?;
         let text = nested_notation(alloc, "struct", parts.as_slice())?;
-        return Ok(AnyType::Other(text));
+        return nested_type(alloc, text, Form::Struct, Vec::new(alloc), columns);
     }
     let fields = fields_of(alloc, columns)?;
     Ok(AnyType::Data(DataType::Struct(Fields::from(fields))))

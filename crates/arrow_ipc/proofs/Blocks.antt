@@ -4,7 +4,8 @@ use Rattle.std.specs.Str.{is_utf8}
 use Rattle.std.proofs.lemmas.List.{length-append, take_at, drop_all, map-append}
 use mir.Val.{bool_byte}
 use Rattle.arrow_values.specs.Tree.{Text, Metadata, null, plain, fixed_size_list, struct, FieldTree, union, MemberTrees, no_members, member, Members, Tree, FieldTrees, no_fields, field, fields_depth, members_depth}
-use Rattle.arrow_columns.specs.Column.{TypeTree, ColumnTree, known, column_tree}
+use Rattle.arrow_columns.specs.Column.{column_tree}
+use Rattle.arrow_columns.specs.Types.{TypeTree, ColumnTree, known}
 use Rattle.arrow_ipc.specs.Wire.{utf8_at, integer_at, target_at, vector_at, slot_at}
 use Rattle.arrow_ipc.specs.Slots.{table_in, integer_in, flag_in, led_by, text_in, vector_in}
 use Rattle.arrow_ipc.specs.Columns.{entry_in, texts_at, finished, columns_by, column_at, ids_at, typed, is_new, put_id, ids_from, entry_at, put_next, put_column}

@@ -1,6 +1,6 @@
 -- From what a step returned to what a call returned; and laws of what is read.
 use Rattle.std.proofs.Common.{◌≡◌, ℕ, ◌+◌, ◌*◌, ◌-◌, ◌<◌, ◌≤◌, Result, Ok, Err, refl, ap, ◌∙◌, arith, suc, List, ℤ, Option, zero, length, MatchResult}
-use Rattle.arrow_columns.specs.Column.{ColumnTree}
+use Rattle.arrow_columns.specs.Types.{ColumnTree}
 use Rattle.arrow_ipc.specs.Fault.{◌>>=◌, breaks}
 use Rattle.arrow_ipc.specs.Tells.{Fails, ◌>>+◌, gather}
 use Rattle.arrow_ipc.specs.declared.fault.IpcFault.{IpcFault}

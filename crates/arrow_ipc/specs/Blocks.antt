@@ -7,7 +7,7 @@ use mir.Val.{bool_byte}
 use Rattle.arrow_values.specs.Tree.{Text, Metadata}
 use Rattle.arrow_values.specs.declared.tree.UnionMode.{UnionMode}
 use Rattle.arrow_values.specs.declared.tree.UnionMode.TheVariants.{Sparse, Dense}
-use Rattle.arrow_columns.specs.Column.{TypeTree, ColumnTree}
+use Rattle.arrow_columns.specs.Types.{TypeTree, ColumnTree}
 use Rattle.arrow_ipc.specs.Fault.{◌>>=◌, breaks}
 use Rattle.arrow_ipc.specs.Tells.{◌>>+◌}
 use Rattle.arrow_ipc.specs.Wire.{opened_at, slot_at, utf8_at, vector_at}

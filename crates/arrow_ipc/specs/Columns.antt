@@ -6,7 +6,7 @@ use Rattle.std.specs.Prelude.{ℕ, zero, suc, ◌+◌, ◌*◌, ℤ, pos, Bool, 
 use Rattle.arrow_values.specs.Tree.{Text, Metadata}
 use Rattle.arrow_values.specs.Texts.{put_text}
 use Rattle.arrow_values.specs.Union.{has}
-use Rattle.arrow_columns.specs.Column.{TypeTree, ColumnTree}
+use Rattle.arrow_columns.specs.Types.{TypeTree, ColumnTree}
 use Rattle.arrow_ipc.specs.Fault.{◌>>=◌, breaks}
 use Rattle.arrow_ipc.specs.Wire.{opened_at, integer_at, target_at, utf8_at}
 use Rattle.arrow_ipc.specs.Slots.{table_in}

@@ -3,7 +3,7 @@ use Rattle.std.specs.Prelude.{◌≡◌, ℕ, ◌+◌, ◌*◌, ◌^◌, ◌<◌
 use Rattle.std.specs.declared.vec.Vec.{Vec}
 use Rattle.std.specs.declared.alloc.Global.{Global}
 use Rattle.arrow_values.specs.Tree.{Text, Metadata, Tree, plain, list, large_list, fixed_size_list, struct, union, FieldTrees, no_fields, field, MemberTrees, no_members, member, depth}
-use Rattle.arrow_columns.specs.Column.{TypeTree, known, other, ColumnTree}
+use Rattle.arrow_columns.specs.Types.{TypeTree, known, other, ColumnTree}
 use Rattle.arrow_ipc.specs.Schema.{SchemaTree}
 use Rattle.arrow_ipc.specs.Shapes.{member_ids, are_ids, tag_of, bytes_of, has_table}
 use Rattle.arrow_ipc.specs.declared.write.WriteError.{WriteError}
@@ -65,7 +65,7 @@ abbrev mutual
 -- a column of any type, with so many bytes of texts
 abbrev pub room_of_type : TypeTree → ℕ → ℕ
 room_of_type (known t) texts = 60 + (table_room t + nested_room t) + texts
-room_of_type (other t) texts = 60 + texts
+room_of_type (other s f ids ps) texts = 60 + texts
 
 abbrev pub column_room : Text → Tree → Metadata → ℕ
 column_room n t m = room_of_type (known t) (length n + texts_room m)
@@ -114,7 +114,7 @@ IsUnfit levels t = (is_sound t ≡ false) ⊎ (levels ≤ depth t)
 -- columns of which one is unfit
 abbrev pub IsUnfitType : ℕ → TypeTree → Type 0
 IsUnfitType levels (known t) = IsUnfit levels t
-IsUnfitType levels (other text) = Unit {0}
+IsUnfitType levels (other s f ids ps) = Unit {0}
 
 abbrev pub AreUnfit : ℕ → List ColumnTree → Type 0
 AreUnfit levels [] = ⊥

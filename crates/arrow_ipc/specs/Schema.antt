@@ -5,7 +5,8 @@ use Rattle.std.specs.Int.{w8, w16, w32, w64, from_le_bytes}
 use Rattle.std.specs.Option.{unwrap_or}
 use Rattle.arrow_values.specs.Tree.{Metadata}
 use Rattle.arrow_values.specs.View.{texts_of}
-use Rattle.arrow_columns.specs.Column.{ColumnTree, column_tree}
+use Rattle.arrow_columns.specs.Column.{column_tree}
+use Rattle.arrow_columns.specs.Types.{ColumnTree}
 use Rattle.arrow_ipc.specs.Fault.{◌>>=◌, breaks}
 use Rattle.arrow_ipc.specs.Wire.{integer_at, opened_at, target_at, vector_at}
 use Rattle.arrow_ipc.specs.Slots.{integer_in, table_in, vector_in}

@@ -3,7 +3,7 @@ use Rattle.std.specs.Prelude.{ℕ, ℤ, pos, negsuc, Bool, true, false, ◌&&◌
 use Rattle.std.specs.Option.{option_map_or}
 use Rattle.arrow_values.specs.Tree.{null, boolean, int8, int16, int32, int64, uint8, uint16, uint32, uint64, float16, float32, float64, date32, date64, binary, large_binary, binary_view, utf8, large_utf8, utf8_view, Plain, Tree, plain, list, large_list, fixed_size_list, struct, union, MemberTrees, no_members, member, FieldTree}
 use Rattle.arrow_values.specs.View.{field_list}
-use Rattle.arrow_columns.specs.Column.{known, ColumnTree}
+use Rattle.arrow_columns.specs.Types.{known, ColumnTree}
 use Rattle.arrow_values.specs.Union.{has}
 use Rattle.arrow_ipc.specs.Blocks.{type_block, union_block}
 

@@ -1,15 +1,16 @@
 -- A column's type, from its kind and its children.
-use Rattle.std.specs.Prelude.{ℕ, ℤ, List, [], ◌++◌, nat_lt, length, map, codes, Option, Some, None, ◌==◌, if◌then◌else◌}
+use Rattle.std.specs.Prelude.{ℕ, ℤ, true, List, [], ◌∷◌, ◌++◌, nat_lt, length, map, codes, Option, Some, None, ◌==◌, if◌then◌else◌}
 use Rattle.std.specs.List.{zip}
 use Rattle.std.specs.Fmt.{decimal, signed_decimal}
 use mir.Val.{bool_byte}
 use Rattle.arrow_values.specs.Tree.{Text, union}
 use Rattle.arrow_values.specs.View.{tree, member_trees}
 use Rattle.arrow_values.specs.declared.tree.UnionMode.{UnionMode}
-use Rattle.arrow_columns.specs.Column.{TypeTree, known, other, ColumnTree}
+use Rattle.arrow_columns.specs.Types.{TypeTree, known, leaf, ColumnTree}
 use Rattle.arrow_columns.specs.Notation.{plain_word, nested_text, sized_text, member_text, union_word, type_text, column_text}
-use Rattle.arrow_columns.specs.Nested.{only, list_type, all_known, known_fields, struct_type}
+use Rattle.arrow_columns.specs.Nested.{only, list_type, all_known, known_fields, nested_type, struct_type}
 use Rattle.arrow_columns.specs.declared.nested.ListForm.{ListForm}
+use Rattle.arrow_columns.specs.declared.other.Form as form
 use Rattle.arrow_ipc.specs.declared.parts.Named as named
 use Rattle.arrow_ipc.specs.declared.parts.Named.TheVariants.{Decimal, Time, Timestamp, Duration, Interval, FixedSizeBinary}
 use Rattle.arrow_ipc.specs.declared.parts.Kind.{Kind}
@@ -43,9 +44,12 @@ abbrev pub dictionary_text : Index → Text → Text
 dictionary_text index values =
     codes "dictionary<values=" ++ (values ++ (codes ", indices=" ++ (plain_word (tree index.integers) ++ (codes ", ordered=" ++ (decimal (bool_byte index.ordered) ++ codes ">")))))
 
+abbrev pub dictionary_values : TypeTree → ColumnTree
+dictionary_values t = record { name = codes "values"; data_type = t; nullable = true; metadata = [] }
+
 abbrev pub with_dictionary : Option Index → TypeTree → TypeTree
 with_dictionary None t = t
-with_dictionary (Some index) t = other (dictionary_text index (type_text t))
+with_dictionary (Some index) t = nested_type (dictionary_text index (type_text t)) form.TheVariants.Dictionary [] (dictionary_values t ∷ [])
 
 -- a union of children under their type ids
 abbrev pub member_part : ℤ × ColumnTree → Text
@@ -55,11 +59,11 @@ abbrev pub member_parts : List ℤ → List ColumnTree → List Text
 member_parts ids cs = map member_part (zip ids cs)
 
 abbrev pub union_type : UnionMode → List ℤ → List ColumnTree → TypeTree
-union_type mode ids cs = if all_known cs then known (union (member_trees (zip ids (known_fields cs))) mode) else other (nested_text (union_word mode) (member_parts ids cs))
+union_type mode ids cs = if all_known cs then known (union (member_trees (zip ids (known_fields cs))) mode) else nested_type (nested_text (union_word mode) (member_parts ids cs)) (form.TheVariants.Union mode) ids cs
 
--- a type that is never a data type, with so many children
-abbrev pub others : Text → ℕ → List ColumnTree → Option TypeTree
-others word count cs = if length cs == count then Some (other (nested_text word (map column_text cs))) else None
+-- a type of a form that is never a data type, with so many children
+abbrev pub others : form.Form → Text → ℕ → List ColumnTree → Option TypeTree
+others f word count cs = if length cs == count then Some (nested_type (nested_text word (map column_text cs)) f [] cs) else None
 
 abbrev pub listed : ListForm → Option ColumnTree → Option TypeTree
 listed form None = None
@@ -68,11 +72,11 @@ listed form (Some c) = Some (list_type form c)
 -- none where the number of children is wrong
 unfoldable pub type_of : Kind → Text → List ℤ → List ColumnTree → Option TypeTree
 type_of (Plain d) zone ids cs = Some (known (tree d))
-type_of (Named n) zone ids cs = Some (other (named_text n zone))
+type_of (Named n) zone ids cs = Some (leaf (named_text n zone))
 type_of (ListOf form) zone ids cs = listed form (only cs)
 type_of Struct zone ids cs = Some (struct_type cs)
 type_of (Union mode) zone ids cs = Some (union_type mode ids cs)
-type_of Map zone ids cs = others (codes "map") 1 cs
-type_of RunEndEncoded zone ids cs = others (codes "run_end_encoded") 2 cs
-type_of ListView zone ids cs = others (codes "list_view") 1 cs
-type_of LargeListView zone ids cs = others (codes "large_list_view") 1 cs
+type_of Map zone ids cs = others form.TheVariants.Map (codes "map") 1 cs
+type_of RunEndEncoded zone ids cs = others form.TheVariants.RunEndEncoded (codes "run_end_encoded") 2 cs
+type_of ListView zone ids cs = others form.TheVariants.ListView (codes "list_view") 1 cs
+type_of LargeListView zone ids cs = others form.TheVariants.LargeListView (codes "large_list_view") 1 cs

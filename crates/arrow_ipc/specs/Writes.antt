@@ -3,7 +3,7 @@ use Rattle.std.specs.Prelude.{◌≡◌, ℕ, ◌^◌, ◌≤◌, List, length, 
 use Rattle.std.specs.declared.vec.Vec.{Vec}
 use Rattle.std.specs.declared.alloc.Global.{Global}
 use Rattle.arrow_values.specs.Tree.{Metadata}
-use Rattle.arrow_columns.specs.Column.{ColumnTree}
+use Rattle.arrow_columns.specs.Types.{ColumnTree}
 use Rattle.arrow_ipc.specs.Blocks.{Holds, columns_read, texts_read}
 use Rattle.arrow_ipc.specs.Denotes.{IsStreamOf}
 use Rattle.arrow_ipc.specs.Rooms.{IsUnfitType, columns_room}

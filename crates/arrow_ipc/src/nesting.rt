@@ -1,7 +1,7 @@
 //! Columns of data types, with the tables of their types and all that they nest.
 ghost use Rattle.std.specs.Prelude.{◌≡◌, [], map, IfOk};
 ghost use Rattle.arrow_values.specs.View.{tree, member_trees, texts_of};
-ghost use Rattle.arrow_columns.specs.Column.{known};
+ghost use Rattle.arrow_columns.specs.Types.{known};
 ghost use Rattle.arrow_ipc.specs.Blocks.{Holds, child_in, columns_read, union_block};
 ghost use Rattle.arrow_ipc.specs.Shapes.{shape_of, member_ids, are_ids, column_of, nested_columns};
 ghost use Rattle.arrow_ipc.specs.Rooms.{MakesSound, IsTable, Gives, IsUnfit, AreUnfit, column_room, columns_room};

@@ -1,16 +1,18 @@
 //! A column's type, from its kind and its children.
 ghost use Rattle.std.specs.Prelude.{◌≡◌, IfOk, IsTrue, map, option_map, string_bytes};
 ghost use Rattle.arrow_columns.specs.Column.{type_tree, column_tree};
-ghost use Rattle.arrow_columns.specs.Nested.{only, list_type, all_known, known_fields, struct_type};
-ghost use Rattle.arrow_ipc.specs.Types.{timed_text, named_text, member_parts, union_type, others, type_of, with_dictionary};
+ghost use Rattle.arrow_columns.specs.Nested.{only, list_type, all_known, known_fields, nested_type, struct_type};
+ghost use Rattle.arrow_columns.specs.declared.other.Form.{Form};
+ghost use Rattle.arrow_ipc.specs.Types.{timed_text, named_text, member_parts, union_type, others, type_of, dictionary_values, with_dictionary};
 
 use crate::parts::{Index, Kind, Named};
 use arrow_columns::{
-    AnyType, SchemaColumn, all_known, fields_of, list_type, member_notation, nested_notation,
-    only_column, parts_of, plain_name, sized_notation, struct_type, union_word,
+    AnyType, Form, SchemaColumn, all_known, fields_of, list_type, member_notation, nested_notation,
+    nested_type, only_column, parts_of, plain_name, sized_notation, struct_type, union_word,
 };
 use arrow_values::{DataType, UnionFields, UnionMode};
 use std::alloc::{AllocError, Global};
+use std::collections::BTreeMap;
 
 /// What is made; only memory may lack.
 type Made<T> = Result<T, AllocError>;
@@ -73,28 +75,29 @@ fn union_type(alloc: Global, mode: UnionMode, ids: Vec<i8>, children: Vec<Schema
     if !all_known(children.as_slice()) {
         let parts = member_parts(alloc, ids.as_slice(), children.as_slice())?;
         let text = nested_notation(alloc, union_word(mode), parts.as_slice())?;
-        return Ok(AnyType::Other(text));
+        return nested_type(alloc, text, Form::Union(mode), ids, children);
     }
     let fields = fields_of(alloc, children)?;
     let members = UnionFields::try_new(alloc, ids, fields).or(Err(AllocError))?;
     Ok(AnyType::Data(DataType::Union(members, mode)))
 }
 
-/// A type with so many children that is none of the 26.
+/// A type of a form with so many children that is none of the 26.
 fn others(
     alloc: Global,
+    form: Form,
     word: &str,
     count: usize,
-    children: &[SchemaColumn],
+    children: Vec<SchemaColumn>,
 ) -> Made<Option<AnyType>>
-    ensures { IfOk result (λ o. option_map type_tree o ≡ others word.now count (map column_tree children.now)) }
+    ensures { IfOk result (λ o. option_map type_tree o ≡ others form word.now count (map column_tree children.items)) }
 {
     if children.len() != count {
         return Ok(None);
     }
-    let parts = parts_of(alloc, children)?;
+    let parts = parts_of(alloc, children.as_slice())?;
     let text = nested_notation(alloc, word, parts.as_slice())?;
-    Ok(Some(AnyType::Other(text)))
+    Ok(Some(nested_type(alloc, text, form, Vec::new(alloc), children)?))
 }
 
 /// A type of a kind; `None` where the number of children is wrong.
@@ -110,18 +113,33 @@ pub(crate) fn type_of(
 {
     match kind {
         Kind::Plain(data_type) => Ok(Some(AnyType::Data(data_type.try_clone(alloc)?))),
-        Kind::Named(named) => Ok(Some(AnyType::Other(named_text(alloc, *named, zone)?))),
+        Kind::Named(named) => {
+            let text = named_text(alloc, *named, zone)?;
+            Ok(Some(AnyType::leaf(alloc, text)))
+        }
         Kind::List(form) => match only_column(children) {
             Some(child) => Ok(Some(list_type(alloc, *form, child)?)),
             None => Ok(None),
         },
         Kind::Struct => Ok(Some(struct_type(alloc, children)?)),
         Kind::Union(mode) => Ok(Some(union_type(alloc, *mode, ids, children)?)),
-        Kind::Map => others(alloc, "map", 1, children.as_slice()),
-        Kind::RunEndEncoded => others(alloc, "run_end_encoded", 2, children.as_slice()),
-        Kind::ListView => others(alloc, "list_view", 1, children.as_slice()),
-        Kind::LargeListView => others(alloc, "large_list_view", 1, children.as_slice()),
+        Kind::Map => others(alloc, Form::Map, "map", 1, children),
+        Kind::RunEndEncoded => others(alloc, Form::RunEndEncoded, "run_end_encoded", 2, children),
+        Kind::ListView => others(alloc, Form::ListView, "list_view", 1, children),
+        Kind::LargeListView => others(alloc, Form::LargeListView, "large_list_view", 1, children),
     }
+}
+
+/// The values of a dictionary as a column.
+fn dictionary_values(alloc: Global, data_type: AnyType) -> Made<SchemaColumn>
+    ensures { IfOk result (λ made. column_tree made ≡ dictionary_values (type_tree data_type)) }
+{
+    Ok(SchemaColumn {
+        name: String::from_str(alloc, "values")?,
+        nullable: true,
+        data_type,
+        metadata: BTreeMap::new(alloc),
+    })
 }
 
 /// A type, or where it has a dictionary, that of the dictionary.
@@ -131,9 +149,12 @@ pub(crate) fn with_dictionary(alloc: Global, index: &Option<Index>, values: AnyT
     let Some(index) = index else {
         return Ok(values);
     };
-    let values = values.notation(alloc)?;
+    let notation = values.notation(alloc)?;
     let keys = plain_name(&index.integers);
     let ordered = index.ordered as u8;
-    let text = format!(in alloc; "dictionary<values={values}, indices={keys}, ordered={ordered}>")?;
-    Ok(AnyType::Other(text))
+    let text = format!(in alloc;
+        "dictionary<values={notation}, indices={keys}, ordered={ordered}>"
+    )?;
+    let parts = vec![in alloc; dictionary_values(alloc, values)?]?;
+    nested_type(alloc, text, Form::Dictionary, Vec::new(alloc), parts)
 }

@@ -2,6 +2,9 @@
 use clap::{Arg, ArgAction, Command};
 use std::alloc::{AllocError, Global};
 
+/// The words behind `--color`.
+const COLORS: &[&str] = &["auto", "always", "never"];
+
 /// The words behind `--format`.
 const FORMATS: &[&str] = &["text", "json", "github", "sarif"];
 
@@ -19,8 +22,9 @@ findings alone. What is asked and not met, and why a file is refused, is said wi
 --json, --lines and --ipc.
 
 --expect may stand several times. COLUMN is the name of a column, WANT what it is to hold, with
-commas between: a kind, a coordinate type, a dimension, an encoding (native, WKB, WKT), a CRS;
-as outline=point,XY,EPSG:4326.
+commas between: a kind, a coordinate type, a dimension, an encoding (native, WKB, WKT), the edges,
+a CRS; as outline=point,XY,EPSG:4326. Words are met in any letters, and a CRS by one that agrees with
+it (docs/FORMAT.md, 5.3).
 
 --same compares the columns of each further file that is read with those of the first, by their
 names: their types, encodings, edges and CRSs (docs/FORMAT.md, 2.9). It excludes --lines and --ipc.
@@ -30,9 +34,16 @@ names: their types, encodings, edges and CRSs (docs/FORMAT.md, 2.9). It excludes
 what is said of warnings, and of two words on the same the later. An invalid column always counts,
 whatever is said of the codes of why it is; why a file is refused counts too, and cannot be allowed.
 
+A folder stands for its files whose names end in .parquet, .geoparquet, .arrow, .feather, .arrows,
+.jsonl or .ndjson, down all folders, in the order of the bytes of their paths; names that begin with
+_ or . are left out. --ipc takes one file, and is refused where the output is a terminal.
+
+On a terminal the severities have colours, unless NO_COLOR is set, and a table has the columns that
+COLUMNS says, if it is set.
+
 Status: 0 if no column is invalid, no finding counts as an error and all that is expected is met, 1
-otherwise, 2 if a file or the words cannot be read or the output fails,
-141 if nobody reads the output any more.";
+otherwise, 2 if a file or the words cannot be read or the output fails. Where nobody reads the
+output any more, the status is that of the files so far.";
 
 /// An option that stands alone.
 fn flag<'a>(alloc: Global, name: &'a str, help: &'a str) -> Arg<'a> {
@@ -74,13 +85,21 @@ fn format<'a>(alloc: Global) -> Result<Arg<'a>, AllocError> {
         .overrides_with("json")
 }
 
-/// The options that leave out what needs no care.
+/// The options that say how text is shown, and leave out what needs no care.
 fn with_less<'a>(alloc: Global, command: Command<'a>) -> Result<Command<'a>, AllocError> {
     let quiet = "Print a line for each error, and nothing else";
     let problems = "Print only the columns and the files of which something is found";
     command
         .arg(of_text(flag(alloc, "quiet", quiet).short('q'))?)?
-        .arg(of_text(flag(alloc, "problems", problems))?)
+        .arg(of_text(flag(alloc, "problems", problems))?)?
+        .arg(
+            Arg::new(alloc, "color")
+                .long("color")
+                .value_name("WHEN")
+                .value_parser(COLORS)
+                .help("Give the severities in text a colour: by itself on a terminal")
+                .action(ArgAction::Set),
+        )
 }
 
 /// An option that goes with no other output than text.
@@ -174,7 +193,7 @@ and what is wrong with GeoParquet metadata",
         Arg::new(alloc, "FILE")
             .help(
                 "An Arrow file (Feather), an Arrow stream, a Parquet file, or lines of fields;
-- is standard input",
+- is standard input, and a folder stands for its files",
             )
             .required_unless_present("codes")?
             .required_unless_present("explain")?

@@ -6,6 +6,8 @@ pub mod Findings
 pub mod Paths
 pub mod Reading
 pub mod Fields
+pub mod Named
+pub mod Joined
 pub mod Ways
 pub mod Telling
 pub mod NotWhole

@@ -1,7 +1,10 @@
 -- Of a column one thing is said.
 use Rattle.std.proofs.Common.{◌≡◌, Bool, Option, None, Some, option_map, ap, subst}
 use Rattle.arrow_values.specs.Tree.{Text, Tree}
-use Rattle.arrow_columns.specs.Column.{TypeTree, known, other, ColumnTree, name_on, metadata_on}
+use Rattle.arrow_columns.specs.Types.{ColumnTree}
+use Rattle.arrow_columns.specs.Column.{name_on, metadata_on}
+use Rattle.arrow_columns.specs.Outlines.{outline}
+use Rattle.arrow_columns.specs.declared.outline.Outline.TheVariants.{Layout}
 use Rattle.geoarrow_layout.specs.declared.names.ExtensionName.{ExtensionName}
 use Rattle.geoarrow_layout.specs.declared.native_kinds.Kind.{Kind}
 use Rattle.geoarrow_layout.specs.declared.fault.LayoutFault.{LayoutFault}
@@ -99,11 +102,8 @@ module _ (c : ColumnTree) where
     one_reasons (DataTypeAndMetadata t m) Unread h k = absurd k
 
     same_kind : (j k : Kind) (v w : Values) → IsOfKind c j v → IsOfKind c k w → j ≡ k
-    same_kind j k v w h g = one_accepted c.data_type h.2 g.2
-      where
-        one_accepted : (t : TypeTree) → TypeAccepted h.0 t j → TypeAccepted g.0 t k → j ≡ k
-        one_accepted (known t) one two = one_kind (name_text g.0) t j k (subst (λ x. TypeAccepted x (known t) j) (one_name h.0 g.0 h.1 g.1) one) two
-        one_accepted (other s) one two = absurd one
+    same_kind j k v w h g =
+        one_kind (name_text g.0) (outline Layout c.data_type) j k (subst (λ x. TypeAccepted x c.data_type j) (one_name h.0 g.0 h.1 g.1) h.2) g.2
 
     module _ (one_inferred : (k l : Kind) → TypeInferred c.data_type k → TypeInferred c.data_type l → k ≡ l) (infer : Bool) where
       one_geometry : (g h : GeometryColumn) → IsFinding infer c (Geometry g) → IsFinding infer c (Geometry h) → SameGeometry g h
@@ -116,7 +116,7 @@ module _ (c : ColumnTree) where
       one_taken g h is k =
           let v = values_of g.metadata in
           let w = values_of h.metadata in
-          (one_inferred g.kind h.kind is.1.1 k.1.1, one_values (metadata_on c) v w is.1.2 k.1.2, one_crs (metadata_on c) g.metadata.crs h.metadata.crs is.2 k.2)
+          (one_inferred g.kind h.kind is.1.1 k.1.1, one_values (metadata_on c) v w is.1.3 k.1.3, one_crs (metadata_on c) g.metadata.crs h.metadata.crs is.2 k.2)
 
       pub one_finding : (f g : Finding) → IsFinding infer c f → IsFinding infer c g → SameFinding f g
       one_finding (Geometry g) (Geometry h) is k = one_geometry g h is k

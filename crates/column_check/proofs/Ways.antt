@@ -5,13 +5,17 @@ use Rattle.std.proofs.lemmas.List.Elements.{filter-append}
 use Rattle.std.specs.List.{filter}
 use Rattle.arrow_values.specs.Tree.{Text, Metadata, Tree, plain, list, large_list, fixed_size_list, struct, union, FieldTrees, no_fields, field, MemberTrees, no_members, member}
 use Rattle.arrow_values.specs.declared.tree.UnionMode.{UnionMode}
+use Rattle.arrow_columns.specs.Types.{TypeTree, known, other, PartTrees, no_parts, part as child}
+use Rattle.arrow_columns.specs.declared.nested.ListForm.TheVariants.{Small, Large, Fixed}
+use Rattle.arrow_columns.specs.declared.other.Form.TheVariants.{Leaf, List as ListOf, ListView, LargeListView, Struct, Union, Map, RunEndEncoded, Dictionary}
+use Rattle.geoarrow_layout.specs.Shapes.{names_of}
 use Rattle.geoarrow_layout.specs.declared.native_kinds.Kind.{Kind}
-use Rattle.column_check.specs.Parts.{Names, Spot, spot_at, spots_of, below, coordinates_in, coordinates_of, and_below, fields_in, fields_of, members_of, or_below, nullable_in, nullable_of, nullable_among, unions_in, unions_of, unions_among}
-use Rattle.column_check.specs.Shown.{type_shown}
-use Rattle.column_check.specs.Warnings.{is_doubtful, is_sparse, has_extension_name, extension_text}
-use Rattle.column_check.specs.Walk.{spot_if, found_in, found, found_of, found_among, sought_spots}
+use Rattle.column_check.specs.Parts.{Names, Spot, spot_at, spots_of, below, separated_in, separated_among, numbers_of, numbers_in, numbers_among, part_numbers, type_numbers, below_parts, and_below, fields_in, fields_of, members_of, or_below, nullable_in, nullable_of, nullable_among, unions_in, unions_of, unions_among}
+use Rattle.column_check.specs.Shown.{names_shown, type_shown}
+use Rattle.column_check.specs.Warnings.{are_doubtful, is_doubtful_number, is_sparse, has_extension_name, extension_text}
+use Rattle.column_check.specs.Walk.{spot_if, found_in, number_spot, number_spots, found, found_of, found_among, part_spots, numbers_found, numbers_below, sought_spots}
 use Rattle.column_check.specs.declared.walk.Sought.{Sought}
-use Rattle.column_check.specs.declared.walk.Sought.TheVariants.{Coordinates, Inner}
+use Rattle.column_check.specs.declared.walk.Sought.TheVariants.{Axes, Numbers, Inner}
 use Rattle.column_check.specs.declared.walk.Inner.TheVariants.{Extensions, Nullables, Unions}
 use Rattle.column_check.specs.declared.code.WarningCode.{WarningCode}
 
@@ -78,26 +82,81 @@ module _ (there : Names) {X : Type 0} (test : X → Bool) (text : X → Text) wh
 -- ---- what a walk finds is at the places of the parts that are looked for
 
 module _ (code : WarningCode) (kind : Kind) where
-  abbrev at_doubtful : Names → List (Names × Tree) → List Spot
-  at_doubtful way parts = beyond way (spots_of (is_doubtful code kind) type_shown parts)
-
-  here : (way : Names) (t : Tree) → spot_if (is_doubtful code kind t) way (type_shown t) ≡ at_doubtful way (([], t) ∷ [])
-  here way t = sym (at_here way (is_doubtful code kind) type_shown t [] ∙ append-nil _)
+  abbrev at_axes : Names → List (Names × Names) → List Spot
+  at_axes way parts = beyond way (spots_of (are_doubtful code kind) names_shown parts)
 
   mutual
-    pub doubtful_found : (way : Names) (t : Tree) → found (Coordinates code kind) way t ≡ at_doubtful way (coordinates_in t)
-    doubtful_found way (plain p) = refl
-    doubtful_found way (list n t b m) = doubtful_found (way ++ n ∷ []) t ∙ sym (at_below way (is_doubtful code kind) type_shown n (coordinates_in t))
-    doubtful_found way (large_list n t b m) = doubtful_found (way ++ n ∷ []) t ∙ sym (at_below way (is_doubtful code kind) type_shown n (coordinates_in t))
-    doubtful_found way (fixed_size_list n t b m size) = here way (fixed_size_list n t b m size)
-    doubtful_found way (struct fs) = here way (struct fs)
-    doubtful_found way (union ms mode) = doubtful_among way ms
+    pub axes_found : (way : Names) (t : Tree) → found (Axes code kind) way t ≡ at_axes way (separated_in t)
+    axes_found way (plain p) = refl
+    axes_found way (list n t b m) = axes_found (way ++ n ∷ []) t ∙ sym (at_below way (are_doubtful code kind) names_shown n (separated_in t))
+    axes_found way (large_list n t b m) = axes_found (way ++ n ∷ []) t ∙ sym (at_below way (are_doubtful code kind) names_shown n (separated_in t))
+    axes_found way (fixed_size_list n t b m size) = refl
+    axes_found way (struct fs) = sym (at_here way (are_doubtful code kind) names_shown (names_of fs) [] ∙ append-nil _)
+    axes_found way (union ms mode) = axes_among way ms
 
-    doubtful_among : (way : Names) (ms : MemberTrees) → found_among (Coordinates code kind) way ms ≡ at_doubtful way (coordinates_of ms)
-    doubtful_among way no_members = refl
-    doubtful_among way (member i n t b m ms) =
-        ap₂ (λ x y. x ++ y) (doubtful_found (way ++ n ∷ []) t ∙ sym (at_below way (is_doubtful code kind) type_shown n (coordinates_in t))) (doubtful_among way ms)
-        ∙ sym (at_more way (is_doubtful code kind) type_shown (below n (coordinates_in t)) (coordinates_of ms))
+    axes_among : (way : Names) (ms : MemberTrees) → found_among (Axes code kind) way ms ≡ at_axes way (separated_among ms)
+    axes_among way no_members = refl
+    axes_among way (member i n t b m ms) =
+        ap₂ (λ x y. x ++ y) (axes_found (way ++ n ∷ []) t ∙ sym (at_below way (are_doubtful code kind) names_shown n (separated_in t))) (axes_among way ms)
+        ∙ sym (at_more way (are_doubtful code kind) names_shown (below n (separated_in t)) (separated_among ms))
+
+module _ (code : WarningCode) where
+  abbrev at_numbers : Names → List (Names × TypeTree) → List Spot
+  at_numbers way parts = beyond way (spots_of (is_doubtful_number code) type_shown parts)
+
+  one_number : (way : Names) (n : Text) (t : TypeTree) (parts : List (Names × TypeTree)) (rest : List Spot) → rest ≡ at_numbers way parts
+      → number_spot code way n t ++ rest ≡ at_numbers way ((n ∷ [], t) ∷ parts)
+  one_number way n t parts rest is =
+      ap (λ spots. number_spot code way n t ++ spots) is ∙ sym (at_field way (is_doubtful_number code) type_shown n t parts)
+
+  numbers_each : (way : Names) (fs : FieldTrees) → number_spots code way fs ≡ at_numbers way (numbers_of fs)
+  numbers_each way no_fields = refl
+  numbers_each way (field n t b m fs) = one_number way n (known t) (numbers_of fs) _ (numbers_each way fs)
+
+  mutual
+    tree_numbers : (way : Names) (t : Tree) → found (Numbers code) way t ≡ at_numbers way (numbers_in t)
+    tree_numbers way (plain p) = refl
+    tree_numbers way (list n t b m) = tree_numbers (way ++ n ∷ []) t ∙ sym (at_below way (is_doubtful_number code) type_shown n (numbers_in t))
+    tree_numbers way (large_list n t b m) = tree_numbers (way ++ n ∷ []) t ∙ sym (at_below way (is_doubtful_number code) type_shown n (numbers_in t))
+    tree_numbers way (fixed_size_list n t b m size) = sym (append-nil _) ∙ one_number way n (known t) [] [] refl
+    tree_numbers way (struct fs) = numbers_each way fs
+    tree_numbers way (union ms mode) = numbers_members way ms
+
+    numbers_members : (way : Names) (ms : MemberTrees) → found_among (Numbers code) way ms ≡ at_numbers way (numbers_among ms)
+    numbers_members way no_members = refl
+    numbers_members way (member i n t b m ms) =
+        ap₂ (λ x y. x ++ y) (tree_numbers (way ++ n ∷ []) t ∙ sym (at_below way (is_doubtful_number code) type_shown n (numbers_in t))) (numbers_members way ms)
+        ∙ sym (at_more way (is_doubtful_number code) type_shown (below n (numbers_in t)) (numbers_among ms))
+
+  -- in any type
+  numbers_parts : (way : Names) (ps : PartTrees) → part_spots code way ps ≡ at_numbers way (part_numbers ps)
+  numbers_parts way no_parts = refl
+  numbers_parts way (child n t b m ps) = one_number way n t (part_numbers ps) _ (numbers_parts way ps)
+
+  mutual
+    any_numbers : (way : Names) (t : TypeTree) → numbers_found code way t ≡ at_numbers way (type_numbers t)
+    any_numbers way (known t) = tree_numbers way t
+    any_numbers way (other s (ListOf (Fixed size)) ids ps) = numbers_parts way ps
+    any_numbers way (other s (ListOf Small) ids ps) = any_below way ps
+    any_numbers way (other s (ListOf Large) ids ps) = any_below way ps
+    any_numbers way (other s Struct ids ps) = numbers_parts way ps
+    any_numbers way (other s Leaf ids ps) = refl
+    any_numbers way (other s ListView ids ps) = refl
+    any_numbers way (other s LargeListView ids ps) = refl
+    any_numbers way (other s (Union mode) ids ps) = refl
+    any_numbers way (other s Map ids ps) = refl
+    any_numbers way (other s RunEndEncoded ids ps) = refl
+    any_numbers way (other s Dictionary ids ps) = refl
+
+    any_below : (way : Names) (ps : PartTrees) → numbers_below code way ps ≡ at_numbers way (below_parts ps)
+    any_below way no_parts = refl
+    any_below way (child n t b m ps) =
+        ap₂ (λ x y. x ++ y) (any_numbers (way ++ n ∷ []) t ∙ sym (at_below way (is_doubtful_number code) type_shown n (type_numbers t))) (any_below way ps)
+        ∙ sym (at_more way (is_doubtful_number code) type_shown (below n (type_numbers t)) (below_parts ps))
+
+  -- from a column on
+  pub all_numbers : (t : TypeTree) → numbers_found code [] t ≡ spots_of (is_doubtful_number code) type_shown (type_numbers t)
+  all_numbers t = any_numbers [] t ∙ beyond_none _
 
 abbrev at_named : Names → List (Names × Metadata) → List Spot
 at_named way parts = beyond way (spots_of has_extension_name extension_text parts)
@@ -192,7 +251,8 @@ mutual
 
 -- from a column on
 pub all_found : (s : Sought) (t : Tree) → found s [] t ≡ sought_spots s t
-all_found (Coordinates code kind) t = doubtful_found code kind [] t ∙ beyond_none _
+all_found (Axes code kind) t = axes_found code kind [] t ∙ beyond_none _
+all_found (Numbers code) t = tree_numbers code [] t ∙ beyond_none _
 all_found (Inner Extensions) t = named_found [] t ∙ beyond_none _
 all_found (Inner Nullables) t = nullable_found [] t ∙ beyond_none _
 all_found (Inner Unions) t = sparse_found [] t ∙ beyond_none _

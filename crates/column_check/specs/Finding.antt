@@ -1,11 +1,13 @@
 -- What is said of a column.
-use Rattle.std.specs.Prelude.{◌≡◌, ◌≢◌, ◌⊎◌, ◌++◌, List, [], ◌∷◌, codes, Bool, IsTrue, None, Some, ⊤}
+use Rattle.std.specs.Prelude.{◌≡◌, ◌≢◌, ◌⊎◌, ◌++◌, List, [], ◌∷◌, codes, Bool, true, IsTrue, None, Some, ⊤}
 use Rattle.std.specs.Str.{str_to_ascii_lowercase}
 use Rattle.arrow_values.specs.Tree.{Text}
-use Rattle.arrow_columns.specs.Column.{ColumnTree, name_on, metadata_on}
+use Rattle.arrow_columns.specs.Column.{name_on, metadata_on}
+use Rattle.arrow_columns.specs.Types.{ColumnTree}
 use Rattle.geoarrow_layout.specs.declared.names.ExtensionName.{ExtensionName}
 use Rattle.geoarrow_layout.specs.declared.native_kinds.Kind.{Kind}
 use Rattle.geoarrow_layout.specs.Kinds.{name_text}
+use Rattle.column_check.specs.GeometryNames.{may_be_taken}
 use Rattle.column_check.specs.OldNames.{current_name, name_read}
 use Rattle.column_check.specs.Metadata.{Values, values_of, TextDenotes, TextHasCrs, HasMetadataFault}
 use Rattle.column_check.specs.Types.{TypeAccepted, HasTypeFault, TypeInferred}
@@ -30,12 +32,15 @@ BeginsWith word s = (rest : Text) × (s ≡ word ++ rest)
 abbrev pub IsReserved : Text → Type 0
 IsReserved s = BeginsWith (codes "geoarrow.") (str_to_ascii_lowercase s) ⊎ BeginsWith (codes "ogc.") s
 
--- the column is of that kind and has those values, under an extension name; or they are inferred for it, as it has none
+-- the column is of that kind and has those values, under an extension name; or they are inferred
+-- for it, as it has none and its name allows that kind
 abbrev pub IsOfKind : ColumnTree → Kind → Values → Type 0
 IsOfKind c k v = (n : ExtensionName) × HasName c n × TypeAccepted n c.data_type k × TextDenotes (metadata_on c) v
 
 abbrev pub IsTakenFor : ColumnTree → Kind → Values → Type 0
-IsTakenFor c k v = (name_on c ≡ None) × TypeInferred c.data_type k × TextDenotes (metadata_on c) v
+IsTakenFor c k v =
+    (name_on c ≡ None) × TypeInferred c.data_type k × (may_be_taken c.name k ≡ true)
+    × TextDenotes (metadata_on c) v
 
 -- the column is invalid for these reasons: all that hold of its extension name, of its type and of its metadata; that it is not read, the file says and no column
 abbrev pub IsInvalidFor : ColumnTree → Reasons → Type 0

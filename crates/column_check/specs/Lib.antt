@@ -1,6 +1,7 @@
 pub mod Metadata
 pub mod Types
 pub mod OldNames
+pub mod GeometryNames
 pub mod ExtensionNames
 pub mod LayoutWords
 pub mod Finding

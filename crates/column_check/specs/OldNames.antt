@@ -1,7 +1,8 @@
 -- Extension names that are read as others, which replace them.
 use Rattle.std.specs.Prelude.{◌||◌, bytes_eq, codes, Bool, false, Option, None, Some, option_map, if◌then◌else◌}
 use Rattle.arrow_values.specs.Tree.{Text}
-use Rattle.arrow_columns.specs.Column.{ColumnTree, name_on}
+use Rattle.arrow_columns.specs.Column.{name_on}
+use Rattle.arrow_columns.specs.Types.{ColumnTree}
 
 -- the extension name as which one is read: an old one as the new one, any other as itself
 abbrev pub current_name : Text → Text

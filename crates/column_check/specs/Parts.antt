@@ -1,8 +1,12 @@
--- The parts of a data type: its coordinates, its unions, and the fields below it, each with the names of the child fields on the way to it.
+-- The parts of a data type: its coordinates and their numbers, its unions, and the fields below it, each with the names of the child fields on the way to it.
 use Rattle.std.specs.Prelude.{Bool, List, [], ◌∷◌, ◌++◌, map, Option, None, Some, if◌then◌else◌}
 use Rattle.std.specs.List.{filter}
 use Rattle.arrow_values.specs.Tree.{Text, Metadata, Tree, plain, list, large_list, fixed_size_list, struct, union, FieldTrees, no_fields, field, MemberTrees, no_members, member}
 use Rattle.arrow_values.specs.declared.tree.UnionMode.{UnionMode}
+use Rattle.arrow_columns.specs.Types.{TypeTree, known, other, PartTrees, no_parts, part}
+use Rattle.arrow_columns.specs.declared.nested.ListForm.TheVariants.{Fixed}
+use Rattle.arrow_columns.specs.declared.other.Form.TheVariants.{List as ListOf, Struct}
+use Rattle.geoarrow_layout.specs.Shapes.{names_of}
 use Rattle.geoarrow_layout.specs.declared.names.ExtensionName.{ExtensionName}
 
 -- the names of child fields, outermost first
@@ -13,19 +17,57 @@ Names = List Text
 abbrev pub below : {X : Type 0} → Text → List (Names × X) → List (Names × X)
 below name parts = map (λ x. (name ∷ x.0, x.1)) parts
 
--- the coordinates and boxes in a data type, from left to right: its structs and fixed size lists that lie in no other
+-- the separated coordinates and boxes in a data type, from left to right, each by the names of its
+-- fields: its structs that lie in no other, nor in a fixed size list
 abbrev mutual
-  pub coordinates_in : Tree → List (Names × Tree)
-  coordinates_in (plain p) = []
-  coordinates_in (list n t b m) = below n (coordinates_in t)
-  coordinates_in (large_list n t b m) = below n (coordinates_in t)
-  coordinates_in (fixed_size_list n t b m size) = ([], fixed_size_list n t b m size) ∷ []
-  coordinates_in (struct fs) = ([], struct fs) ∷ []
-  coordinates_in (union ms mode) = coordinates_of ms
+  pub separated_in : Tree → List (Names × Names)
+  separated_in (plain p) = []
+  separated_in (list n t b m) = below n (separated_in t)
+  separated_in (large_list n t b m) = below n (separated_in t)
+  separated_in (fixed_size_list n t b m size) = []
+  separated_in (struct fs) = ([], names_of fs) ∷ []
+  separated_in (union ms mode) = separated_among ms
 
-  pub coordinates_of : MemberTrees → List (Names × Tree)
-  coordinates_of no_members = []
-  coordinates_of (member i n t b m ms) = below n (coordinates_in t) ++ coordinates_of ms
+  pub separated_among : MemberTrees → List (Names × Names)
+  separated_among no_members = []
+  separated_among (member i n t b m ms) = below n (separated_in t) ++ separated_among ms
+
+-- the numbers of a separated coordinate or a box
+abbrev pub numbers_of : FieldTrees → List (Names × TypeTree)
+numbers_of no_fields = []
+numbers_of (field n t b m fs) = (n ∷ [], known t) ∷ numbers_of fs
+
+-- the numbers of the coordinates and boxes in a data type, from left to right, each with its type:
+-- what stands in its structs, and in its fixed size lists, that lie in no other
+abbrev mutual
+  pub numbers_in : Tree → List (Names × TypeTree)
+  numbers_in (plain p) = []
+  numbers_in (list n t b m) = below n (numbers_in t)
+  numbers_in (large_list n t b m) = below n (numbers_in t)
+  numbers_in (fixed_size_list n t b m size) = (n ∷ [], known t) ∷ []
+  numbers_in (struct fs) = numbers_of fs
+  numbers_in (union ms mode) = numbers_among ms
+
+  pub numbers_among : MemberTrees → List (Names × TypeTree)
+  numbers_among no_members = []
+  numbers_among (member i n t b m ms) = below n (numbers_in t) ++ numbers_among ms
+
+-- so in any type: what stands in structs and fixed size lists of parts, and below other lists
+abbrev pub part_numbers : PartTrees → List (Names × TypeTree)
+part_numbers no_parts = []
+part_numbers (part n t b m ps) = (n ∷ [], t) ∷ part_numbers ps
+
+abbrev mutual
+  pub type_numbers : TypeTree → List (Names × TypeTree)
+  type_numbers (known t) = numbers_in t
+  type_numbers (other s (ListOf (Fixed size)) ids ps) = part_numbers ps
+  type_numbers (other s (ListOf form) ids ps) = below_parts ps
+  type_numbers (other s Struct ids ps) = part_numbers ps
+  type_numbers (other s f ids ps) = []
+
+  pub below_parts : PartTrees → List (Names × TypeTree)
+  below_parts no_parts = []
+  below_parts (part n t b m ps) = below n (type_numbers t) ++ below_parts ps
 
 -- a field, and the parts below it
 abbrev pub and_below : {X : Type 0} → Text → X → List (Names × X) → List (Names × X)

@@ -1,10 +1,13 @@
 -- The reasons for which a column is invalid, as findings (docs/FORMAT.md, 2.6).
 use Rattle.std.specs.Prelude.{ℕ, List, [], ◌∷◌, ◌++◌, codes, Option, None, Some, option_map, option_and_then}
+use Rattle.std.specs.List.{slice_get}
 use Rattle.json.specs.Json.{Json}
 use Rattle.json.specs.Find.{get}
-use Rattle.arrow_values.specs.Tree.{Text, Tree, FieldTree}
-use Rattle.arrow_columns.specs.Column.{TypeTree, known, other, ColumnTree, name_on, metadata_on}
-use Rattle.geoarrow_layout.specs.FaultAt.{Path, child_at, names_along}
+use Rattle.arrow_values.specs.Tree.{Text, plain, null}
+use Rattle.arrow_columns.specs.Types.{TypeTree, known, ColumnTree}
+use Rattle.arrow_columns.specs.Column.{name_on, metadata_on}
+use Rattle.arrow_columns.specs.Below.{below}
+use Rattle.geoarrow_layout.specs.FaultAt.{Path}
 use Rattle.crs_identity.specs.Forms.{json_in}
 use Rattle.column_check.specs.ExtensionNames.{extension_named}
 use Rattle.column_check.specs.Parts.{Names, Spot, spot_in}
@@ -33,14 +36,32 @@ unknown_name name = one_at found.UnknownExtension ([], None, option_map shown na
 
 -- ---- of the type
 
--- the data type at the end of a path of child fields, if there is one
-abbrev pub child_type : Option Tree → ℕ → Option Tree
-child_type None i = None
-child_type (Some t) i = option_map (λ f. f.tree) (child_at t i)
+-- the child at a place, if there is one, and so the type at the end of a path of child fields
+abbrev pub child_of : TypeTree → ℕ → Option ColumnTree
+child_of t i = slice_get (below t) i
 
-abbrev pub tree_along : Option Tree → Path → Option Tree
-tree_along o [] = o
-tree_along o (i ∷ p) = tree_along (child_type o i) p
+abbrev pub child_type : Option TypeTree → ℕ → Option TypeTree
+child_type None i = None
+child_type (Some t) i = option_map (λ c. c.data_type) (child_of t i)
+
+abbrev pub type_along : Option TypeTree → Path → Option TypeTree
+type_along o [] = o
+type_along o (i ∷ p) = type_along (child_type o i) p
+
+-- the name and the type of a child that there may be; where there is none, no name and a type without
+-- children
+abbrev pub child_name : Option ColumnTree → Names
+child_name None = []
+child_name (Some c) = c.name ∷ []
+
+abbrev pub type_there : Option ColumnTree → TypeTree
+type_there None = known (plain null)
+type_there (Some c) = c.data_type
+
+-- the names of the child fields on the path, as far as there are any
+abbrev pub names_along : TypeTree → Path → Names
+names_along t [] = []
+names_along t (i ∷ p) = child_name (child_of t i) ++ names_along (type_there (child_of t i)) p
 
 -- the code of a fault of a type, and where it is
 abbrev pub type_code : TypeFault → WarningCode
@@ -51,18 +72,13 @@ abbrev pub type_path : TypeFault → Path
 type_path WrongStorage = []
 type_path (Layout fault path) = path.items
 
--- the names of the child fields on the path, and the type at its end as it is shown
-abbrev pub names_at : TypeTree → Path → Names
-names_at (known t) p = names_along t p
-names_at (other s) p = []
-
+-- the type at the end of a path, as it is shown
 abbrev pub shown_at : TypeTree → Path → Option Text
-shown_at (known t) p = option_map type_shown (tree_along (Some t) p)
-shown_at (other s) p = Some (shown s)
+shown_at t p = option_map type_shown (type_along (Some t) p)
 
 -- a type with a fault: the layout of the extension name is wanted
 abbrev pub type_spot : ColumnTree → Path → Spot
-type_spot c p = (names_at c.data_type p, None, shown_at c.data_type p, extension_named (name_on c))
+type_spot c p = (names_along c.data_type p, None, shown_at c.data_type p, extension_named (name_on c))
 
 abbrev pub type_found : ColumnTree → TypeFault → List Said
 type_found c f = one_at (type_code f) (type_spot c (type_path f))
@@ -98,14 +114,28 @@ metadata_found (Some s) fault = text_found s fault
 
 -- ---- of a column
 
--- all reasons of a column, that of its type first; of a column that is not read a finding of the file says why
-abbrev pub reasons_found : ColumnTree → Reasons → List Said
-reasons_found c UnknownExtension = unknown_name (name_on c)
-reasons_found c (DataType f) = type_found c f
-reasons_found c (Metadata m) = metadata_found (metadata_on c) m
-reasons_found c (DataTypeAndMetadata f m) = type_found c f ++ metadata_found (metadata_on c) m
-reasons_found c Unread = []
+-- the reason of its extension name or of its type; of a column that is not read a finding of the
+-- file says why
+abbrev pub type_reason : ColumnTree → Reasons → List Said
+type_reason c UnknownExtension = unknown_name (name_on c)
+type_reason c (DataType f) = type_found c f
+type_reason c (Metadata m) = []
+type_reason c (DataTypeAndMetadata f m) = type_found c f
+type_reason c Unread = []
 
-abbrev pub reasons_in : ColumnTree → ColumnFinding → List Said
-reasons_in c (Invalid reasons) = reasons_found c reasons
-reasons_in c f = []
+-- the reasons of its metadata text
+abbrev pub metadata_reasons : ColumnTree → Reasons → List Said
+metadata_reasons c UnknownExtension = []
+metadata_reasons c (DataType f) = []
+metadata_reasons c (Metadata m) = metadata_found (metadata_on c) m
+metadata_reasons c (DataTypeAndMetadata f m) = metadata_found (metadata_on c) m
+metadata_reasons c Unread = []
+
+-- of what is said of it
+abbrev pub type_reason_in : ColumnTree → ColumnFinding → List Said
+type_reason_in c (Invalid reasons) = type_reason c reasons
+type_reason_in c f = []
+
+abbrev pub metadata_reasons_in : ColumnTree → ColumnFinding → List Said
+metadata_reasons_in c (Invalid reasons) = metadata_reasons c reasons
+metadata_reasons_in c f = []

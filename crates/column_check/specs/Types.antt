@@ -1,6 +1,8 @@
 -- Of which kind a column's type is under an extension name, and why it is of none.
-use Rattle.std.specs.Prelude.{◌≡◌, ⊤, [], Result, Ok, Err}
-use Rattle.arrow_columns.specs.Column.{TypeTree, known, other}
+use Rattle.std.specs.Prelude.{⊤, [], Result, Ok, Err}
+use Rattle.arrow_columns.specs.Types.{TypeTree, known, other}
+use Rattle.arrow_columns.specs.Outlines.{outline}
+use Rattle.arrow_columns.specs.declared.outline.Outline.TheVariants.{Layout}
 use Rattle.geoarrow_layout.specs.declared.names.ExtensionName.{ExtensionName}
 use Rattle.geoarrow_layout.specs.declared.names.ExtensionName.TheVariants.{Wkb, Wkt}
 use Rattle.geoarrow_layout.specs.declared.native_kinds.Kind.{Kind}
@@ -11,7 +13,7 @@ use Rattle.geoarrow_layout.specs.Shapes.{Accepts}
 use Rattle.geoarrow_layout.specs.FaultAt.{Path, FaultAt}
 use Rattle.geoarrow_layout.specs.Inferred.{InferredAs}
 use Rattle.column_check.specs.declared.data_type.TypeFault.{TypeFault}
-use Rattle.column_check.specs.declared.data_type.TypeFault.TheVariants.{WrongStorage, Layout}
+use Rattle.column_check.specs.declared.data_type.TypeFault.TheVariants.{WrongStorage, Layout as LayoutFaultOf}
 
 -- the name is that of well-known binary or of well-known text
 abbrev pub IsSerialized : ExtensionName → Type 0
@@ -19,21 +21,19 @@ IsSerialized Wkb = ⊤
 IsSerialized Wkt = ⊤
 IsSerialized n = ⊥
 
--- the type is of that kind under the name
+-- the type is of that kind under the name, by its outline: a type in it that no layout has stands as
+-- one that none has
 abbrev pub TypeAccepted : ExtensionName → TypeTree → Kind → Type 0
-TypeAccepted n (known t) k = Accepts (name_text n) t k
-TypeAccepted n (other s) k = ⊥
+TypeAccepted n t k = Accepts (name_text n) (outline Layout t) k
 
--- the type has that fault under the name, at the end of that path of child fields; one that is none of the 26 data types has no child fields, and stands where
--- no layout has it
+-- the type has that fault under the name, at the end of that path of child fields
 abbrev pub TypeFaultAt : ExtensionName → TypeTree → Path → LayoutFault → Type 0
-TypeFaultAt n (known t) path fault = FaultAt n t path fault
-TypeFaultAt n (other s) path fault = (path ≡ []) × (fault ≡ UnexpectedType)
+TypeFaultAt n t path fault = FaultAt n (outline Layout t) path fault
 
 -- why the type is of no kind under the name: it is no bytes or no text, under the name of well-known binary or text; or it has a fault at the end of that path
 abbrev pub HasTypeFault : ExtensionName → TypeTree → TypeFault → Type 0
 HasTypeFault n t WrongStorage = IsSerialized n × TypeFaultAt n t [] UnexpectedType
-HasTypeFault n t (Layout fault path) = ¬ IsSerialized n × TypeFaultAt n t path.items fault
+HasTypeFault n t (LayoutFaultOf fault path) = ¬ IsSerialized n × TypeFaultAt n t path.items fault
 
 -- what a type is read as under a name
 abbrev pub IsTypeRead : ExtensionName → TypeTree → Result Kind TypeFault → Type 0
@@ -43,4 +43,4 @@ IsTypeRead n t (Err f) = HasTypeFault n t f
 -- the kind is inferred from the type
 abbrev pub TypeInferred : TypeTree → Kind → Type 0
 TypeInferred (known t) k = InferredAs t k
-TypeInferred (other s) k = ⊥
+TypeInferred (other s f ids ps) k = ⊥

@@ -1,19 +1,22 @@
 -- What is found of a column: why it is invalid, if it is; and what is doubtful of it, which leaves it as it is.
-use Rattle.std.specs.Prelude.{◌≡◌, ◌==◌, ◌&&◌, ◌||◌, not, List, [], ◌∷◌, ◌++◌, length, map, codes, Bool, true, false, Option, None, Some}
+use Rattle.std.specs.Prelude.{◌≡◌, ◌==◌, ◌&&◌, not, List, [], ◌∷◌, ◌++◌, length, map, codes, Bool, true, false, Option, None, Some}
 use Rattle.std.specs.Cmp.Lexicographic.{pointwise}
 use Rattle.std.specs.List.{list_all, list_any}
 use Rattle.std.specs.Str.{bytes_eq}
-use Rattle.arrow_values.specs.Tree.{Text, Metadata, Tree, plain, float16, float32, float64, fixed_size_list, struct, FieldTrees, no_fields, field}
+use Rattle.arrow_values.specs.Tree.{Text, Metadata, Tree, plain, float16, float32, float64}
 use Rattle.arrow_values.specs.Texts.{text_at, name_key}
 use Rattle.arrow_values.specs.declared.tree.UnionMode.{UnionMode}
 use Rattle.arrow_values.specs.declared.tree.UnionMode.TheVariants.{Sparse, Dense}
-use Rattle.arrow_columns.specs.Column.{TypeTree, known, other, ColumnTree, name_on, metadata_on}
+use Rattle.arrow_columns.specs.Types.{TypeTree, known, other, ColumnTree}
+use Rattle.arrow_columns.specs.Column.{name_on, metadata_on}
+use Rattle.arrow_columns.specs.Outlines.{outline}
+use Rattle.arrow_columns.specs.declared.outline.Outline.TheVariants.{Layout, Fields}
 use Rattle.geoarrow_layout.specs.declared.dimensions.Dimension.{Dimension}
 use Rattle.geoarrow_layout.specs.declared.dimensions.Dimension.TheVariants.{XY, XYZ, XYM, XYZM}
 use Rattle.geoarrow_layout.specs.declared.native_kinds.Kind.{Kind}
 use Rattle.geoarrow_layout.specs.declared.native_kinds.Kind.TheVariants.{Rect}
 use Rattle.geoarrow_layout.specs.Kinds.{name_text}
-use Rattle.geoarrow_layout.specs.Shapes.{names_of, has_name}
+use Rattle.geoarrow_layout.specs.Shapes.{has_name}
 use Rattle.geoarrow_layout.specs.Layouts.{coordinate_names, box_names}
 use Rattle.column_check.specs.ExtensionNames.{extensions}
 use Rattle.column_check.specs.OldNames.{current_name, has_old_name}
@@ -21,9 +24,9 @@ use Rattle.column_check.specs.States.{geometry_in}
 use Rattle.column_check.specs.Said.{Said, said, said_if, at_each}
 use Rattle.column_check.specs.CrsWarnings.{crs_warnings}
 use Rattle.column_check.specs.KeyWarnings.{key_warnings}
-use Rattle.column_check.specs.ReasonFindings.{reasons_in}
-use Rattle.column_check.specs.Parts.{Names, spot_in, spots_of, coordinates_in, fields_in, nullable_in, unions_in}
-use Rattle.column_check.specs.Shown.{type_shown}
+use Rattle.column_check.specs.ReasonFindings.{type_reason_in, metadata_reasons_in}
+use Rattle.column_check.specs.Parts.{Names, spot_in, spots_of, separated_in, type_numbers, fields_in, nullable_in, unions_in}
+use Rattle.column_check.specs.Shown.{names_shown, type_shown}
 use Rattle.column_check.specs.declared.finding.Finding.{Finding as ColumnFinding}
 use Rattle.column_check.specs.declared.finding.Geometry.{Geometry as GeometryColumn}
 use Rattle.column_check.specs.declared.code.WarningCode.{WarningCode}
@@ -63,21 +66,19 @@ is_small_float (plain float16) = true
 is_small_float (plain float32) = true
 is_small_float t = false
 
--- the warning holds of a number of that data type
-abbrev pub is_doubtful_number : WarningCode → Tree → Bool
-is_doubtful_number CoordinatesNotFloat t = not (is_float t)
-is_doubtful_number CoordinatesNotDouble t = is_small_float t
-is_doubtful_number code t = false
+-- the warning holds of a number of that type
+abbrev pub is_doubtful_tree : WarningCode → Tree → Bool
+is_doubtful_tree CoordinatesNotFloat t = not (is_float t)
+is_doubtful_tree CoordinatesNotDouble t = is_small_float t
+is_doubtful_tree code t = false
 
--- it holds of a number of a coordinate or a box
-abbrev pub some_doubtful : WarningCode → FieldTrees → Bool
-some_doubtful code no_fields = false
-some_doubtful code (field n t b m fs) = is_doubtful_number code t || some_doubtful code fs
+abbrev pub is_doubtful_other : WarningCode → Bool
+is_doubtful_other CoordinatesNotFloat = true
+is_doubtful_other code = false
 
-abbrev pub has_doubtful : WarningCode → Tree → Bool
-has_doubtful code (fixed_size_list n t b m size) = is_doubtful_number code t
-has_doubtful code (struct fs) = some_doubtful code fs
-has_doubtful code t = false
+abbrev pub is_doubtful_number : WarningCode → TypeTree → Bool
+is_doubtful_number code (known t) = is_doubtful_tree code t
+is_doubtful_number code (other s f ids ps) = is_doubtful_other code
 
 -- ---- of the names of coordinates
 
@@ -98,20 +99,12 @@ have_names ns others = length ns == length others && list_all (λ n. has_name n 
 abbrev pub in_some_order : Kind → Names → Bool
 in_some_order k ns = list_any (λ d. have_names ns (axis_names k d)) (XY ∷ XYZ ∷ XYM ∷ XYZM ∷ [])
 
--- a separated coordinate or a box has fields of these names, in another order; of other names
-abbrev pub lacks_order : Kind → Tree → Bool
-lacks_order k (struct fs) = not (in_order k (names_of fs)) && in_some_order k (names_of fs)
-lacks_order k t = false
-
-abbrev pub lacks_axis_names : Kind → Tree → Bool
-lacks_axis_names k (struct fs) = not (in_some_order k (names_of fs))
-lacks_axis_names k t = false
-
--- the warning holds of a coordinate or a box
-abbrev pub is_doubtful : WarningCode → Kind → Tree → Bool
-is_doubtful AxisOrder k t = lacks_order k t
-is_doubtful AxisNames k t = lacks_axis_names k t
-is_doubtful code k t = has_doubtful code t
+-- the warning holds of a separated coordinate or a box whose fields have these names: they are those of
+-- a dimension, in another order; or they are others
+abbrev pub are_doubtful : WarningCode → Kind → Names → Bool
+are_doubtful AxisOrder k ns = not (in_order k ns) && in_some_order k ns
+are_doubtful AxisNames k ns = not (in_some_order k ns)
+are_doubtful code k ns = false
 
 -- ---- of fields below a column
 
@@ -149,33 +142,52 @@ union_warnings t = at_each codes_of.UnionMode (spots_of is_sparse (λ mode. code
 
 -- ---- of a column
 
--- of the coordinates of a data type, by a code
-abbrev pub coordinate_warnings : WarningCode → Kind → Tree → List Said
-coordinate_warnings code k t = at_each code (spots_of (is_doubtful code k) type_shown (coordinates_in t))
+-- of the numbers of the coordinates in a type, and of the names of their fields, by a code
+abbrev pub number_warnings : WarningCode → TypeTree → List Said
+number_warnings code t = at_each code (spots_of (is_doubtful_number code) type_shown (type_numbers t))
+
+abbrev pub axis_warnings : WarningCode → Kind → Tree → List Said
+axis_warnings code k t = at_each code (spots_of (are_doubtful code k) names_shown (separated_in t))
+
+-- of the outline of a type that is of a kind
+abbrev pub layout_warnings : Kind → Tree → List Said
+layout_warnings k t =
+    axis_warnings AxisOrder k t
+    ++ (axis_warnings AxisNames k t ++ (nullable_warnings k t ++ union_warnings t))
 
 -- of a type that is of a kind
 abbrev pub type_warnings : Kind → TypeTree → List Said
-type_warnings k (known t) =
-    coordinate_warnings CoordinatesNotFloat k t ++ (coordinate_warnings CoordinatesNotDouble k t
-    ++ (coordinate_warnings AxisOrder k t ++ (coordinate_warnings AxisNames k t ++ (nullable_warnings k t ++ union_warnings t))))
-type_warnings k (other s) = []
+type_warnings k t =
+    number_warnings CoordinatesNotFloat t
+    ++ (number_warnings CoordinatesNotDouble t ++ layout_warnings k (outline Layout t))
 
--- of the fields below a type
+-- of the fields below a type, whatever it is
 abbrev pub nested_warnings : TypeTree → List Said
-nested_warnings (known t) = at_each NestedGeometry (spots_of has_extension_name extension_text (fields_in t))
-nested_warnings (other s) = []
+nested_warnings t =
+    at_each NestedGeometry (spots_of has_extension_name extension_text (fields_in (outline Fields t)))
 
--- of geometries
-abbrev pub geometry_warnings : Bool → ColumnTree → Option GeometryColumn → List Said
-geometry_warnings notes c None = []
-geometry_warnings notes c (Some g) =
-    text_warnings (metadata_on c) ++ (key_warnings (metadata_on c) ++ (crs_warnings notes g.metadata ++ type_warnings g.kind c.data_type))
+-- what is doubtful of the type of geometries
+abbrev pub geometry_type_warnings : ColumnTree → Option GeometryColumn → List Said
+geometry_type_warnings c None = []
+geometry_type_warnings c (Some g) = type_warnings g.kind c.data_type
 
--- what is doubtful of a column of which that is said, with notes or without: of its extension name, of its metadata text, of its CRS, of
--- its coordinates and what they are in, and of the fields below it
-abbrev pub doubtful_of : Bool → ColumnTree → ColumnFinding → List Said
-doubtful_of notes c f = name_warnings (name_on c) ++ (geometry_warnings notes c (geometry_in f) ++ nested_warnings c.data_type)
+-- and of their metadata text and their CRS, with notes or without
+abbrev pub geometry_metadata_warnings : Bool → ColumnTree → Option GeometryColumn → List Said
+geometry_metadata_warnings notes c None = []
+geometry_metadata_warnings notes c (Some g) =
+    text_warnings (metadata_on c) ++ (key_warnings (metadata_on c) ++ crs_warnings notes g.metadata)
 
--- what is found of it: the reasons for which it is invalid, and then what is doubtful
+-- what is found of a column of which that is said: of its extension name and its type, in the order
+-- of the codes, since under an old name WrongStorage is the one reason of a type; and of its metadata
+abbrev pub type_findings : ColumnTree → ColumnFinding → List Said
+type_findings c f =
+    name_warnings (name_on c)
+    ++ (type_reason_in c f ++ (geometry_type_warnings c (geometry_in f) ++ nested_warnings c.data_type))
+
+abbrev pub metadata_findings : Bool → ColumnTree → ColumnFinding → List Said
+metadata_findings notes c f =
+    metadata_reasons_in c f ++ geometry_metadata_warnings notes c (geometry_in f)
+
+-- these are the findings of it, in the order of the codes
 abbrev pub AreWarnings : Bool → ColumnTree → ColumnFinding → List Warning → Type 0
-AreWarnings notes c f ws = map said ws ≡ reasons_in c f ++ doubtful_of notes c f
+AreWarnings notes c f ws = map said ws ≡ type_findings c f ++ metadata_findings notes c f

@@ -1,37 +1,35 @@
 //! What lies on a path of child fields.
 ghost use Rattle.std.specs.Prelude.{◌≡◌, ◌++◌, IfOk, OnOk, Some, map, option_map, string_bytes};
-ghost use Rattle.arrow_values.specs.View.{tree};
-ghost use Rattle.geoarrow_layout.specs.FaultAt.{names_along};
-ghost use Rattle.column_check.specs.ReasonFindings.{tree_along};
+ghost use Rattle.arrow_columns.specs.Below.{ref_tree};
+ghost use Rattle.column_check.specs.ReasonFindings.{type_along, names_along};
 
-use arrow_values::DataType;
-use geoarrow_layout::child_field;
+use arrow_columns::TypeRef;
 use std::alloc::{AllocError, Global};
 
-/// Returns the data type at the end of a path of child fields, if there is one. Allocates nothing.
-pub(crate) fn type_along<'d>(data_type: &'d DataType, path: &[usize]) -> Option<&'d DataType>
-    ensures { option_map (λ t. tree t.now) result ≡ tree_along (Some (tree data_type.now)) path.now }
+/// Returns the type at the end of a path of child fields, if there is one. Allocates nothing.
+pub(crate) fn type_along<'a>(column_type: TypeRef<'a>, path: &[usize]) -> Option<TypeRef<'a>>
+    ensures { option_map ref_tree result ≡ type_along (Some (ref_tree column_type.entry)) path.now }
 {
     let [place, rest @ ..] = path else {
-        return Some(data_type);
+        return Some(column_type);
     };
-    let Some(field) = child_field(data_type, *place) else {
+    let Some(child) = column_type.child(*place) else {
         return None;
     };
-    type_along(field.data_type(), rest)
+    type_along(child.data_type(), rest)
 }
 
 /// Returns the names of the child fields on a path, as `find_fault` of `geoarrow_layout` answers one,
 /// outermost first, as far as there are fields. Errs only when out of memory.
 pub(crate) fn names_along(
     alloc: Global,
-    data_type: &DataType,
+    column_type: TypeRef<'_>,
     path: &[usize],
 ) -> Result<Vec<String>, AllocError>
-    ensures { IfOk result (λ names. map string_bytes names.items ≡ names_along (tree data_type.now) path.now) }
+    ensures { IfOk result (λ names. map string_bytes names.items ≡ names_along (ref_tree column_type.entry) path.now) }
 {
     let mut names = Vec::new(alloc);
-    push_names(alloc, &mut names, data_type, path)?;
+    push_names(alloc, &mut names, column_type, path)?;
     Ok(names)
 }
 
@@ -39,17 +37,17 @@ pub(crate) fn names_along(
 fn push_names(
     alloc: Global,
     names: &mut Vec<String>,
-    data_type: &DataType,
+    column_type: TypeRef<'_>,
     path: &[usize],
 ) -> Result<(), AllocError>
-    ensures { OnOk result (map string_bytes names.new.items ≡ map string_bytes names.old.items ++ names_along (tree data_type.now) path.now) }
+    ensures { OnOk result (map string_bytes names.new.items ≡ map string_bytes names.old.items ++ names_along (ref_tree column_type.entry) path.now) }
 {
     let [place, rest @ ..] = path else {
         return Ok(());
     };
-    let Some(field) = child_field(data_type, *place) else {
+    let Some(child) = column_type.child(*place) else {
         return Ok(());
     };
-    names.push(String::from_str(alloc, field.name())?)?;
-    push_names(alloc, names, field.data_type(), rest)
+    names.push(String::from_str(alloc, child.name())?)?;
+    push_names(alloc, names, child.data_type(), rest)
 }

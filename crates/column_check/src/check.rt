@@ -1,6 +1,7 @@
 //! What each column of a schema holds.
 ghost use Rattle.std.specs.Prelude.{◌≡◌, ◌≢◌, ◌↔◌, Bool, Some, None, IfOk, IsTrue, map};
-ghost use Rattle.arrow_columns.specs.Column.{ColumnTree, column_tree, name_on, metadata_on};
+ghost use Rattle.arrow_columns.specs.Column.{column_tree, name_on, metadata_on};
+ghost use Rattle.arrow_columns.specs.Types.{ColumnTree};
 ghost use Rattle.geoarrow_layout.specs.declared.names.ExtensionName.{ExtensionName};
 ghost use Rattle.geoarrow_layout.specs.Kinds.{name_text};
 ghost use Rattle.column_check.specs.OldNames.{current_name};
@@ -10,6 +11,7 @@ ghost use Rattle.column_check.specs.Finding.{HasName, HasOtherName, IsReserved, 
 
 use crate::data_type::{TypeFault, kind_under};
 use crate::finding::{Finding, Geometry, Reasons};
+use crate::geometry_names::may_be_taken;
 use crate::metadata::{ColumnMetadata, MetadataFault, read_metadata};
 use crate::old_names::current_name;
 use arrow_columns::{AnyType, SchemaColumn};
@@ -34,10 +36,13 @@ pub fn inspect_columns(
     Ok(findings)
 }
 
-/// What a column holds: geometries, where it has one of GeoArrow's extension names, or an old one of them, and its type and its metadata
-/// go with it, whatever its coordinate reference system is; or why not. With `infer`, a column without an extension name is taken for what
-/// `from_arrow_field` of `geoarrow_schema` infers from its data type. The scratch buffer is kept by the
-/// caller from column to column. Errs only when out of memory.
+/// Returns what a column holds: geometries, where it has one of GeoArrow's extension names, or an old
+/// one of them, and its type and its metadata go with it, whatever its coordinate reference system is;
+/// or why not. With `infer`, a column without an extension name is taken for what `from_arrow_field`
+/// of `geoarrow_schema` infers from its data type; for well-known binary or text only where it is named
+/// as columns of geometries are (`docs/FORMAT.md`, 2.6). `infer` is of this column alone: without it a
+/// column is taken for nothing, as one that a covering names. The scratch buffer is kept by the caller
+/// from column to column. Errs only when out of memory.
 ///
 /// ```rust
 /// let column = SchemaColumn {
@@ -142,6 +147,9 @@ fn check_unnamed(
     let Some(kind) = infer_kind(data_type) else {
         return Ok(Finding::Plain);
     };
+    if !may_be_taken(alloc, column.name.as_str(), kind)? {
+        return Ok(Finding::Plain);
+    }
     match read_metadata(alloc, column.extension_type_metadata(), scratch)? {
         Ok(metadata) => Ok(Finding::Inferred(Geometry { kind, metadata })),
         Err(_) => Ok(Finding::Plain),

@@ -16,33 +16,49 @@ pub enum Severity {
     Note,
 }
 
-/// What a finding of a column says. Those up to [`WarningCode::UnknownEdges`] are the reasons for
-/// which a column is invalid.
+/// What a finding of a column says. A column is invalid for the faults of a layout, for
+/// `UnknownExtension` and `WrongStorage`, and for `MetadataNotJson`, `MetadataNotObject`,
+/// `UnknownCrsType` and `UnknownEdges`; the others leave it as it is.
 #[derive(Debug, Clone, Copy, PartialEq, Eq)]
 pub enum WarningCode {
+    /// The type has that fault under the extension name (GeoArrow, "Native encoding").
+    Layout(LayoutFault),
     /// The extension name begins with `geoarrow.`, in any letters, or with `ogc.`, and is none of the
     /// eleven, nor an old one of them.
     UnknownExtension,
+    /// The extension name is an old one, `ogc.wkb` or `ogc.wkt`, which is read as `geoarrow.wkb` or
+    /// `geoarrow.wkt`; `from_extension_field` of `geoarrow_schema` refuses the column.
+    OldExtensionName,
     /// The extension name is that of well-known binary or text, and the type is no bytes or no text.
     WrongStorage,
-    /// The type has that fault under the extension name (GeoArrow, "Native encoding").
-    Layout(LayoutFault),
+    /// A number of a coordinate or a box is of no floating type (GeoArrow, "Coordinate").
+    CoordinatesNotFloat,
+    /// A number of a coordinate or a box is `Float16` or `Float32`.
+    CoordinatesNotDouble,
+    /// The fields of a separated coordinate are x, y, z and m, or those of a box its bounds, in another order.
+    AxisOrder,
+    /// The fields of a separated coordinate, or of a box, have other names.
+    AxisNames,
+    /// A field below a geometry is nullable, and none that it is below; the members of unions and
+    /// the fields of boxes do not count.
+    NullableInner,
+    /// A union of a geometry or of a collection is sparse.
+    UnionMode,
+    /// A field below the column has one of GeoArrow's eleven extension names, or an old one of them.
+    NestedGeometry,
     /// The extension metadata are not JSON.
     MetadataNotJson,
     /// The extension metadata are JSON, but no object.
     MetadataNotObject,
-    /// The value of `crs_type` is none of the format's.
-    UnknownCrsType,
-    /// The value of `edges` is none of the format's, and not `planar`.
-    UnknownEdges,
-    /// The extension name is an old one, `ogc.wkb` or `ogc.wkt`, which is read as `geoarrow.wkb` or
-    /// `geoarrow.wkt`; `from_extension_field` of `geoarrow_schema` refuses the column.
-    OldExtensionName,
     /// The extension metadata are an empty text, which is read as none here;
     /// `from_extension_field` and `from_arrow_field` of `geoarrow_schema` refuse the column.
     MetadataEmpty,
     /// A key of the extension metadata is `crs`, `crs_type` or `edges` but for its letters.
     MetadataKeyCase,
+    /// The value of `crs_type` is none of the format's.
+    UnknownCrsType,
+    /// The value of `edges` is none of the format's, and not `planar`.
+    UnknownEdges,
     /// The edges in the extension metadata are `planar`, which is read as no edges;
     /// `from_extension_field` and `from_arrow_field` of `geoarrow_schema` refuse the column.
     EdgesPlanar,
@@ -62,28 +78,11 @@ pub enum WarningCode {
     /// and `from_arrow_field` of `geoarrow_schema` refuse the column. It is a note, which is said
     /// only where notes are asked for.
     CrsNotWhole,
-    /// A number of a coordinate or a box is of no floating type (GeoArrow, "Coordinate").
-    CoordinatesNotFloat,
-    /// A number of a coordinate or a box is `Float16` or `Float32`.
-    CoordinatesNotDouble,
-    /// The fields of a separated coordinate are x, y, z and m, or those of a box its bounds, in another order.
-    AxisOrder,
-    /// The fields of a separated coordinate, or of a box, have other names.
-    AxisNames,
-    /// A field below a geometry is nullable, and none that it is below; the members of unions and
-    /// the fields of boxes do not count.
-    NullableInner,
-    /// A union of a geometry or of a collection is sparse.
-    UnionMode,
-    /// A field below the column has one of GeoArrow's eleven extension names, or an old one of them.
-    NestedGeometry,
 }
 
 impl WarningCode {
     /// Each code, in the order of docs/FORMAT.md, 2.6.
     pub const ALL: [WarningCode; 35] = [
-        WarningCode::UnknownExtension,
-        WarningCode::WrongStorage,
         WarningCode::Layout(LayoutFault::UnexpectedType),
         WarningCode::Layout(LayoutFault::BadInterleavedName),
         WarningCode::Layout(LayoutFault::BadSize),
@@ -95,13 +94,22 @@ impl WarningCode {
         WarningCode::Layout(LayoutFault::EmptyUnion),
         WarningCode::Layout(LayoutFault::SeveralCoordTypes),
         WarningCode::Layout(LayoutFault::SeveralDimensions),
+        WarningCode::UnknownExtension,
+        WarningCode::OldExtensionName,
+        WarningCode::WrongStorage,
+        WarningCode::CoordinatesNotFloat,
+        WarningCode::CoordinatesNotDouble,
+        WarningCode::AxisOrder,
+        WarningCode::AxisNames,
+        WarningCode::NullableInner,
+        WarningCode::UnionMode,
+        WarningCode::NestedGeometry,
         WarningCode::MetadataNotJson,
         WarningCode::MetadataNotObject,
-        WarningCode::UnknownCrsType,
-        WarningCode::UnknownEdges,
-        WarningCode::OldExtensionName,
         WarningCode::MetadataEmpty,
         WarningCode::MetadataKeyCase,
+        WarningCode::UnknownCrsType,
+        WarningCode::UnknownEdges,
         WarningCode::EdgesPlanar,
         WarningCode::CrsMalformed,
         WarningCode::CrsEmpty,
@@ -110,13 +118,6 @@ impl WarningCode {
         WarningCode::CrsWithoutType,
         WarningCode::CrsNumber,
         WarningCode::CrsNotWhole,
-        WarningCode::CoordinatesNotFloat,
-        WarningCode::CoordinatesNotDouble,
-        WarningCode::AxisOrder,
-        WarningCode::AxisNames,
-        WarningCode::NullableInner,
-        WarningCode::UnionMode,
-        WarningCode::NestedGeometry,
     ];
 
     /// Returns the code, as reports have it (`docs/FORMAT.md`, 2.6).
@@ -124,16 +125,23 @@ impl WarningCode {
         ensures { result.now ≡ warning_code self }
     {
         match self {
-            WarningCode::UnknownExtension => "UnknownExtension",
-            WarningCode::WrongStorage => "WrongStorage",
             WarningCode::Layout(fault) => fault_code(fault),
+            WarningCode::UnknownExtension => "UnknownExtension",
+            WarningCode::OldExtensionName => "OldExtensionName",
+            WarningCode::WrongStorage => "WrongStorage",
+            WarningCode::CoordinatesNotFloat => "CoordinatesNotFloat",
+            WarningCode::CoordinatesNotDouble => "CoordinatesNotDouble",
+            WarningCode::AxisOrder => "AxisOrder",
+            WarningCode::AxisNames => "AxisNames",
+            WarningCode::NullableInner => "NullableInner",
+            WarningCode::UnionMode => "UnionMode",
+            WarningCode::NestedGeometry => "NestedGeometry",
             WarningCode::MetadataNotJson => "MetadataNotJson",
             WarningCode::MetadataNotObject => "MetadataNotObject",
-            WarningCode::UnknownCrsType => "UnknownCrsType",
-            WarningCode::UnknownEdges => "UnknownEdges",
-            WarningCode::OldExtensionName => "OldExtensionName",
             WarningCode::MetadataEmpty => "MetadataEmpty",
             WarningCode::MetadataKeyCase => "MetadataKeyCase",
+            WarningCode::UnknownCrsType => "UnknownCrsType",
+            WarningCode::UnknownEdges => "UnknownEdges",
             WarningCode::EdgesPlanar => "EdgesPlanar",
             WarningCode::CrsMalformed => "CrsMalformed",
             WarningCode::CrsEmpty => "CrsEmpty",
@@ -142,13 +150,6 @@ impl WarningCode {
             WarningCode::CrsWithoutType => "CrsWithoutType",
             WarningCode::CrsNumber => "CrsNumber",
             WarningCode::CrsNotWhole => "CrsNotWhole",
-            WarningCode::CoordinatesNotFloat => "CoordinatesNotFloat",
-            WarningCode::CoordinatesNotDouble => "CoordinatesNotDouble",
-            WarningCode::AxisOrder => "AxisOrder",
-            WarningCode::AxisNames => "AxisNames",
-            WarningCode::NullableInner => "NullableInner",
-            WarningCode::UnionMode => "UnionMode",
-            WarningCode::NestedGeometry => "NestedGeometry",
         }
     }
 
@@ -157,17 +158,17 @@ impl WarningCode {
         ensures { result ≡ severity_of self }
     {
         match self {
-            WarningCode::UnknownExtension
+            WarningCode::Layout(_)
+            | WarningCode::UnknownExtension
             | WarningCode::WrongStorage
-            | WarningCode::Layout(_)
+            | WarningCode::CoordinatesNotFloat
+            | WarningCode::AxisOrder
             | WarningCode::MetadataNotJson
             | WarningCode::MetadataNotObject
             | WarningCode::UnknownCrsType
             | WarningCode::UnknownEdges
             | WarningCode::CrsMalformed
-            | WarningCode::CrsTypeContradicts
-            | WarningCode::CoordinatesNotFloat
-            | WarningCode::AxisOrder => Severity::Error,
+            | WarningCode::CrsTypeContradicts => Severity::Error,
             WarningCode::CrsNotWhole => Severity::Note,
             _ => Severity::Warning,
         }
@@ -178,17 +179,24 @@ impl WarningCode {
         ensures { result.now ≡ warning_message self }
     {
         match self {
-            WarningCode::UnknownExtension => "GeoArrow has no extension type of this name",
-            WarningCode::WrongStorage => STORAGE_MESSAGE,
             WarningCode::Layout(fault) => fault.text(),
+            WarningCode::UnknownExtension => "GeoArrow has no extension type of this name",
+            WarningCode::OldExtensionName => "extension name is an old one",
+            WarningCode::WrongStorage => STORAGE_MESSAGE,
+            WarningCode::CoordinatesNotFloat => "coordinates are not floating-point numbers",
+            WarningCode::CoordinatesNotDouble => "coordinates are not float64",
+            WarningCode::AxisOrder => "fields are named after the axes, in another order",
+            WarningCode::AxisNames => "fields are not named after the axes",
+            WarningCode::NullableInner => "child field is nullable",
+            WarningCode::UnionMode => "union is sparse",
+            WarningCode::NestedGeometry => "child field has a GeoArrow extension name",
             WarningCode::MetadataNotJson => "metadata is not JSON",
             WarningCode::MetadataNotObject => "metadata is not an object",
-            WarningCode::UnknownCrsType => "unknown crs_type",
-            WarningCode::UnknownEdges => "unknown edges",
-            WarningCode::OldExtensionName => "extension name is an old one",
             WarningCode::MetadataEmpty => "metadata is an empty text",
             WarningCode::MetadataKeyCase =>
                 "metadata key is one of the format's but for its letters",
+            WarningCode::UnknownCrsType => "unknown crs_type",
+            WarningCode::UnknownEdges => "unknown edges",
             WarningCode::EdgesPlanar => "edges are planar by name",
             WarningCode::CrsMalformed => "CRS is an object that is no PROJJSON",
             WarningCode::CrsEmpty => "CRS is an empty text",
@@ -197,13 +205,6 @@ impl WarningCode {
             WarningCode::CrsWithoutType => "CRS of no known form without crs_type",
             WarningCode::CrsNumber => "CRS is neither an object nor a text",
             WarningCode::CrsNotWhole => "CRS has a number that is not whole",
-            WarningCode::CoordinatesNotFloat => "coordinates are not floating-point numbers",
-            WarningCode::CoordinatesNotDouble => "coordinates are not float64",
-            WarningCode::AxisOrder => "fields are named after the axes, in another order",
-            WarningCode::AxisNames => "fields are not named after the axes",
-            WarningCode::NullableInner => "child field is nullable",
-            WarningCode::UnionMode => "union is sparse",
-            WarningCode::NestedGeometry => "child field has a GeoArrow extension name",
         }
     }
 
@@ -213,16 +214,23 @@ impl WarningCode {
         ensures { result.now ≡ warning_expected self }
     {
         match self {
-            WarningCode::UnknownExtension => NAMES,
-            WarningCode::WrongStorage => "the layout of its extension name",
             WarningCode::Layout(_) => "the layout of its extension name",
+            WarningCode::UnknownExtension => NAMES,
+            WarningCode::OldExtensionName => "geoarrow.wkb or geoarrow.wkt",
+            WarningCode::WrongStorage => "the layout of its extension name",
+            WarningCode::CoordinatesNotFloat => "float64",
+            WarningCode::CoordinatesNotDouble => "float64",
+            WarningCode::AxisOrder => AXES,
+            WarningCode::AxisNames => AXES,
+            WarningCode::NullableInner => "not null",
+            WarningCode::UnionMode => "a dense union",
+            WarningCode::NestedGeometry => "the name of a column alone",
             WarningCode::MetadataNotJson => "JSON",
             WarningCode::MetadataNotObject => "an object",
-            WarningCode::UnknownCrsType => "projjson, wkt2:2019, authority_code or srid",
-            WarningCode::UnknownEdges => "andoyer, karney, spherical, thomas or vincenty",
-            WarningCode::OldExtensionName => "geoarrow.wkb or geoarrow.wkt",
             WarningCode::MetadataEmpty => "no metadata, or {}",
             WarningCode::MetadataKeyCase => "crs, crs_type or edges",
+            WarningCode::UnknownCrsType => "projjson, wkt2:2019, authority_code or srid",
+            WarningCode::UnknownEdges => "andoyer, karney, spherical, thomas or vincenty",
             WarningCode::EdgesPlanar => "no edges",
             WarningCode::CrsMalformed => "PROJJSON",
             WarningCode::CrsEmpty => "a CRS, or none",
@@ -231,13 +239,6 @@ impl WarningCode {
             WarningCode::CrsWithoutType => "PROJJSON, WKT, a code as EPSG:4326, or a crs_type",
             WarningCode::CrsNumber => "an object or a text",
             WarningCode::CrsNotWhole => "whole numbers",
-            WarningCode::CoordinatesNotFloat => "float64",
-            WarningCode::CoordinatesNotDouble => "float64",
-            WarningCode::AxisOrder => AXES,
-            WarningCode::AxisNames => AXES,
-            WarningCode::NullableInner => "not null",
-            WarningCode::UnionMode => "a dense union",
-            WarningCode::NestedGeometry => "the name of a column alone",
         }
     }
 
@@ -246,31 +247,31 @@ impl WarningCode {
         ensures { option_map (λ text. text.now) result ≡ warning_help self }
     {
         match self {
-            WarningCode::UnknownExtension => Some("Names are compared letter by letter."),
             WarningCode::Layout(fault) => Some(fault_help(fault)),
-            WarningCode::MetadataNotJson => Some("Keys and texts stand in double quotes."),
-            WarningCode::UnknownEdges => Some("Leave it out where edges are planar."),
+            WarningCode::UnknownExtension => Some("Names are compared letter by letter."),
             WarningCode::OldExtensionName => Some("The column is read under the new name."),
+            WarningCode::AxisOrder => Some("Readers go by place."),
+            WarningCode::AxisNames => Some("Readers go by place."),
+            WarningCode::NestedGeometry => Some("GeoParquet takes columns at the root alone."),
+            WarningCode::MetadataNotJson => Some("Keys and texts stand in double quotes."),
             WarningCode::MetadataEmpty => Some("It is read as no metadata."),
             WarningCode::MetadataKeyCase => Some("The key is passed over."),
+            WarningCode::UnknownEdges => Some("Leave it out where edges are planar."),
             WarningCode::EdgesPlanar => Some("Leave it out; planar is the default."),
             WarningCode::CrsMalformed => Some("projinfo -o PROJJSON prints it, as of EPSG:4326."),
             WarningCode::CrsEmpty => Some("It is read as no CRS."),
             WarningCode::CrsTypeContradicts => Some("Name the form in crs_type, or leave it out."),
             WarningCode::CrsWkt1 => Some("projinfo -o WKT2:2019 prints it."),
             WarningCode::CrsNotWhole => Some(NOT_WHOLE_HELP),
-            WarningCode::AxisOrder => Some("Readers go by place."),
-            WarningCode::AxisNames => Some("Readers go by place."),
-            WarningCode::NestedGeometry => Some("GeoParquet takes columns at the root alone."),
             WarningCode::WrongStorage
-            | WarningCode::MetadataNotObject
-            | WarningCode::UnknownCrsType
-            | WarningCode::CrsWithoutType
-            | WarningCode::CrsNumber
             | WarningCode::CoordinatesNotFloat
             | WarningCode::CoordinatesNotDouble
             | WarningCode::NullableInner
-            | WarningCode::UnionMode => None,
+            | WarningCode::UnionMode
+            | WarningCode::MetadataNotObject
+            | WarningCode::UnknownCrsType
+            | WarningCode::CrsWithoutType
+            | WarningCode::CrsNumber => None,
         }
     }
 }

@@ -1,54 +1,43 @@
-//! What is doubtful of a coordinate.
+//! What is doubtful of coordinates: of the names of their fields, and of their numbers.
 ghost use Rattle.std.specs.Prelude.{◌≡◌, map};
 ghost use Rattle.std.specs.List.{list_all};
 ghost use Rattle.std.specs.Str.{bytes_eq};
 ghost use Rattle.std.specs.Cmp.Lexicographic.{pointwise};
-ghost use Rattle.arrow_values.specs.View.{tree, field_trees};
-ghost use Rattle.geoarrow_layout.specs.Shapes.{names_of, has_name};
+ghost use Rattle.arrow_values.specs.View.{tree};
+ghost use Rattle.arrow_columns.specs.Below.{ref_tree};
+ghost use Rattle.geoarrow_layout.specs.Shapes.{has_name};
 ghost use Rattle.geoarrow_layout.specs.Layouts.{coordinate_names, box_names};
-ghost use Rattle.column_check.specs.Warnings.{is_doubtful_number, some_doubtful, has_doubtful, axis_names, in_order, have_names, in_some_order, lacks_order, lacks_axis_names, is_doubtful};
+ghost use Rattle.column_check.specs.Warnings.{is_doubtful_tree, is_doubtful_number, axis_names, in_order, have_names, in_some_order, are_doubtful};
 
 use crate::code::WarningCode;
-use arrow_values::{DataType, Field};
+use arrow_columns::TypeRef;
+use arrow_values::DataType;
 use geoarrow_layout::{Dimension, Kind};
 
-/// Whether that warning holds of a coordinate or a box; of any other data type, none does.
-pub(crate) fn is_doubtful(code: WarningCode, kind: Kind, data_type: &DataType) -> bool
-    ensures { result ≡ is_doubtful code kind (tree data_type.now) }
+/// Whether that warning holds of a separated coordinate or a box whose fields have these names.
+pub(crate) fn are_doubtful(code: WarningCode, kind: Kind, names: &[&str]) -> bool
+    ensures { result ≡ are_doubtful code kind (map (λ name. name.now) names.now) }
 {
     match code {
-        WarningCode::AxisOrder => lacks_order(kind, data_type),
-        WarningCode::AxisNames => lacks_axis_names(kind, data_type),
-        _ => has_doubtful(code, data_type),
-    }
-}
-
-/// Whether that warning holds of a number of a coordinate or a box.
-fn has_doubtful(code: WarningCode, data_type: &DataType) -> bool
-    ensures { result ≡ has_doubtful code (tree data_type.now) }
-{
-    match data_type {
-        DataType::FixedSizeList(item, _) => is_doubtful_number(code, item.data_type()),
-        DataType::Struct(fields) => some_doubtful(code, fields.as_slice()),
+        WarningCode::AxisOrder => !in_order(kind, names) && in_some_order(kind, names),
+        WarningCode::AxisNames => !in_some_order(kind, names),
         _ => false,
     }
 }
 
-/// Whether it holds of a field that is a number of them.
-fn some_doubtful(code: WarningCode, fields: &[Field]) -> bool
-    ensures { result ≡ some_doubtful code (field_trees fields.now) }
+/// Whether that warning holds of a number of that type.
+pub(crate) fn is_doubtful_number(code: WarningCode, column_type: TypeRef<'_>) -> bool
+    ensures { result ≡ is_doubtful_number code (ref_tree column_type.entry) }
 {
-    for field in fields {
-        if is_doubtful_number(code, field.data_type()) {
-            return true;
-        }
+    match column_type {
+        TypeRef::Data(data_type) => is_doubtful_tree(code, data_type),
+        TypeRef::Other(_) => matches!(code, WarningCode::CoordinatesNotFloat),
     }
-    false
 }
 
 /// Whether it holds of a number of that data type.
-fn is_doubtful_number(code: WarningCode, data_type: &DataType) -> bool
-    ensures { result ≡ is_doubtful_number code (tree data_type.now) }
+fn is_doubtful_tree(code: WarningCode, data_type: &DataType) -> bool
+    ensures { result ≡ is_doubtful_tree code (tree data_type.now) }
 {
     match code {
         WarningCode::CoordinatesNotFloat => !matches!(
@@ -62,46 +51,24 @@ fn is_doubtful_number(code: WarningCode, data_type: &DataType) -> bool
     }
 }
 
-/// Whether the fields of a separated coordinate, or of a box, have the names of one, in another
-/// order.
-fn lacks_order(kind: Kind, data_type: &DataType) -> bool
-    ensures { result ≡ lacks_order kind (tree data_type.now) }
+/// Whether the names are those of a dimension, in their order.
+fn in_order(kind: Kind, names: &[&str]) -> bool
+    ensures { result ≡ in_order kind (map (λ name. name.now) names.now) }
 {
-    let DataType::Struct(fields) = data_type else {
-        return false;
-    };
-    let fields = fields.as_slice();
-    !in_order(kind, fields) && in_some_order(kind, fields)
+    are_named(names, axis_names(kind, Dimension::XY))
+        || are_named(names, axis_names(kind, Dimension::XYZ))
+        || are_named(names, axis_names(kind, Dimension::XYM))
+        || are_named(names, axis_names(kind, Dimension::XYZM))
 }
 
-/// Whether the fields of a separated coordinate, or of a box, have other names.
-fn lacks_axis_names(kind: Kind, data_type: &DataType) -> bool
-    ensures { result ≡ lacks_axis_names kind (tree data_type.now) }
+/// Whether the names are those of a dimension, in any order.
+fn in_some_order(kind: Kind, names: &[&str]) -> bool
+    ensures { result ≡ in_some_order kind (map (λ name. name.now) names.now) }
 {
-    let DataType::Struct(fields) = data_type else {
-        return false;
-    };
-    !in_some_order(kind, fields.as_slice())
-}
-
-/// Whether the fields have the names of a dimension, in their order.
-fn in_order(kind: Kind, fields: &[Field]) -> bool
-    ensures { result ≡ in_order kind (names_of (field_trees fields.now)) }
-{
-    are_named(fields, axis_names(kind, Dimension::XY))
-        || are_named(fields, axis_names(kind, Dimension::XYZ))
-        || are_named(fields, axis_names(kind, Dimension::XYM))
-        || are_named(fields, axis_names(kind, Dimension::XYZM))
-}
-
-/// Whether the fields have the names of a dimension, in any order.
-fn in_some_order(kind: Kind, fields: &[Field]) -> bool
-    ensures { result ≡ in_some_order kind (names_of (field_trees fields.now)) }
-{
-    have_names(fields, axis_names(kind, Dimension::XY))
-        || have_names(fields, axis_names(kind, Dimension::XYZ))
-        || have_names(fields, axis_names(kind, Dimension::XYM))
-        || have_names(fields, axis_names(kind, Dimension::XYZM))
+    have_names(names, axis_names(kind, Dimension::XY))
+        || have_names(names, axis_names(kind, Dimension::XYZ))
+        || have_names(names, axis_names(kind, Dimension::XYM))
+        || have_names(names, axis_names(kind, Dimension::XYZM))
 }
 
 /// The names of the fields of a separated coordinate, or of a box.
@@ -140,42 +107,42 @@ fn box_names(dimension: Dimension) -> &'static [&'static str]
     }
 }
 
-/// Whether the fields have these names, in this order.
-fn are_named(fields: &[Field], names: &[&str]) -> bool
-    ensures { result ≡ pointwise bytes_eq (names_of (field_trees fields.now)) (map (λ name. name.now) names.now) }
+/// Whether the names are these others, in this order.
+fn are_named(names: &[&str], others: &[&str]) -> bool
+    ensures { result ≡ pointwise bytes_eq (map (λ name. name.now) names.now) (map (λ name. name.now) others.now) }
 {
-    let [name, rest @ ..] = names else {
-        return fields.is_empty();
+    let [other, rest @ ..] = others else {
+        return names.is_empty();
     };
-    let [field, others @ ..] = fields else {
+    let [name, behind @ ..] = names else {
         return false;
     };
-    field.name() == *name && are_named(others, rest)
+    *name == *other && are_named(behind, rest)
 }
 
-/// Whether there are as many fields as names, and a field of each name.
-fn have_names(fields: &[Field], names: &[&str]) -> bool
-    ensures { result ≡ have_names (names_of (field_trees fields.now)) (map (λ name. name.now) names.now) }
+/// Whether there are as many names as others, and each of the others is among them.
+fn have_names(names: &[&str], others: &[&str]) -> bool
+    ensures { result ≡ have_names (map (λ name. name.now) names.now) (map (λ name. name.now) others.now) }
 {
-    fields.len() == names.len() && have_each(fields, names)
+    names.len() == others.len() && have_each(names, others)
 }
 
-/// Whether there is a field of each name.
-fn have_each(fields: &[Field], names: &[&str]) -> bool
-    ensures { result ≡ list_all (λ n. has_name n (names_of (field_trees fields.now))) (map (λ name. name.now) names.now) }
+/// Whether each of the others is among the names.
+fn have_each(names: &[&str], others: &[&str]) -> bool
+    ensures { result ≡ list_all (λ n. has_name n (map (λ name. name.now) names.now)) (map (λ name. name.now) others.now) }
 {
-    let [name, rest @ ..] = names else {
+    let [other, rest @ ..] = others else {
         return true;
     };
-    has_name(fields, name) && have_each(fields, rest)
+    has_name(names, other) && have_each(names, rest)
 }
 
-/// Whether there is a field of that name.
-fn has_name(fields: &[Field], name: &str) -> bool
-    ensures { result ≡ has_name name.now (names_of (field_trees fields.now)) }
+/// Whether that one is among the names.
+fn has_name(names: &[&str], other: &str) -> bool
+    ensures { result ≡ has_name other.now (map (λ name. name.now) names.now) }
 {
-    let [field, rest @ ..] = fields else {
+    let [name, rest @ ..] = names else {
         return false;
     };
-    field.name() == name || has_name(rest, name)
+    *name == other || has_name(rest, other)
 }

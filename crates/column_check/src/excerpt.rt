@@ -1,13 +1,12 @@
 //! What stands at a place, as a finding shows it.
-ghost use Rattle.std.specs.Prelude.{◌≡◌, IfOk, length, string_bytes, take};
+ghost use Rattle.std.specs.Prelude.{◌≡◌, IfOk, length, map, string_bytes, take};
 ghost use Rattle.std.specs.Str.{chars, encode_utf8_all};
 ghost use Rattle.json.specs.Value.{value_view};
-ghost use Rattle.arrow_values.specs.View.{tree};
+ghost use Rattle.arrow_columns.specs.Below.{ref_tree};
 ghost use Rattle.value_tokens.specs.Values.{IsReadable};
-ghost use Rattle.column_check.specs.Shown.{shown, shown_value, type_shown};
+ghost use Rattle.column_check.specs.Shown.{names_shown, shown, shown_value, type_shown};
 
-use arrow_columns::data_type_notation;
-use arrow_values::DataType;
+use arrow_columns::TypeRef;
 use json::Value;
 use std::alloc::{AllocError, Global};
 use value_tokens::JsonText;
@@ -43,12 +42,20 @@ fn first_of(alloc: Global, text: &str) -> Result<String, AllocError>
     text.chars().take(SHOWN).collect(alloc)
 }
 
-/// Returns a data type as a finding shows it: its notation, shown as a text. Errs only when out of
-/// memory.
-pub(crate) fn type_shown(alloc: Global, data_type: &DataType) -> Result<String, AllocError>
-    ensures { IfOk result (λ made. string_bytes made ≡ type_shown (tree data_type.now)) }
+/// Returns a type as a finding shows it: its notation, shown as a text. Errs only when out of memory.
+pub(crate) fn type_shown(alloc: Global, column_type: TypeRef<'_>) -> Result<String, AllocError>
+    ensures { IfOk result (λ made. string_bytes made ≡ type_shown (ref_tree column_type.entry)) }
 {
-    let text = data_type_notation(alloc, data_type)?;
+    let text = column_type.notation(alloc)?;
+    shown(alloc, text.as_str())
+}
+
+/// Returns names as a finding shows them: with commas between them, shown as a text. Errs only when
+/// out of memory.
+pub(crate) fn names_shown(alloc: Global, names: &[&str]) -> Result<String, AllocError>
+    ensures { IfOk result (λ made. string_bytes made ≡ names_shown (map (λ name. name.now) names.now)) }
+{
+    let text = names.join(alloc, ", ")?;
     shown(alloc, text.as_str())
 }
 

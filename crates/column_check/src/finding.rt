@@ -17,7 +17,7 @@ pub enum Finding {
     Invalid(Reasons),
     /// Another extension type, of which nothing more is said.
     Extension,
-    /// The column has no extension name, and this is inferred from its type.
+    /// The column has no extension name, and this is inferred from its type, as its name allows.
     Inferred(Geometry),
     /// Anything else.
     Plain,

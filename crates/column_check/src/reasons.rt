@@ -5,7 +5,7 @@ ghost use Rattle.arrow_values.specs.Texts.{text_of};
 ghost use Rattle.arrow_columns.specs.Column.{column_tree, type_tree};
 ghost use Rattle.value_tokens.specs.Values.{IsReadable};
 ghost use Rattle.column_check.specs.ExtensionNames.{extension_named};
-ghost use Rattle.column_check.specs.ReasonFindings.{unknown_name, type_code, type_path, names_at, shown_at, type_spot, type_found, value_found, crs_type_found, edges_found, json_found, text_found, metadata_found, reasons_found};
+ghost use Rattle.column_check.specs.ReasonFindings.{unknown_name, type_code, type_path, shown_at, type_spot, type_found, value_found, crs_type_found, edges_found, json_found, text_found, metadata_found, type_reason, metadata_reasons};
 ghost use Rattle.column_check.specs.Said.{said};
 ghost use Rattle.column_check.specs.Shown.{shown};
 ghost use Rattle.column_check.specs.declared.metadata.MetadataFault.TheVariants.{NotJson};
@@ -26,25 +26,37 @@ use json::{Scratch, Value};
 use std::alloc::{AllocError, Global};
 use value_tokens::member_of;
 
-/// Adds all reasons of a column, that of its type first; none of a column that is not read.
-pub(crate) fn push_reasons(
+/// Adds the reason of a column's extension name or of its type; none of a column that is not read.
+pub(crate) fn push_type_reason(
     alloc: Global,
     warnings: &mut Vec<Warning>,
     column: &SchemaColumn,
     reasons: &Reasons,
 ) -> Result<(), AllocError>
-    ensures { OnOk result (map said warnings.new.items ≡ map said warnings.old.items ++ reasons_found (column_tree column.now) reasons.now) }
+    ensures { OnOk result (map said warnings.new.items ≡ map said warnings.old.items ++ type_reason (column_tree column.now) reasons.now) }
 {
-    let text = column.extension_type_metadata();
     match reasons {
         Reasons::UnknownExtension => push_name(alloc, warnings, column.extension_type_name()),
         Reasons::DataType(fault) => push_type(alloc, warnings, column, fault),
+        Reasons::DataTypeAndMetadata(fault, _) => push_type(alloc, warnings, column, fault),
+        Reasons::Metadata(_) | Reasons::Unread => Ok(()),
+    }
+}
+
+/// Adds the reasons of a column's metadata text; none of a column that is not read.
+pub(crate) fn push_metadata_reasons(
+    alloc: Global,
+    warnings: &mut Vec<Warning>,
+    column: &SchemaColumn,
+    reasons: &Reasons,
+) -> Result<(), AllocError>
+    ensures { OnOk result (map said warnings.new.items ≡ map said warnings.old.items ++ metadata_reasons (column_tree column.now) reasons.now) }
+{
+    let text = column.extension_type_metadata();
+    match reasons {
         Reasons::Metadata(fault) => push_metadata(alloc, warnings, text, *fault),
-        Reasons::DataTypeAndMetadata(of_type, of_text) => {
-            push_type(alloc, warnings, column, of_type)?;
-            push_metadata(alloc, warnings, text, *of_text)
-        }
-        Reasons::Unread => Ok(()),
+        Reasons::DataTypeAndMetadata(_, fault) => push_metadata(alloc, warnings, text, *fault),
+        Reasons::UnknownExtension | Reasons::DataType(_) | Reasons::Unread => Ok(()),
     }
 }
 
@@ -101,7 +113,7 @@ fn type_reason(
 ) -> Result<Warning, AllocError>
     ensures { IfOk result (λ reason. said reason ≡ (code, type_spot (column_tree column.now) path.now, 0)) }
 {
-    let names = names_at(alloc, &column.data_type, path)?;
+    let names = names_along(alloc, column.data_type.as_ref(), path)?;
     let found = shown_at(alloc, &column.data_type, path)?;
     let wanted = extension_named(column.extension_type_name());
     Ok(Warning {
@@ -134,16 +146,6 @@ fn type_path(fault: &TypeFault) -> &[usize]
     }
 }
 
-/// The names of the child fields of a type on a path.
-fn names_at(alloc: Global, column_type: &AnyType, path: &[usize]) -> Result<Vec<String>, AllocError>
-    ensures { IfOk result (λ names. map string_bytes names.items ≡ names_at (type_tree column_type.now) path.now) }
-{
-    match column_type {
-        AnyType::Data(data_type) => names_along(alloc, data_type, path),
-        AnyType::Other(_) => Ok(Vec::new(alloc)),
-    }
-}
-
 /// The type at the end of a path, as a finding shows it, if there is one.
 fn shown_at(
     alloc: Global,
@@ -152,12 +154,9 @@ fn shown_at(
 ) -> Result<Option<String>, AllocError>
     ensures { IfOk result (λ text. option_map string_bytes text ≡ shown_at (type_tree column_type.now) path.now) }
 {
-    match column_type {
-        AnyType::Data(data_type) => match type_along(data_type, path) {
-            Some(found) => Ok(Some(type_shown(alloc, found)?)),
-            None => Ok(None),
-        },
-        AnyType::Other(notation) => Ok(Some(shown(alloc, notation.as_str())?)),
+    match type_along(column_type.as_ref(), path) {
+        Some(found) => Ok(Some(type_shown(alloc, found)?)),
+        None => Ok(None),
     }
 }
 

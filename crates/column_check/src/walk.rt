@@ -1,15 +1,18 @@
 //! The walk down a data type, which adds a warning of each part that is looked for.
-ghost use Rattle.std.specs.Prelude.{◌≡◌, ◌++◌, map, OnOk};
-ghost use Rattle.arrow_values.specs.View.{tree, member_trees};
+ghost use Rattle.std.specs.Prelude.{◌≡◌, ◌++◌, map, IfOk, OnOk};
+ghost use Rattle.arrow_values.specs.View.{tree, field_trees, member_trees};
+ghost use Rattle.arrow_columns.specs.Below.{ref_tree};
+ghost use Rattle.geoarrow_layout.specs.Shapes.{names_of};
 ghost use Rattle.column_check.specs.Said.{said};
 ghost use Rattle.column_check.specs.Warnings.{has_extension_name};
-ghost use Rattle.column_check.specs.Walk.{names_on, is_own, own_word, own_spots, goes_below, is_own_union, union_spots, found, found_among, found_at, code_of, sought_warnings, telling, tell_all};
+ghost use Rattle.column_check.specs.Walk.{names_on, is_own, own_word, own_spots, goes_below, is_own_union, union_spots, axis_spots, number_spot, number_spots, found, found_of, found_among, found_at, code_of, sought_warnings, telling, tell_all};
 
 use crate::code::WarningCode;
-use crate::coordinates::is_doubtful;
+use crate::coordinates::{are_doubtful, is_doubtful_number};
 use crate::old_names::current_name;
 use crate::warning::Warning;
 use crate::way::{Rest, Shown, Way, finish, tell_if};
+use arrow_columns::TypeRef;
 use arrow_values::{DataType, Field, UnionMode};
 use geoarrow_layout::{ExtensionName, Kind};
 use std::alloc::{AllocError, Global};
@@ -17,8 +20,11 @@ use std::alloc::{AllocError, Global};
 /// What is looked for in a data type.
 #[derive(Clone, Copy)]
 pub(crate) enum Sought {
-    /// Coordinates and boxes of which that warning holds, in a geometry of that kind.
-    Coordinates(WarningCode, Kind),
+    /// Separated coordinates and boxes of whose fields' names that warning holds, in a geometry of
+    /// that kind.
+    Axes(WarningCode, Kind),
+    /// Numbers of coordinates and boxes of which that warning holds.
+    Numbers(WarningCode),
     /// Fields and unions.
     Inner(Inner),
 }
@@ -52,7 +58,7 @@ pub(crate) fn push_sought(
 
 /// Adds one of each part of the data type at the end of a way. A coordinate or a box has no other in it.
 #[cycle(walk)]
-fn push_found(
+pub(crate) fn push_found(
     alloc: Global,
     warnings: &mut Vec<Warning>,
     rest: &mut Rest,
@@ -66,39 +72,59 @@ fn push_found(
         DataType::List(item) | DataType::LargeList(item) => {
             push_at(alloc, warnings, rest, sought, way, item, item.is_nullable())
         }
-        DataType::FixedSizeList(item, _) => {
-            if let Sought::Coordinates(code, kind) = sought {
-                let holds = is_doubtful(code, kind, data_type);
-                let shown = Shown::Notation(data_type);
-                return tell_if(alloc, warnings, rest, code, way, shown, holds);
+        DataType::FixedSizeList(item, _) => match sought {
+            Sought::Axes(..) => Ok(()),
+            Sought::Numbers(code) => {
+                let found = TypeRef::Data(item.data_type());
+                tell_number(alloc, warnings, rest, code, way, item.name(), found)
             }
-            push_at(alloc, warnings, rest, sought, way, item, item.is_nullable())
-        }
-        DataType::Struct(fields) => {
-            if let Sought::Coordinates(code, kind) = sought {
-                let holds = is_doubtful(code, kind, data_type);
-                let shown = Shown::Notation(data_type);
-                return tell_if(alloc, warnings, rest, code, way, shown, holds);
+            Sought::Inner(_) => {
+                push_at(alloc, warnings, rest, sought, way, item, item.is_nullable())
             }
-            for field in fields.as_slice() {
-                push_at(
-                    alloc,
-                    warnings,
-                    rest,
-                    sought,
-                    way,
-                    field,
-                    field.is_nullable(),
-                )?;
+        },
+        DataType::Struct(fields) => match sought {
+            Sought::Axes(code, kind) => {
+                tell_axes(alloc, warnings, rest, code, kind, way, fields.as_slice())
             }
-            Ok(())
-        }
+            Sought::Numbers(code) => {
+                tell_numbers(alloc, warnings, rest, code, way, fields.as_slice())
+            }
+            Sought::Inner(_) => {
+                push_fields(alloc, warnings, rest, sought, way, fields.as_slice())
+            }
+        },
         DataType::Union(members, mode) => {
             tell_union(alloc, warnings, rest, sought, way, *mode)?;
             push_members(alloc, warnings, rest, sought, way, members.as_slice())
         }
         _ => Ok(()),
     }
+}
+
+/// Adds one of each part of the fields of a struct at the end of a way.
+#[cycle(walk)]
+fn push_fields(
+    alloc: Global,
+    warnings: &mut Vec<Warning>,
+    rest: &mut Rest,
+    sought: Sought,
+    way: &Way,
+    fields: &[Field],
+) -> Result<(), AllocError>
+    ensures { OnOk result (telling warnings.new.items rest.new ≡ tell_all (code_of sought) (telling warnings.old.items rest.old) (found_of sought (names_on way.now) (field_trees fields.now))) }
+{
+    for field in fields {
+        push_at(
+            alloc,
+            warnings,
+            rest,
+            sought,
+            way,
+            field,
+            field.is_nullable(),
+        )?;
+    }
+    Ok(())
 }
 
 /// Adds one of each part of the members of a union at the end of a way.
@@ -141,6 +167,72 @@ fn push_at(
     Ok(())
 }
 
+/// Tells of a separated coordinate or a box with these fields at the end of a way, if that warning
+/// holds of their names.
+fn tell_axes(
+    alloc: Global,
+    warnings: &mut Vec<Warning>,
+    rest: &mut Rest,
+    code: WarningCode,
+    kind: Kind,
+    way: &Way,
+    fields: &[Field],
+) -> Result<(), AllocError>
+    ensures { OnOk result (telling warnings.new.items rest.new ≡ tell_all code (telling warnings.old.items rest.old) (axis_spots code kind (names_on way.now) (names_of (field_trees fields.now)))) }
+{
+    let names = names_of(alloc, fields)?;
+    let holds = are_doubtful(code, kind, names.as_slice());
+    let shown = Shown::Listed(names.as_slice());
+    tell_if(alloc, warnings, rest, code, way, shown, holds)
+}
+
+/// The names of fields, in order.
+fn names_of<'a>(alloc: Global, fields: &'a [Field]) -> Result<Vec<&'a str>, AllocError>
+    ensures { IfOk result (λ names. map (λ name. name.now) names.items ≡ names_of (field_trees fields.now)) }
+{
+    let mut names = Vec::new(alloc);
+    for field in fields {
+        names.push(field.name())?;
+    }
+    Ok(names)
+}
+
+/// Tells of the numbers of a coordinate or a box at the end of a way of which that warning holds.
+fn tell_numbers(
+    alloc: Global,
+    warnings: &mut Vec<Warning>,
+    rest: &mut Rest,
+    code: WarningCode,
+    way: &Way,
+    fields: &[Field],
+) -> Result<(), AllocError>
+    ensures { OnOk result (telling warnings.new.items rest.new ≡ tell_all code (telling warnings.old.items rest.old) (number_spots code (names_on way.now) (field_trees fields.now))) }
+{
+    for field in fields {
+        let found = TypeRef::Data(field.data_type());
+        tell_number(alloc, warnings, rest, code, way, field.name(), found)?;
+    }
+    Ok(())
+}
+
+/// Tells of a number of that name and that type below the end of a way, if that warning holds of it.
+pub(crate) fn tell_number(
+    alloc: Global,
+    warnings: &mut Vec<Warning>,
+    rest: &mut Rest,
+    code: WarningCode,
+    way: &Way,
+    name: &str,
+    found: TypeRef<'_>,
+) -> Result<(), AllocError>
+    ensures { OnOk result (telling warnings.new.items rest.new ≡ tell_all code (telling warnings.old.items rest.old) (number_spot code (names_on way.now) name.now (ref_tree found.entry))) }
+{
+    let here = Way::Below(&*way, name);
+    let holds = is_doubtful_number(code, found);
+    let shown = Shown::Notation(found);
+    tell_if(alloc, warnings, rest, code, &here, shown, holds)
+}
+
 /// Tells of a field at the end of a way, if it is looked for.
 fn tell_own(
     alloc: Global,
@@ -154,7 +246,7 @@ fn tell_own(
     ensures { OnOk result (telling warnings.new.items rest.new ≡ tell_all (code_of sought) (telling warnings.old.items rest.old) (own_spots sought (names_on way.now) nullable field.now.metadata)) }
 {
     match sought {
-        Sought::Coordinates(..) => Ok(()),
+        Sought::Axes(..) | Sought::Numbers(_) => Ok(()),
         Sought::Inner(part) => {
             let holds = is_own(part, field, nullable);
             let shown = Shown::Word(own_word(part, field));
@@ -175,7 +267,7 @@ fn tell_union(
     ensures { OnOk result (telling warnings.new.items rest.new ≡ tell_all (code_of sought) (telling warnings.old.items rest.old) (union_spots sought (names_on way.now) mode)) }
 {
     match sought {
-        Sought::Coordinates(..) => Ok(()),
+        Sought::Axes(..) | Sought::Numbers(_) => Ok(()),
         Sought::Inner(part) => {
             let holds = is_own_union(part, mode);
             let shown = Shown::Word("sparse");
@@ -189,7 +281,7 @@ fn code_of(sought: Sought) -> WarningCode
     ensures { result ≡ code_of sought }
 {
     match sought {
-        Sought::Coordinates(code, _) => code,
+        Sought::Axes(code, _) | Sought::Numbers(code) => code,
         Sought::Inner(Inner::Extensions) => WarningCode::NestedGeometry,
         Sought::Inner(Inner::Nullables) => WarningCode::NullableInner,
         Sought::Inner(Inner::Unions) => WarningCode::UnionMode,

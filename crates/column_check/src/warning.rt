@@ -4,7 +4,7 @@ ghost use Rattle.arrow_values.specs.Texts.{text_of};
 ghost use Rattle.arrow_values.specs.View.{tree};
 ghost use Rattle.arrow_columns.specs.Column.{column_tree, type_tree};
 ghost use Rattle.column_check.specs.Said.{said};
-ghost use Rattle.column_check.specs.Warnings.{name_warnings, is_empty_text, text_warnings, coordinate_warnings, nullable_warnings, type_warnings, geometry_warnings, nested_warnings, AreWarnings};
+ghost use Rattle.column_check.specs.Warnings.{name_warnings, is_empty_text, text_warnings, axis_warnings, nullable_warnings, layout_warnings, type_warnings, geometry_metadata_warnings, nested_warnings, type_findings, metadata_findings, AreWarnings};
 ghost use Rattle.column_check.specs.WarningWords.{expected_at, help_at};
 
 use crate::code::WarningCode;
@@ -12,11 +12,12 @@ use crate::crs::push_crs;
 use crate::finding::{Finding, Geometry};
 use crate::key_case::push_keys;
 use crate::layout::{layout_text, storage_help};
+use crate::numbers::push_numbers;
 use crate::old_names::is_old_name;
-use crate::reasons::push_reasons;
+use crate::reasons::{push_metadata_reasons, push_type_reason};
 use crate::said::push_shown;
 use crate::walk::{Inner, Sought, push_sought};
-use arrow_columns::{AnyType, SchemaColumn};
+use arrow_columns::{AnyType, Outline, SchemaColumn, outline_of};
 use arrow_values::DataType;
 use geoarrow_layout::{ExtensionName, Kind};
 use std::alloc::{AllocError, Global};
@@ -30,7 +31,7 @@ pub struct Warning {
     pub path: Vec<String>,
     /// Where it is in the extension metadata, as a JSON pointer (RFC 6901); `None` where it is not of these.
     pub pointer: Option<String>,
-    /// What stands there: a type's notation, a word, or JSON without blanks; at most 120 characters of it, and
+    /// What stands there: a type's notation, a word, names, or JSON without blanks; at most 120 characters of it, and
     /// `..` behind them where there are more. `None` where the code alone says it.
     pub found: Option<String>,
     /// The extension name whose layout is wanted there, where one is.
@@ -63,11 +64,12 @@ impl Warning {
 }
 
 /// Returns what is found of a column of which that is said (`docs/FORMAT.md`, 2.6): in the order of
-/// `WarningCode`, so the reasons for which it is invalid before what is doubtful, which leaves what is
-/// said as it is; and under one code from left to right, a field before those below it; of one code at
-/// most sixteen, of which the last says how many more there are. Of the metadata text, of a CRS, of coordinates and of what they are in it speaks where
-/// the finding is of geometries; of the extension name and of fields below the column always. `notes` asks for the notes too.
-/// Errs only when out of memory.
+/// `WarningCode`, both the reasons for which it is invalid and what is doubtful, which leaves what is
+/// said as it is; and under one code from left to right, a field before those below it; of one code
+/// at most sixteen, of which the last says how many more there are. Of the metadata text, of a CRS, of
+/// coordinates and of what they are in it speaks where the finding is of geometries; of the extension
+/// name and of fields below the column always. `notes` asks for the notes too. Errs only when out of
+/// memory.
 ///
 /// ```rust
 /// let finding = inspect_column(alloc, &mut scratch, &column, false)?;
@@ -84,22 +86,47 @@ pub fn warnings(
     ensures { IfOk result (λ them. AreWarnings notes (column_tree column.now) finding.now them.items) }
 {
     let mut warnings = Vec::new(alloc);
-    if let Finding::Invalid(reasons) = finding {
-        push_reasons(alloc, &mut warnings, column, reasons)?;
-    }
-    push_name(alloc, &mut warnings, column.extension_type_name())?;
-    if let Some(geometry) = finding.geometry() {
-        push_geometry(alloc, &mut warnings, column, geometry, notes)?;
-    }
-    if let AnyType::Data(data_type) = &column.data_type {
-        push_sought(
-            alloc,
-            &mut warnings,
-            Sought::Inner(Inner::Extensions),
-            data_type,
-        )?;
-    }
+    push_of_type(alloc, &mut warnings, column, finding)?;
+    push_of_metadata(alloc, &mut warnings, column, finding, notes)?;
     Ok(warnings)
+}
+
+/// Adds what is found of a column's extension name and of its type.
+fn push_of_type(
+    alloc: Global,
+    warnings: &mut Vec<Warning>,
+    column: &SchemaColumn,
+    finding: &Finding,
+) -> Result<(), AllocError>
+    ensures { OnOk result (map said warnings.new.items ≡ map said warnings.old.items ++ type_findings (column_tree column.now) finding.now) }
+{
+    push_name(alloc, warnings, column.extension_type_name())?;
+    if let Finding::Invalid(reasons) = finding {
+        push_type_reason(alloc, warnings, column, reasons)?;
+    }
+    if let Some(geometry) = finding.geometry() {
+        push_type(alloc, warnings, geometry.kind, &column.data_type)?;
+    }
+    push_nested(alloc, warnings, &column.data_type)
+}
+
+/// Adds what is found of a column's metadata.
+fn push_of_metadata(
+    alloc: Global,
+    warnings: &mut Vec<Warning>,
+    column: &SchemaColumn,
+    finding: &Finding,
+    notes: bool,
+) -> Result<(), AllocError>
+    ensures { OnOk result (map said warnings.new.items ≡ map said warnings.old.items ++ metadata_findings notes (column_tree column.now) finding.now) }
+{
+    if let Finding::Invalid(reasons) = finding {
+        push_metadata_reasons(alloc, warnings, column, reasons)?;
+    }
+    if let Some(geometry) = finding.geometry() {
+        push_metadata(alloc, warnings, column, geometry, notes)?;
+    }
+    Ok(())
 }
 
 /// Adds what is doubtful of an extension name.
@@ -128,20 +155,19 @@ fn push_name(
     Ok(())
 }
 
-/// Adds what is doubtful of geometries.
-fn push_geometry(
+/// Adds what is doubtful of the metadata text of geometries and of their CRS.
+fn push_metadata(
     alloc: Global,
     warnings: &mut Vec<Warning>,
     column: &SchemaColumn,
     geometry: &Geometry,
     notes: bool,
 ) -> Result<(), AllocError>
-    ensures { OnOk result (map said warnings.new.items ≡ map said warnings.old.items ++ geometry_warnings notes (column_tree column.now) (Some geometry.now)) }
+    ensures { OnOk result (map said warnings.new.items ≡ map said warnings.old.items ++ geometry_metadata_warnings notes (column_tree column.now) (Some geometry.now)) }
 {
     push_text(alloc, warnings, column.extension_type_metadata())?;
     push_keys(alloc, warnings, column.extension_type_metadata())?;
-    push_crs(alloc, warnings, &geometry.metadata, notes)?;
-    push_type(alloc, warnings, geometry.kind, &column.data_type)
+    push_crs(alloc, warnings, &geometry.metadata, notes)
 }
 
 /// Adds what is doubtful of a type that is of a kind.
@@ -153,40 +179,45 @@ fn push_type(
 ) -> Result<(), AllocError>
     ensures { OnOk result (map said warnings.new.items ≡ map said warnings.old.items ++ type_warnings kind (type_tree column_type.now)) }
 {
-    let AnyType::Data(data_type) = column_type else {
-        return Ok(());
-    };
-    push_coordinates(
-        alloc,
-        warnings,
-        WarningCode::CoordinatesNotFloat,
-        kind,
-        data_type,
-    )?;
-    push_coordinates(
-        alloc,
-        warnings,
-        WarningCode::CoordinatesNotDouble,
-        kind,
-        data_type,
-    )?;
-    push_coordinates(alloc, warnings, WarningCode::AxisOrder, kind, data_type)?;
-    push_coordinates(alloc, warnings, WarningCode::AxisNames, kind, data_type)?;
+    let code = WarningCode::CoordinatesNotFloat;
+    push_numbers(alloc, warnings, code, column_type)?;
+    let code = WarningCode::CoordinatesNotDouble;
+    push_numbers(alloc, warnings, code, column_type)?;
+    match column_type {
+        AnyType::Data(data_type) => push_layout(alloc, warnings, kind, data_type),
+        AnyType::Other(_) => {
+            let outline = outline_of(alloc, Outline::Layout, column_type)?;
+            push_layout(alloc, warnings, kind, &outline)
+        }
+    }
+}
+
+/// Adds what is doubtful of the outline of a type that is of a kind, but for its numbers.
+fn push_layout(
+    alloc: Global,
+    warnings: &mut Vec<Warning>,
+    kind: Kind,
+    data_type: &DataType,
+) -> Result<(), AllocError>
+    ensures { OnOk result (map said warnings.new.items ≡ map said warnings.old.items ++ layout_warnings kind (tree data_type.now)) }
+{
+    push_axes(alloc, warnings, WarningCode::AxisOrder, kind, data_type)?;
+    push_axes(alloc, warnings, WarningCode::AxisNames, kind, data_type)?;
     push_nullables(alloc, warnings, kind, data_type)?;
     push_sought(alloc, warnings, Sought::Inner(Inner::Unions), data_type)
 }
 
-/// Adds what is doubtful of coordinates, by a code.
-fn push_coordinates(
+/// Adds what is doubtful of the names of the fields of coordinates, by a code.
+fn push_axes(
     alloc: Global,
     warnings: &mut Vec<Warning>,
     code: WarningCode,
     kind: Kind,
     data_type: &DataType,
 ) -> Result<(), AllocError>
-    ensures { OnOk result (map said warnings.new.items ≡ map said warnings.old.items ++ coordinate_warnings code kind (tree data_type.now)) }
+    ensures { OnOk result (map said warnings.new.items ≡ map said warnings.old.items ++ axis_warnings code kind (tree data_type.now)) }
 {
-    push_sought(alloc, warnings, Sought::Coordinates(code, kind), data_type)
+    push_sought(alloc, warnings, Sought::Axes(code, kind), data_type)
 }
 
 /// Adds the nullable fields below a geometry; of a box none.
@@ -201,6 +232,24 @@ fn push_nullables(
     match kind {
         Kind::Rect(_) => Ok(()),
         _ => push_sought(alloc, warnings, Sought::Inner(Inner::Nullables), data_type),
+    }
+}
+
+/// Adds the fields below a type that have one of the eleven extension names, or an old one.
+fn push_nested(
+    alloc: Global,
+    warnings: &mut Vec<Warning>,
+    column_type: &AnyType,
+) -> Result<(), AllocError>
+    ensures { OnOk result (map said warnings.new.items ≡ map said warnings.old.items ++ nested_warnings (type_tree column_type.now)) }
+{
+    let sought = Sought::Inner(Inner::Extensions);
+    match column_type {
+        AnyType::Data(data_type) => push_sought(alloc, warnings, sought, data_type),
+        AnyType::Other(_) => {
+            let fields = outline_of(alloc, Outline::Fields, column_type)?;
+            push_sought(alloc, warnings, sought, &fields)
+        }
     }
 }
 

@@ -5,9 +5,9 @@ ghost use Rattle.column_check.specs.Parts.{spot_at};
 ghost use Rattle.column_check.specs.Walk.{names_on, shown_text, spot_if, telling, tell, tell_all, told};
 
 use crate::code::WarningCode;
-use crate::excerpt::type_shown;
+use crate::excerpt::{names_shown, type_shown};
 use crate::warning::Warning;
-use arrow_values::DataType;
+use arrow_columns::TypeRef;
 use std::alloc::{AllocError, Global};
 
 /// The way from a column down to where a warning is.
@@ -22,10 +22,12 @@ pub(crate) enum Way<'a> {
 /// What is shown at the end of a way.
 #[derive(Clone, Copy)]
 pub(crate) enum Shown<'a> {
-    /// A data type, by its notation.
-    Notation(&'a DataType),
+    /// A type, by its notation.
+    Notation(TypeRef<'a>),
     /// A word.
     Word(&'a str),
+    /// Names, with commas between them.
+    Listed(&'a [&'a str]),
 }
 
 /// What a walk may still tell of one code.
@@ -127,8 +129,9 @@ fn text_of(alloc: Global, shown: Shown) -> Result<String, AllocError>
     ensures { IfOk result (λ text. string_bytes text ≡ shown_text shown.entry) }
 {
     match shown {
-        Shown::Notation(data_type) => type_shown(alloc, data_type),
+        Shown::Notation(column_type) => type_shown(alloc, column_type),
         Shown::Word(word) => String::from_str(alloc, word),
+        Shown::Listed(names) => names_shown(alloc, names),
     }
 }
 

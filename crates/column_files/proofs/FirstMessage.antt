@@ -1,20 +1,21 @@
 -- The first message of a stream is all that is read of it, and of another format all bytes.
-use Rattle.std.proofs.Common.{◌≡◌, ◌⊎◌, inl, inr, ℕ, ◌+◌, ◌-◌, ◌<◌, ◌≤◌, ◌==◌, Bool, true, false, ◌&&◌, nat_lt, nat_le, List, [], ◌∷◌, ◌++◌, length, take, drop, if◌then◌else◌, Option, Some, None, IfSome, Result, Ok, refl, sym, ap, ◌∙◌, subst, append-nil, append_assoc, arith}
+use Rattle.std.proofs.Common.{◌≡◌, ◌⊎◌, inl, inr, ℕ, zero, suc, ◌+◌, ◌-◌, ◌<◌, ◌≤◌, ◌==◌, Bool, true, false, ◌&&◌, nat_lt, nat_le, List, [], ◌∷◌, ◌++◌, length, take, drop, if◌then◌else◌, Option, Some, None, IfSome, Result, Ok, refl, sym, ap, ◌∙◌, subst, append-nil, append_assoc, arith}
 use Rattle.std.specs.Int.{w32, from_le_bytes}
 use Rattle.std.specs.Io.KnownBytes.{IsAtEnd}
-use Rattle.std.proofs.lemmas.Bool.{cases_lt, le-leb}
+use Rattle.std.proofs.Math.Dec.{eqb-suc-zero}
+use Rattle.std.proofs.lemmas.Bool.{cases_lt, le-leb, le-ltb, lt-ltb}
 use Rattle.std.proofs.lemmas.List.{length-append, length-drop, drop-append-le, take-append-le}
 use Rattle.arrow_ipc.specs.Fault.{breaks}
 use Rattle.arrow_ipc.specs.declared.fault.IpcFault.{IpcFault}
 use Rattle.arrow_ipc.specs.declared.fault.IpcRule.{IpcRule}
 use Rattle.arrow_ipc.specs.declared.fault.IpcRule.TheVariants.{Cut, EndOfStream}
-use Rattle.arrow_ipc.specs.Schema.{message_in, message_of, cut, schema_of_message}
+use Rattle.arrow_ipc.specs.Schema.{message_in, message_of, cut}
 use Rattle.arrow_ipc.specs.Wire.{integer_at}
-use Rattle.arrow_ipc.specs.Entries.{entries_of_message}
 use Rattle.column_files.specs.Forms.{IsForm}
-use Rattle.column_files.specs.Files.{size_in, IsSchemaRead, IsForeignRead, IsFileRead}
+use Rattle.column_files.specs.Endings.{size_in, is_marked_stream, message_begin, message_size, message_end}
+use Rattle.column_files.specs.Files.{counted_from, IsMessageBy, IsMessageRead, IsStreamBy, IsForeignRead, IsFileRead}
 use Rattle.column_files.specs.ForeignFound.{looked_at, found_by}
-use Rattle.column_files.specs.Reading.{GivesSchema, IsHead, ReadAs, message_end}
+use Rattle.column_files.specs.Reading.{GivesSchema, IsHead, ReadAs}
 use Rattle.line_reader.specs.Sources.{GivesUpTo}
 use Rattle.column_files.specs.declared.foreign.Foreign.{Foreign as Format}
 use Rattle.column_files.specs.declared.form.Form.{Form}
@@ -54,17 +55,18 @@ message_is a b c d e f g h rest =
     let second : nat_le 4 (length (e ∷ f ∷ g ∷ h ∷ rest)) ≡ true = le-leb 4 (length (e ∷ f ∷ g ∷ h ∷ rest)) (omega arith) in
     rw (first, second) refl
 
-same_message : (a b c d e f g h : ℕ) (more ys : List ℕ) → (length (begun a b c d e f g h more) < message_end (begun a b c d e f g h more) → ys ≡ [])
+either_end : (t : Bool) (one two : ℕ) → (if t then 8 + two else 4 + one) ≡ (if t then 8 else 4) + (if t then two else one)
+either_end true one two = refl
+either_end false one two = refl
+
+same_message : (a b c d e f g h : ℕ) (more ys : List ℕ) → message_end (begun a b c d e f g h more) ≤ length (begun a b c d e f g h more)
     → message_in (begun a b c d e f g h more) ≡ message_in (begun a b c d e f g h (more ++ ys))
-same_message a b c d e f g h more ys end =
+same_message a b c d e f g h more ys full =
     let bytes = begun a b c d e f g h more in
     let one = from_le_bytes w32 (a ∷ b ∷ c ∷ d ∷ []) in
     let two = from_le_bytes w32 (e ∷ f ∷ g ∷ h ∷ []) in
-    elim (cases_lt (length bytes) (message_end bytes)) [
-      | inl short ↦ ap (λ l. message_in (begun a b c d e f g h l)) (sym (ap (λ l. more ++ l) (end short) ∙ append-nil more))
-      | inr full ↦
-          message_is a b c d e f g h more ∙ either_is (one == 0xffff_ffff) bytes ys one two full ∙ sym (message_is a b c d e f g h (more ++ ys))
-    ]
+    let fits = subst (λ n. n ≤ length bytes) (sym (either_end (one == 0xffff_ffff) one two)) full in
+    message_is a b c d e f g h more ∙ either_is (one == 0xffff_ffff) bytes ys one two fits ∙ sym (message_is a b c d e f g h (more ++ ys))
 
 -- the first four of bytes that are as many
 abbrev HasFour : List ℕ → Type 0
@@ -82,8 +84,21 @@ four_of (a ∷ b ∷ c ∷ d ∷ rest) long = (a, b, c, d, rest, refl)
 same_bytes : (form : Form) (bytes all : List ℕ) → bytes ≡ all → ReadAs form bytes all
 same_bytes form bytes all same = λ r. (λ is. subst (λ l. IsFileRead form l r) same is, λ is. subst (λ l. IsFileRead form l r) (sym same) is)
 
-same_found : (bytes all : List ℕ) → message_in bytes ≡ message_in all → ReadAs ArrowStream bytes all
-same_found bytes all same = λ r. (λ is. subst (λ f. IsSchemaRead f (schema_of_message 61) entries_of_message r) same is, λ is. subst (λ f. IsSchemaRead f (schema_of_message 61) entries_of_message r) (sym same) is)
+same_stream : (bytes all : List ℕ) → message_end bytes ≤ length bytes → message_end all ≤ length all → message_begin bytes ≡ message_begin all
+    → message_in bytes ≡ message_in all → ReadAs ArrowStream bytes all
+same_stream bytes all full whole begins same =
+    let one : nat_lt (length bytes) (message_end bytes) ≡ false = le-ltb (length bytes) (message_end bytes) full in
+    let other : nat_lt (length all) (message_end all) ≡ false = le-ltb (length all) (message_end all) whole in
+    λ r. (
+      λ is.
+          let read : IsMessageRead bytes r = subst (λ t. IsStreamBy t bytes r) one is in
+          let as_all : IsMessageRead all r = subst (λ m. IsMessageBy (message_begin all) m r) same (subst (λ n. IsMessageBy n (message_in bytes) r) begins read) in
+          subst (λ t. IsStreamBy t all r) (sym other) as_all,
+      λ is.
+          let read : IsMessageRead all r = subst (λ t. IsStreamBy t all r) other is in
+          let as_bytes : IsMessageRead bytes r = subst (λ m. IsMessageBy (message_begin bytes) m r) (sym same) (subst (λ n. IsMessageBy n (message_in all) r) (sym begins) read) in
+          subst (λ t. IsStreamBy t bytes r) (sym one) as_bytes,
+    )
 
 same_foreign : (foreign : Format) (bytes all : List ℕ) → take (looked_at foreign) bytes ≡ take (looked_at foreign) all → ReadAs (Foreign foreign) bytes all
 same_foreign foreign bytes all same = λ r. (
@@ -105,11 +120,17 @@ of_begun : (a b c d e f g h : ℕ) (first more ys : List ℕ)
     → GivesUpTo (message_end (begun a b c d e f g h first) - length (begun a b c d e f g h first)) (Some (more ++ ys)) (Some ys) more
     → ReadAs ArrowStream (begun a b c d e f g h (first ++ more)) (begun a b c d e f g h (first ++ (more ++ ys)))
 of_begun a b c d e f g h first more ys given =
-    let whole = begun a b c d e f g h (first ++ more) in
-    let end : length whole < message_end whole → ys ≡ [] = λ short. given.2 (omega (arith, short, length-append first more)) in
-    let same : message_in whole ≡ message_in (begun a b c d e f g h (first ++ (more ++ ys))) =
-    same_message a b c d e f g h (first ++ more) ys end ∙ ap (λ l. message_in (begun a b c d e f g h l)) (append_assoc first more ys) in
-    same_found whole (begun a b c d e f g h (first ++ (more ++ ys))) same
+    let bytes = begun a b c d e f g h (first ++ more) in
+    let all = begun a b c d e f g h (first ++ (more ++ ys)) in
+    let parts : begun a b c d e f g h ((first ++ more) ++ ys) ≡ all = ap (λ l. begun a b c d e f g h l) (append_assoc first more ys) in
+    elim (cases_lt (length bytes) (message_end bytes)) [
+      | inl short ↦
+          let none : ys ≡ [] = given.2 (omega (arith, short, length-append first more)) in
+          same_bytes ArrowStream bytes all (ap (λ l. begun a b c d e f g h (first ++ l)) (sym (ap (λ l. more ++ l) none ∙ append-nil more)))
+      | inr full ↦
+          let longer : length bytes ≤ length all = omega (arith, ap length parts, length-append (first ++ more) ys) in
+          same_stream bytes all full (omega (arith, full, longer)) refl (same_message a b c d e f g h (first ++ more) ys full ∙ ap (λ l. message_in l) parts)
+    ]
 
 of_stream : (head more ys : List ℕ) → 8 ≤ length head → GivesUpTo (message_end head - length head) (Some (more ++ ys)) (Some ys) more
     → ReadAs ArrowStream (head ++ more) (head ++ (more ++ ys))
@@ -178,3 +199,49 @@ by_rest form head bytes old new n form_is small (more, is, given) =
         | inr (inr lines) ↦ subst (λ f. GivesSchema f head old new more) (sym lines) (given.0, end)
       ],
     )
+
+-- ---- where the message begins that stands there
+
+counted_by : (begin start size : ℕ) (bytes : List ℕ) → start + size ≤ length bytes → counted_from begin (message_of bytes start size) ≡ (if size == 0 then 0 else begin)
+unfolding cut
+counted_by begin start zero bytes fits = refl
+counted_by begin start (suc n) bytes fits =
+    let some : nat_lt 0 (suc n) ≡ true = lt-ltb 0 (suc n) (omega arith) in
+    let other : (suc n == 0) ≡ false = eqb-suc-zero n in
+    let whole : nat_le (start + suc n) (length bytes) ≡ true = le-leb (start + suc n) (length bytes) fits in
+    rw (some, whole, other) refl
+
+message_small : (a b c d : ℕ) (rest : List ℕ) → is_marked_stream (a ∷ b ∷ c ∷ d ∷ rest) ≡ false
+    → message_in (a ∷ b ∷ c ∷ d ∷ rest) ≡ message_of (a ∷ b ∷ c ∷ d ∷ rest) 4 (size_in (a ∷ b ∷ c ∷ d ∷ rest))
+unfolding message_in integer_at
+message_small a b c d rest is =
+    let four : nat_le 4 (length (a ∷ b ∷ c ∷ d ∷ rest)) ≡ true = le-leb 4 (length (a ∷ b ∷ c ∷ d ∷ rest)) (omega arith) in
+    rw (four, is) refl
+
+message_large : (a b c d e f g h : ℕ) (rest : List ℕ) → is_marked_stream (a ∷ b ∷ c ∷ d ∷ rest) ≡ true
+    → message_in (begun a b c d e f g h rest) ≡ message_of (begun a b c d e f g h rest) 8 (size_in (e ∷ f ∷ g ∷ h ∷ rest))
+message_large a b c d e f g h rest is = message_is a b c d e f g h rest ∙ rw is refl
+
+-- of a stream that is not cut off
+abbrev Counted : List ℕ → Type 0
+Counted bytes = message_end bytes ≤ length bytes → counted_from (message_begin bytes) (message_in bytes) ≡ (if message_size bytes == 0 then 0 else message_begin bytes)
+
+counted_four : (a b c d : ℕ) (rest : List ℕ) (t : Bool) → is_marked_stream (a ∷ b ∷ c ∷ d ∷ rest) ≡ t → Counted (a ∷ b ∷ c ∷ d ∷ rest)
+counted_four a b c d rest false is fits =
+    let bytes = a ∷ b ∷ c ∷ d ∷ rest in
+    let small : 4 + size_in bytes ≤ length bytes = rw is at fits in
+    rw is (ap (counted_from 4) (message_small a b c d rest is) ∙ counted_by 4 4 (size_in bytes) bytes small)
+counted_four a b c d rest true is fits =
+    let bytes = a ∷ b ∷ c ∷ d ∷ rest in
+    let small : 8 + size_in rest ≤ length bytes = rw is at fits in
+    let (e, f, g, h, behind, rest_is) = four_of rest (omega (arith, small)) in
+    let whole : message_in bytes ≡ message_of bytes 8 (size_in rest) =
+    subst (λ l. message_in (a ∷ b ∷ c ∷ d ∷ l) ≡ message_of (a ∷ b ∷ c ∷ d ∷ l) 8 (size_in l)) (sym rest_is) (message_large a b c d e f g h behind is) in
+    rw is (ap (counted_from 8) whole ∙ counted_by 8 8 (size_in rest) bytes small)
+
+pub counted : (bytes : List ℕ) → Counted bytes
+counted [] fits = absurd (omega (arith, fits))
+counted (a ∷ []) fits = absurd (omega (arith, fits))
+counted (a ∷ b ∷ []) fits = absurd (omega (arith, fits))
+counted (a ∷ b ∷ c ∷ []) fits = absurd (omega (arith, fits))
+counted (a ∷ b ∷ c ∷ d ∷ rest) fits = counted_four a b c d rest (is_marked_stream (a ∷ b ∷ c ∷ d ∷ rest)) refl fits

@@ -1,24 +1,25 @@
--- The footer of an Arrow file is found by the file's end alone.
-use Rattle.std.proofs.Common.{◌≡◌, ◌⊎◌, inl, inr, ℕ, ◌+◌, ◌-◌, ◌^◌, ◌<◌, ◌≤◌, min, Bool, true, false, ◌&&◌, nat_lt, nat_le, List, [], ◌∷◌, ◌++◌, length, take, drop, map, get_or, if◌then◌else◌, Result, Ok, Err, refl, sym, ap, ◌∙◌, subst, codes, arith}
+-- The footer of a file is found by the file's end alone.
+use Rattle.std.proofs.Common.{◌≡◌, ◌⊎◌, inl, inr, ℕ, ◌+◌, ◌-◌, ◌^◌, ◌<◌, ◌≤◌, Bool, true, false, true≢false, ◌&&◌, ◌||◌, ◌==◌, nat_lt, nat_le, List, [], ◌∷◌, ◌++◌, length, take, drop, if◌then◌else◌, Result, Ok, Err, refl, sym, ap, ◌∙◌, subst, codes, arith}
 use Rattle.std.specs.Int.{w32, from_le_bytes}
 use Rattle.std.specs.Str.{bytes_eq}
 use Rattle.std.proofs.Math.Seq.{drop-append-add, take-append-add}
-use Rattle.std.proofs.lemmas.Bool.{cases_lt, le-leb, lt-leb, le-ltb, lt-ltb}
+use Rattle.std.proofs.lemmas.Bool.{cases_lt, le-leb, lt-leb, le-ltb, lt-ltb, leb-true, and_parts}
 use Rattle.std.proofs.lemmas.List.{length-append, length-drop, length-take-le, nil_from_length}
 use Rattle.arrow_ipc.specs.Fault.{breaks}
-use Rattle.arrow_ipc.specs.Schema.{SchemaTree, Meets, footer_in, size_before_magic, cut, schema_of_footer}
-use Rattle.arrow_ipc.specs.declared.fault.IpcFault.{IpcFault}
-use Rattle.arrow_ipc.specs.declared.fault.IpcError.{IpcError}
-use Rattle.arrow_ipc.specs.declared.fault.IpcError.TheVariants.{Broken, Budget, OutOfMemory}
-use Rattle.arrow_ipc.specs.declared.fault.IpcRule.TheVariants.{Magic, FooterSize}
-use Rattle.arrow_ipc.specs.declared.schema.Schema.{Schema}
-use Rattle.arrow_columns.specs.Column.{ColumnTree, column_tree}
+use Rattle.arrow_ipc.specs.Schema.{footer_in, size_before_magic, cut, schema_of_footer}
 use Rattle.arrow_ipc.specs.Entries.{entries_of_footer}
-use Rattle.parquet_columns.specs.Findings.{Finding, finding}
-use Rattle.column_files.specs.Files.{size_in, HasFooter, AreRepeated, IsFooterRead, further, footer_begin}
+use Rattle.arrow_ipc.specs.declared.fault.IpcFault.{IpcFault}
+use Rattle.arrow_ipc.specs.declared.fault.IpcRule.TheVariants.{Magic, FooterSize}
+use Rattle.parquet_footer.specs.Tail.{length_at}
+use Rattle.parquet_footer.specs.declared.fault.FooterError.{FooterError}
+use Rattle.parquet_columns.specs.Reads as parquet
+use Rattle.parquet_columns.specs.Reads.{footer_before}
+use Rattle.column_files.specs.Endings.{End, size_in, last, file_size, cut as cut_end, is_size, sized as sized_size, wrong_size, most, is_arrow_end, arrow_footer_size, parquet_footer_size}
+use Rattle.column_files.specs.Files.{HasFooter, IsSchemaRead, IsArrowBy, IsArrowRead, IsFooterRead, IsParquetBy, IsParquetRead, footer_begin}
 use Rattle.column_files.specs.declared.columns.FileFault.{FileFault}
-use Rattle.column_files.specs.declared.columns.FileFault.TheVariants.{NoField, Empty, Foreign, ReportTooLarge, Ipc, Parquet, OutOfMemory as OutOfMemoryFault}
+use Rattle.column_files.specs.declared.ending.Ending.TheVariants.{Arrow, Parquet}
 use Rattle.column_files.specs.declared.opening.File.{File}
+use Rattle.column_files.proofs.Endings.{same_size, same_last, same_arrow, same_parquet, told_by}
 
 -- ---- what is found
 
@@ -34,24 +35,6 @@ told (a ∷ b ∷ c ∷ d ∷ magic) = by_magic (bytes_eq magic (codes "ARROW1")
         → ((at : ℕ) → size_before_magic at (a ∷ b ∷ c ∷ d ∷ magic) ≡ Ok (size_in (a ∷ b ∷ c ∷ d ∷ magic))) ⊎ ((at : ℕ) → size_before_magic at (a ∷ b ∷ c ∷ d ∷ magic) ≡ breaks Magic at)
     by_magic true is = inl (λ at. rw is refl)
     by_magic false is = inr (λ at. rw is refl)
-
--- ten bytes of which the last six are the magic tell a size
-abbrev pub HasMagic : List ℕ → Type 0
-HasMagic t = (get_or t 4 0 ≡ 65) × (get_or t 5 0 ≡ 82) × (get_or t 6 0 ≡ 82) × (get_or t 7 0 ≡ 79) × (get_or t 8 0 ≡ 87) × (get_or t 9 0 ≡ 49)
-
-pub tells : (t : List ℕ) (at : ℕ) → length t ≡ 10 → HasMagic t → size_before_magic at t ≡ Ok (from_le_bytes w32 (get_or t 0 0 ∷ get_or t 1 0 ∷ get_or t 2 0 ∷ get_or t 3 0 ∷ []))
-tells [] at len is = absurd (omega (arith, len))
-tells (a ∷ []) at len is = absurd (omega (arith, len))
-tells (a ∷ b ∷ []) at len is = absurd (omega (arith, len))
-tells (a ∷ b ∷ c ∷ []) at len is = absurd (omega (arith, len))
-tells (a ∷ b ∷ c ∷ d ∷ []) at len is = absurd (omega (arith, len))
-tells (a ∷ b ∷ c ∷ d ∷ e ∷ []) at len is = absurd (omega (arith, len))
-tells (a ∷ b ∷ c ∷ d ∷ e ∷ f ∷ []) at len is = absurd (omega (arith, len))
-tells (a ∷ b ∷ c ∷ d ∷ e ∷ f ∷ g ∷ []) at len is = absurd (omega (arith, len))
-tells (a ∷ b ∷ c ∷ d ∷ e ∷ f ∷ g ∷ h ∷ []) at len is = absurd (omega (arith, len))
-tells (a ∷ b ∷ c ∷ d ∷ e ∷ f ∷ g ∷ h ∷ i ∷ []) at len is = absurd (omega (arith, len))
-tells (a ∷ b ∷ c ∷ d ∷ e ∷ f ∷ g ∷ h ∷ i ∷ j ∷ []) at len (is4, is5, is6, is7, is8, is9) = rw (is4, is5, is6, is7, is8, is9) refl
-tells (a ∷ b ∷ c ∷ d ∷ e ∷ f ∷ g ∷ h ∷ i ∷ j ∷ k ∷ rest) at len is = absurd (omega (arith, len))
 
 module _ (bytes : List ℕ) (n : ℕ) (len : length bytes ≡ n + 10) where
   long : nat_lt (length bytes) 10 ≡ false
@@ -81,45 +64,6 @@ module _ (bytes : List ℕ) (n : ℕ) (len : length bytes ≡ n + 10) where
       and_true : (t : Bool) (footer : List ℕ) (at : ℕ) → (if t && true then Ok footer else breaks FooterSize at) ≡ (if t then Ok footer else breaks FooterSize at)
       and_true true footer at = refl
       and_true false footer at = refl
-
--- a footer that is found has ten bytes behind it
-not_ok : (fault : IpcFault) (footer : List ℕ) → Err fault ≡ Ok footer → ⊥
-not_ok fault footer is = cc
-
-too_short : (bytes : List ℕ) → length bytes < 10 → footer_in bytes ≡ breaks Magic 0
-unfolding footer_in
-too_short bytes short =
-    let is : nat_lt (length bytes) 10 ≡ true = lt-ltb (length bytes) 10 short in
-    rw is refl
-
-cut_fits : (bytes footer : List ℕ) (n size at : ℕ) (t : Bool) → length bytes ≡ n + 10 → size ≤ n
-    → (if t then Ok (take size (drop (n - size) (take n bytes))) else breaks FooterSize at) ≡ Ok footer → 10 + length footer ≤ length bytes
-cut_fits bytes footer n size at true len fits is =
-    let front : length (take n bytes) ≡ n = length-take-le n bytes (omega (arith, len)) in
-    let rest = length-drop (n - size) (take n bytes) in
-    let cut_len : length (take size (drop (n - size) (take n bytes))) ≡ size = length-take-le size (drop (n - size) (take n bytes)) (omega (arith, front, rest, fits)) in
-    let same : take size (drop (n - size) (take n bytes)) ≡ footer = cc in
-    omega (arith, cut_len, ap length same, fits, len)
-cut_fits bytes footer n size at false len fits is = absurd (not_ok _ footer is)
-
-footer_by : (bytes footer : List ℕ) (n : ℕ) → length bytes ≡ n + 10 → footer_in bytes ≡ Ok footer → 10 + length footer ≤ length bytes
-footer_by bytes footer n len found =
-    let size = size_in (drop n bytes) in
-    elim (told (drop n bytes)) [
-      | inr wrong ↦ absurd (not_ok _ footer (sym (no_magic bytes n len (wrong n)) ∙ found))
-      | inl tells ↦
-          elim (cases_lt n size) [
-            | inl great ↦ absurd (not_ok _ footer (sym (too_great bytes n len size (tells n) great) ∙ found))
-            | inr fits ↦ cut_fits bytes footer n size (n - size) (nat_lt 0 size) len fits (sym (sized bytes n len size (tells n) fits) ∙ found)
-          ]
-    ]
-
-footer_fits : (bytes footer : List ℕ) → footer_in bytes ≡ Ok footer → 10 + length footer ≤ length bytes
-footer_fits bytes footer found =
-    elim (cases_lt (length bytes) 10) [
-      | inl short ↦ absurd (not_ok _ footer (sym (too_short bytes short) ∙ found))
-      | inr enough ↦ footer_by bytes footer (length bytes - 10) (omega (arith, enough)) found
-    ]
 
 -- ---- what is found in the whole file is what is found in its end, as much further on
 
@@ -155,92 +99,96 @@ module _ (front end : List ℕ) (n : ℕ) (len : length end ≡ n + 10) where
             ∙ ap (moved (length front)) (sym (sized end n len size (tells n) fits))
       ]
 
--- ---- what is read of the end is what is read of the whole file
+-- ---- a size that is told at the end of an Arrow file is that of a footer
 
-abbrev Reads : Type 0
-Reads = List ℕ → Result (SchemaTree × ℕ) IpcFault
+magic_told : (tail : List ℕ) (at : ℕ) → bytes_eq (drop 4 tail) (codes "ARROW1") ≡ true → size_before_magic at tail ≡ Ok (size_in tail)
+magic_told [] at is = absurd (true≢false (sym is))
+magic_told (a ∷ []) at is = absurd (true≢false (sym is))
+magic_told (a ∷ b ∷ []) at is = absurd (true≢false (sym is))
+magic_told (a ∷ b ∷ c ∷ []) at is = absurd (true≢false (sym is))
+magic_told (a ∷ b ∷ c ∷ d ∷ magic) at is = rw is refl
 
-of_columns : (by : ℕ) (found : Result (List ℕ) IpcFault) (read : Reads) (s : Schema) → Meets found read (Ok s) → Meets (moved by found) read (Ok s)
-of_columns by (Ok footer) read s is = is
-of_columns by (Err fault) read s is = absurd (other fault s is)
+ok_if : (t : Bool) (x : Result ℕ End) (e : End) (told : ℕ) → (if t then x else Err e) ≡ Ok told → (t ≡ true) × (x ≡ Ok told)
+ok_if true x e told is = (refl, is)
+ok_if false x e told is = absurd (not_told e told is)
   where
-    other : (fault : IpcFault) (s : Schema) → Ok s ≡ Err (Broken fault) → ⊥
-    other fault s is = cc
+    not_told : (e : End) (told : ℕ) → Err e ≡ Ok told → ⊥
+    not_told e told is = cc
 
-of_entries : (by : ℕ) (found : Result (List ℕ) IpcFault) (s : Schema) → Meets found (schema_of_footer 61) (Ok s) → (cs : List ColumnTree) (fs : List Finding)
-    → AreRepeated found entries_of_footer cs fs → AreRepeated (moved by found) entries_of_footer cs fs
-of_entries by (Ok footer) s meets cs fs is = is
-of_entries by (Err fault) s meets cs fs is = absurd (other fault s meets)
+arrow_found : (size : ℕ) (end : List ℕ) (told n : ℕ) → arrow_footer_size size end ≡ Ok told → moved n (footer_in end) ≡ footer_in end
+arrow_found size end told n is =
+    let s = size_in (last 10 end) in
+    let at = length end - 10 in
+    let (is_end, is_told) = ok_if (is_arrow_end end) (sized_size Arrow size end s) (cut_end Arrow size end) told is in
+    let ends = and_parts (nat_le 10 (length end)) (bytes_eq (drop 4 (last 10 end)) (codes "ARROW1")) is_end in
+    let ten : 10 ≤ length end = leb-true 10 (length end) ends.0 in
+    let is_one = ok_if (is_size Arrow size end s) (Ok s) (wrong_size Arrow size s) told is_told in
+    let parts = and_parts (nat_lt 0 s && nat_le s (most Arrow size)) (nat_le s at) is_one.0 in
+    let some : nat_lt 0 s ≡ true = (and_parts (nat_lt 0 s) (nat_le s (most Arrow size)) parts.0).0 in
+    let fits : s ≤ at = leb-true s at parts.1 in
+    let footer = take s (drop (at - s) (take at end)) in
+    let found : footer_in end ≡ Ok footer =
+    sized end at (omega (arith, ten)) s (magic_told (last 10 end) at ends.1) fits ∙ ap (λ t. if t then Ok footer else breaks FooterSize (at - s)) some in
+    subst (λ f. moved n f ≡ f) (sym found) refl
+
+-- what is read of the end of an Arrow file is what is read of the whole
+pub of_arrow : (start : ℕ) (end : List ℕ) (r : Result File FileFault) → IsArrowRead (file_size start end) end r
+    → (front : List ℕ) → length front ≡ start → HasFooter 10 start end → IsArrowRead (file_size 0 (front ++ end)) (front ++ end) r
+of_arrow start end r is front len (inl fits) =
+    let size = file_size (length front) end in
+    let all : IsArrowRead size end r = subst (λ n. IsArrowRead (file_size n end) end r) (sym len) is in
+    let by : IsArrowBy size end (arrow_footer_size size end) r = all in
+    let other = by_size (arrow_footer_size size end) refl by in
+    subst (λ n. IsArrowRead n (front ++ end) r) (sym (same_size front end)) (subst (λ x. IsArrowBy size (front ++ end) x r) (sym (same_arrow size front end fits)) other)
   where
-    other : (fault : IpcFault) (s : Schema) → Ok s ≡ Err (Broken fault) → ⊥
-    other fault s is = cc
-
--- how the whole file is refused
-abbrev Refuses : List ℕ → Result (List ℕ) IpcFault → IpcError → Type 0
-Refuses bytes found error = (inner : IpcError) × Meets found (schema_of_footer 61) (Err inner) × (error ≡ further (0 + footer_begin bytes found) inner)
-
-of_refusal : (front end : List ℕ) (found : Result (List ℕ) IpcFault) → footer_in end ≡ found → (error inner : IpcError) → Meets found (schema_of_footer 61) (Err inner)
-    → error ≡ further (length front + footer_begin end found) inner → Refuses (front ++ end) (moved (length front) found) error
-of_refusal front end (Ok footer) is error inner meets refused =
-    let begins : length front + (length end - 10 - length footer) ≡ 0 + (length (front ++ end) - 10 - length footer) = omega (arith, footer_fits end footer is, length-append front end) in
-    (inner, meets, refused ∙ ap (λ n. further n inner) begins)
-of_refusal front end (Err fault) is error inner meets refused =
-    let same : inner ≡ Broken fault = cc in
-    let place : min (length front + 0 + fault.at) (2 ^ 64 - 1) ≡ min (0 + 0 + (length front + fault.at)) (2 ^ 64 - 1) = ap (λ n. min n (2 ^ 64 - 1)) (omega arith) in (
-      Broken (record { rule = fault.rule; at = length front + fault.at }),
-      refl,
-      refused ∙ ap (further (length front + 0)) same ∙ ap (λ at. Broken (record { rule = fault.rule; at = at })) place,
-    )
-
-of_whole : (front end : List ℕ) → 10 + size_in (drop (length end - 10) end) ≤ length end → (r : Result File FileFault)
-    → IsFooterRead (length front) end r → IsFooterRead 0 (front ++ end) r
-of_whole front end fits r is = by_result r is
-  where
-    n : ℕ
-    n = length end - 10
-
-    found : footer_in (front ++ end) ≡ moved (length front) (footer_in end)
-    found = same_found front end n (omega (arith, fits)) (omega (arith, fits))
-
-    by_result : (r : Result File FileFault) → IsFooterRead (length front) end r → IsFooterRead 0 (front ++ end) r
-    by_result (Ok file) (s, meets, is, repeated) =
-        let whole = of_entries (length front) (footer_in end) s meets (map column_tree file.columns.items) (map finding file.findings.items) repeated in (
-          s,
-          subst (λ f. Meets f (schema_of_footer 61) (Ok s)) (sym found) (of_columns (length front) (footer_in end) (schema_of_footer 61) s meets),
-          is,
-          subst (λ f. AreRepeated f entries_of_footer (map column_tree file.columns.items) (map finding file.findings.items)) (sym found) whole,
-        )
-    by_result (Err (Ipc error)) (inner, meets, is) =
-        subst (λ f. Refuses (front ++ end) f error) (sym found) (of_refusal front end (footer_in end) refl error inner meets is)
-    by_result (Err (NoField k fault)) is = absurd is
-    by_result (Err Empty) is = absurd is
-    by_result (Err (Foreign foreign found)) is = absurd is
-    by_result (Err ReportTooLarge) is = absurd is
-    by_result (Err (Parquet error)) is = absurd is
-    by_result (Err OutOfMemoryFault) is = tt
-
-pub of_end : (start : ℕ) (end : List ℕ) (r : Result File FileFault) → IsFooterRead start end r
-    → (front : List ℕ) → length front ≡ start → HasFooter 10 start end → IsFooterRead 0 (front ++ end) r
-of_end start end r is front len (inl fits) = of_whole front end fits r (subst (λ n. IsFooterRead n end r) (sym len) is)
-of_end start end r is front len (inr none) =
+    by_size : (x : Result ℕ End) → arrow_footer_size (file_size (length front) end) end ≡ x → IsArrowBy (file_size (length front) end) end x r → IsArrowBy (file_size (length front) end) (front ++ end) x r
+    by_size (Ok told) same by =
+        let found : footer_in (front ++ end) ≡ footer_in end =
+        same_found front end (length end - 10) (omega (arith, fits)) (omega (arith, fits)) ∙ arrow_found (file_size (length front) end) end told (length front) same in
+        subst (λ f. IsSchemaRead (footer_begin Arrow (file_size (length front) end) told) f (schema_of_footer 61) entries_of_footer r) (sym found) by
+    by_size (Err e) same by = by
+of_arrow start end r is front len (inr none) =
     let empty : front ≡ [] = nil_from_length front (len ∙ none) in
-    subst (λ f. IsFooterRead 0 (f ++ end) r) (sym empty) (subst (λ n. IsFooterRead n end r) none is)
+    subst (λ f. IsArrowRead (file_size 0 (f ++ end)) (f ++ end) r) (sym empty) (subst (λ n. IsArrowRead (file_size n end) end r) none is)
 
--- places that stop at the greatest `usize` stop alike where they were stopped before
-pub further_stops : (n : ℕ) (error : IpcError) → further (min n (2 ^ 64 - 1)) error ≡ further n error
-further_stops n (Broken fault) =
-    let place : min (min n (2 ^ 64 - 1) + fault.at) (2 ^ 64 - 1) ≡ min (n + fault.at) (2 ^ 64 - 1) = omega arith in
-    ap (λ at. Broken (record { rule = fault.rule; at = at })) place
-further_stops n (Budget at) = ap Budget (omega arith)
-further_stops n OutOfMemory = refl
+-- ---- the footer of a Parquet file
 
--- where a footer begins that is found
-pub cut_begin : (bytes : List ℕ) (n size : ℕ) → length bytes ≡ n + 10 → 0 < size → size ≤ n → size_before_magic n (drop n bytes) ≡ Ok size → n - size ≡ footer_begin bytes (footer_in bytes)
-cut_begin bytes n size len some fits told =
-    let test : nat_lt 0 size ≡ true = lt-ltb 0 size some in
-    let footer = take size (drop (n - size) (take n bytes)) in
-    let found : footer_in bytes ≡ Ok footer = sized bytes n len size told fits ∙ ap (λ t. if t then Ok footer else breaks FooterSize (n - size)) test in
-    let front : length (take n bytes) ≡ n = length-take-le n bytes (omega (arith, len)) in
-    let cut_len : length footer ≡ size = length-take-le size (drop (n - size) (take n bytes)) (omega (arith, front, length-drop (n - size) (take n bytes), fits)) in
-    let begins : footer_begin bytes (footer_in bytes) ≡ length bytes - 10 - length footer = ap (footer_begin bytes) found in
-    omega (arith, begins, cut_len, len)
+same_before : (front xs : List ℕ) (r : Result ℕ FooterError) → ((told : ℕ) → r ≡ Ok told → told ≤ length xs) → footer_before (front ++ xs) r ≡ footer_before xs r
+same_before front xs (Err error) small = refl
+same_before front xs (Ok told) small =
+    let fits : told ≤ length xs = small told refl in
+    let one : nat_lt (length xs) told ≡ false = le-ltb (length xs) told fits in
+    let other : nat_lt (length (front ++ xs)) told ≡ false = le-ltb (length (front ++ xs)) told (omega (arith, fits, length-append front xs)) in
+    let place : length (front ++ xs) - told ≡ length front + (length xs - told) = omega (arith, fits, length-append front xs) in
+    let same : drop (length (front ++ xs) - told) (front ++ xs) ≡ drop (length xs - told) xs =
+    ap (λ k. drop k (front ++ xs)) place ∙ drop-append-add front xs (length xs - told) in
+    rw (one, other, same) refl
+
+same_footer : (front end : List ℕ) → 8 + size_in (last 8 end) ≤ length end → parquet.footer_in (front ++ end) ≡ parquet.footer_in end
+unfolding parquet.footer_in
+same_footer front end fits =
+    let n = length end - 8 in
+    let eight : 8 ≤ length end = omega (arith, fits) in
+    let one : nat_lt (length end) 8 ≡ false = le-ltb (length end) 8 eight in
+    let other : nat_lt (length (front ++ end)) 8 ≡ false = le-ltb (length (front ++ end)) 8 (omega (arith, eight, length-append front end)) in
+    let tail = same_last 8 front end eight in
+    let place : length (front ++ end) - 8 ≡ length front + n = omega (arith, eight, length-append front end) in
+    let before : take (length (front ++ end) - 8) (front ++ end) ≡ front ++ take n end = ap (λ k. take k (front ++ end)) place ∙ take-append-add front end n in
+    let len : length (take n end) ≡ n = length-take-le n end (omega arith) in
+    rw (one, other, tail, before) (same_before front (take n end) (length_at (last 8 end)) (λ told is. omega (arith, fits, len, told_by end told eight is)))
+
+-- what is read of the end of a Parquet file is what is read of the whole
+pub of_parquet : (start : ℕ) (end : List ℕ) (r : Result File FileFault) → IsParquetRead (file_size start end) end r
+    → (front : List ℕ) → length front ≡ start → HasFooter 8 start end → IsParquetRead (file_size 0 (front ++ end)) (front ++ end) r
+of_parquet start end r is front len (inl fits) =
+    let size = file_size (length front) end in
+    let by : IsParquetBy size end (parquet_footer_size size end) r = subst (λ n. IsParquetRead (file_size n end) end r) (sym len) is in
+    let whole : IsParquetBy size (front ++ end) (parquet_footer_size size end) r = by_size (parquet_footer_size size end) by in
+    subst (λ n. IsParquetRead n (front ++ end) r) (sym (same_size front end)) (subst (λ x. IsParquetBy size (front ++ end) x r) (sym (same_parquet size front end fits)) whole)
+  where
+    by_size : (x : Result ℕ End) → IsParquetBy (file_size (length front) end) end x r → IsParquetBy (file_size (length front) end) (front ++ end) x r
+    by_size (Ok told) by = subst (λ f. IsFooterRead (footer_begin Parquet (file_size (length front) end) told) f r) (sym (same_footer front end fits)) by
+    by_size (Err e) by = by
+of_parquet start end r is front len (inr none) =
+    let empty : front ≡ [] = nil_from_length front (len ∙ none) in
+    subst (λ f. IsParquetRead (file_size 0 (f ++ end)) (f ++ end) r) (sym empty) (subst (λ n. IsParquetRead (file_size n end) end r) none is)

@@ -2,7 +2,8 @@
 use Rattle.std.proofs.Common.{◌≡◌, ◌+◌, ◌-◌, ◌<◌, ◌≤◌, ℕ, min, false, List, [], ◌∷◌, ◌++◌, length, map, take, Ok, Err, refl, ap, sym, ◌∙◌, subst, arith, append-nil, drop, get_or}
 use Rattle.std.proofs.lemmas.List.{length-append, length-map, length-take, nil_from_length, take_all, take-append-le}
 use Rattle.line_reader.specs.Lines.{max_count}
-use Rattle.arrow_columns.specs.Column.{ColumnTree, column_tree}
+use Rattle.arrow_columns.specs.Column.{column_tree}
+use Rattle.arrow_columns.specs.Types.{ColumnTree}
 use Rattle.column_files.specs.LineItems.{LineItem, columns_in, bad_in, are_refused, refuses_file, max_bad_lines, AreKept, IsOfItems}
 use Rattle.column_files.specs.declared.bad_lines.BadLine.{BadLine}
 use Rattle.column_files.specs.declared.lines.LinesRead.{LinesRead}

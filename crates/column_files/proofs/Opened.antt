@@ -16,7 +16,7 @@ end_opened form start end (Err fault) same read = read
 whole : (form : Form) (bytes : List ℕ) (r : Result File FileFault) → IsEndRead form 0 bytes r → IsFileRead form bytes r
 whole ArrowFile bytes r is = is [] refl (inr refl)
 whole ArrowStream bytes r is = is
-whole Parquet bytes r is = is
+whole Parquet bytes r is = is [] refl (inr refl)
 whole Lines bytes r is = is
 whole (Foreign foreign) bytes r is = is
 

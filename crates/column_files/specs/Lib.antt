@@ -7,6 +7,9 @@ pub mod LineItems
 pub mod ColumnLines
 pub mod LineFindings
 pub mod Geo
+pub mod Endings
+pub mod Ends
+pub mod InFile
 pub mod Files
 pub mod Faults
 pub mod Reading

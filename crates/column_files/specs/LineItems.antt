@@ -1,7 +1,8 @@
 -- What lines give, one after another: columns, and bad lines, which denote none.
 use Rattle.std.specs.Prelude.{◌≡◌, ◌+◌, ◌-◌, ℕ, min, Bool, true, false, List, [], ◌∷◌, ◌++◌, length, take, map, Option, Some, None, Result, Ok, Err}
 use Rattle.line_reader.specs.Lines.{max_count}
-use Rattle.arrow_columns.specs.Column.{ColumnTree, column_tree}
+use Rattle.arrow_columns.specs.Column.{column_tree}
+use Rattle.arrow_columns.specs.Types.{ColumnTree}
 use Rattle.field_lines.specs.ColumnOfValue.{column_of_line}
 use Rattle.column_files.specs.Lines.{is_blank, LinesTo}
 use Rattle.column_files.specs.LineFaults.{IsLineFault}

@@ -12,7 +12,8 @@ use Rattle.column_files.specs.Forms.{head_bytes}
 use Rattle.column_files.specs.ForeignFound.{looked_at}
 use Rattle.column_files.specs.Lines.{LinesTo}
 use Rattle.column_files.specs.LineItems.{LineItem, AreItems}
-use Rattle.column_files.specs.Files.{bad_line, IsFileRead, size_in, HasFooter}
+use Rattle.column_files.specs.Endings.{message_end}
+use Rattle.column_files.specs.Files.{bad_line, IsFileRead, HasFooter}
 use Rattle.column_files.specs.declared.form.Form.{Form}
 use Rattle.column_files.specs.declared.form.Form.TheVariants.{ArrowFile, ArrowStream, Parquet, Foreign}
 use Rattle.column_files.specs.declared.columns.FileFault.{FileFault}
@@ -84,10 +85,6 @@ is_item r = false
 -- the source gives all that it has, which is these bytes
 abbrev pub GivesAll : Option (List ℕ) → Option (List ℕ) → List ℕ → Type 0
 GivesAll old new bytes = Consumes old new bytes × IsAtEnd new
-
--- where the first message of a stream ends: its size stands at the begin, or behind the marker, which is no size
-abbrev pub message_end : List ℕ → ℕ
-message_end head = if size_in head == 0xffff_ffff then 8 + size_in (drop 4 head) else 4 + size_in head
 
 -- the source gives, behind the first bytes, those that belong to its schema: of a stream what the first message has beyond these; of a format that is not
 -- read those that tell what is found in it; else all

@@ -11,21 +11,21 @@ use Rattle.arrow_ipc.specs.declared.write.WriteError.{WriteError}
 use Rattle.arrow_ipc.specs.declared.write.WriteError.TheVariants as writes
 use Rattle.parquet_columns.specs.Budget.{too_large, within_budget}
 use Rattle.parquet_columns.specs.Rules as parquet
-use Rattle.parquet_columns.specs.declared.error.SchemaError.{SchemaError}
-use Rattle.parquet_columns.specs.declared.error.SchemaError.TheVariants as schemas
-use Rattle.parquet_footer.specs.declared.fault.FooterError.TheVariants as footers
+use Rattle.parquet_footer.specs.Rules as footer
 use Rattle.column_files.specs.Foreigns.{format_name, format_help}
 use Rattle.column_files.specs.LineFaults.{later_fault}
 use Rattle.column_files.specs.declared.bad_lines.BadLine.{BadLine}
 use Rattle.column_files.specs.declared.columns.FileFault.{FileFault}
-use Rattle.column_files.specs.declared.columns.FileFault.TheVariants.{NoField, Empty, Foreign, ReportTooLarge, Ipc, Parquet, OutOfMemory}
+use Rattle.column_files.specs.declared.columns.FileFault.TheVariants.{NoField, Empty, Foreign, End, ReportTooLarge, Ipc, Footer, Tree, OutOfMemory}
+use Rattle.column_files.specs.declared.ending.EndRule.{EndRule}
+use Rattle.column_files.specs.declared.ending.EndRule.TheVariants as ends
 use Rattle.column_files.specs.declared.form.Form.{Form}
-use Rattle.column_files.specs.declared.form.Form.TheVariants.{ArrowFile, ArrowStream}
+use Rattle.column_files.specs.declared.form.Form.TheVariants.{ArrowStream}
 use Rattle.column_files.specs.declared.line.LineFault.{LineFault}
 use Rattle.column_files.specs.declared.line.LineFault.TheVariants as lines
 use Rattle.column_files.specs.declared.refusal.Fault.{Fault}
 use Rattle.column_files.specs.declared.refusal.Place.{Place}
-use Rattle.column_files.specs.declared.refusal.Place.TheVariants.{File, Line, LineByte, Byte, MessageByte, FooterByte, Element, Column}
+use Rattle.column_files.specs.declared.refusal.Place.TheVariants.{File, Line, LineByte, Byte, FooterByte, Elements, Column}
 
 -- ---- codes
 
@@ -33,11 +33,13 @@ abbrev pub line_code : LineFault → Text
 line_code (lines.GeoJson named) = codes "ForeignFormat"
 line_code fault = codes "BadLine"
 
--- an Arrow file ends with its magic, behind a footer and its size; a stream begins with a whole message, which is a schema
+abbrev pub end_code : EndRule → Text
+end_code ends.Truncated = codes "Truncated"
+end_code ends.FooterLength = codes "FooterLength"
+end_code ends.Encrypted = codes "Encrypted"
+
+-- a stream begins with a schema
 abbrev pub rule_code : Form → IpcRule → Text
-rule_code form rules.Magic = codes "Truncated"
-rule_code form rules.Cut = codes "Truncated"
-rule_code form rules.FooterSize = codes "FooterLength"
 rule_code form rules.EndOfStream = codes "NoSchema"
 rule_code ArrowStream rules.Message = codes "NoSchema"
 rule_code form rule = codes "BadMessage"
@@ -47,23 +49,15 @@ ipc_code form (messages.Broken fault) = rule_code form fault.rule
 ipc_code form (messages.Budget at) = codes "BadMessage"
 ipc_code form messages.OutOfMemory = codes "OutOfMemory"
 
-abbrev pub parquet_code : SchemaError → Text
-parquet_code (schemas.Footer footers.NotParquet) = codes "Truncated"
-parquet_code (schemas.Footer footers.Encrypted) = codes "Encrypted"
-parquet_code (schemas.Footer (footers.Invalid rule at)) = codes "BadFooter"
-parquet_code (schemas.Footer footers.Memory) = codes "OutOfMemory"
-parquet_code schemas.Length = codes "FooterLength"
-parquet_code (schemas.Elements fault) = codes "BadTree"
-parquet_code schemas.Budget = codes "ReportTooLarge"
-parquet_code schemas.OutOfMemory = codes "OutOfMemory"
-
 abbrev pub fault_code : Form → FileFault → Text
 fault_code form (NoField before fault) = line_code fault
 fault_code form Empty = codes "EmptyFile"
 fault_code form (Foreign foreign found) = codes "ForeignFormat"
+fault_code form (End fault) = end_code fault.rule
 fault_code form ReportTooLarge = codes "ReportTooLarge"
 fault_code form (Ipc error) = ipc_code form error
-fault_code form (Parquet error) = parquet_code error
+fault_code form (Footer rule at) = codes "BadFooter"
+fault_code form (Tree rule at) = codes "BadTree"
 fault_code form OutOfMemory = codes "OutOfMemory"
 
 -- ---- what is found
@@ -80,12 +74,14 @@ line_found fault = codes "no JSON, or more than 127 levels of it"
 
 abbrev pub fault_found : FileFault → Text
 fault_found (NoField before fault) = line_found fault
-fault_found Empty = codes "no bytes, or blanks alone"
+fault_found Empty = codes "0 bytes, or blanks alone"
 fault_found (Foreign foreign None) = format_name foreign
 fault_found (Foreign foreign (Some found)) = string_bytes found
+fault_found (End fault) = string_bytes fault.found
 fault_found ReportTooLarge = too_large
 fault_found (Ipc error) = ipc.error_message error
-fault_found (Parquet error) = parquet.error_message error
+fault_found (Footer rule at) = footer.rule_message rule
+fault_found (Tree rule at) = parquet.rule_message rule
 fault_found OutOfMemory = codes "out of memory"
 
 -- ---- what is expected
@@ -106,9 +102,11 @@ abbrev pub fault_expected : FileFault → Text
 fault_expected (NoField before fault) = line_expected fault
 fault_expected Empty = read_formats
 fault_expected (Foreign foreign found) = read_formats
+fault_expected (End fault) = string_bytes fault.expected
 fault_expected ReportTooLarge = within_budget
 fault_expected (Ipc error) = ipc.error_wanted error
-fault_expected (Parquet error) = parquet.error_wanted error
+fault_expected (Footer rule at) = footer.rule_wanted rule
+fault_expected (Tree rule at) = parquet.rule_wanted rule
 fault_expected OutOfMemory = codes "more memory"
 
 -- ---- what helps
@@ -119,29 +117,16 @@ line_help (lines.OpenArray at) = Some (codes "One object on each line: try jq -c
 line_help (lines.GeoJson named) = Some (codes "Try ogr2ogr out.parquet FILE")
 line_help fault = None
 
-abbrev pub cut_off : Text
-cut_off = codes "The file is cut off, or still being written"
-
-abbrev pub rule_help : IpcRule → Option Text
-rule_help rules.Magic = Some cut_off
-rule_help rules.Cut = Some cut_off
-rule_help rule = None
-
-abbrev pub ipc_help : IpcError → Option Text
-ipc_help (messages.Broken fault) = rule_help fault.rule
-ipc_help error = None
-
-abbrev pub parquet_help : SchemaError → Option Text
-parquet_help (schemas.Footer footers.NotParquet) = Some cut_off
-parquet_help (schemas.Footer footers.Encrypted) = Some (codes "A copy with a plain footer is needed")
-parquet_help error = None
+abbrev pub end_help : EndRule → Option Text
+end_help ends.Truncated = Some (codes "The file is cut off, or still being written")
+end_help ends.FooterLength = None
+end_help ends.Encrypted = Some (codes "A copy with a plain footer is needed")
 
 abbrev pub fault_help : FileFault → Option Text
 fault_help (NoField before fault) = line_help fault
 fault_help Empty = Some (codes "The writing or the copy broke off before its first byte")
 fault_help (Foreign foreign found) = format_help foreign
-fault_help (Ipc error) = ipc_help error
-fault_help (Parquet error) = parquet_help error
+fault_help (End fault) = end_help fault.rule
 fault_help fault = None
 
 -- ---- where
@@ -157,26 +142,22 @@ line_place line (lines.OpenObject at) = LineByte line at
 line_place line (lines.OpenArray at) = LineByte line at
 line_place line fault = Line line
 
--- a byte of an Arrow file is counted in the file, one of a stream in its message
-abbrev pub byte_place : Form → ℕ → Place
-byte_place ArrowFile at = Byte at
-byte_place form at = MessageByte at
+abbrev pub ipc_place : IpcError → Place
+ipc_place (messages.Broken fault) = Byte fault.at
+ipc_place (messages.Budget at) = Byte at
+ipc_place messages.OutOfMemory = File
 
-abbrev pub message_place : Form → IpcError → Place
-message_place form (messages.Broken fault) = byte_place form fault.at
-message_place form (messages.Budget at) = byte_place form at
-message_place form messages.OutOfMemory = File
-
-abbrev pub parquet_place : SchemaError → Place
-parquet_place (schemas.Footer (footers.Invalid rule at)) = FooterByte at
-parquet_place (schemas.Elements fault) = Element fault.at
-parquet_place error = File
-
-abbrev pub fault_place : Form → FileFault → Place
-fault_place form (NoField before fault) = line_place (behind before) fault
-fault_place form (Ipc error) = message_place form error
-fault_place form (Parquet error) = parquet_place error
-fault_place form fault = File
+-- bytes are those of the file, of its footer too
+abbrev pub fault_place : FileFault → Place
+fault_place (NoField before fault) = line_place (behind before) fault
+fault_place Empty = Byte 0
+fault_place (Foreign foreign found) = Byte 0
+fault_place (End fault) = Byte fault.byte
+fault_place (Ipc error) = ipc_place error
+fault_place (Footer rule at) = FooterByte at
+fault_place (Tree rule at) = Elements at
+fault_place ReportTooLarge = File
+fault_place OutOfMemory = File
 
 abbrev pub write_place : WriteError → Place
 write_place (writes.Column index) = Column index
@@ -204,7 +185,7 @@ told fault = record {
 abbrev pub file_told : Form → FileFault → Told
 file_told form fault = record {
   code = fault_code form fault;
-  place = fault_place form fault;
+  place = fault_place fault;
   found = fault_found fault;
   expected = fault_expected fault;
   help = fault_help fault;

@@ -1,13 +1,15 @@
 //! What is read of a file, or why nothing is.
-ghost use Rattle.std.specs.Prelude.{◌≡◌, ◌+◌, ℕ, List, IfOk, map};
+ghost use Rattle.std.specs.Prelude.{◌≡◌, ◌≤◌, ℕ, List, IfOk, length, map};
 ghost use Rattle.arrow_columns.specs.Column.{column_tree};
-ghost use Rattle.arrow_ipc.specs.Entries.{entries_of_message};
+ghost use Rattle.arrow_ipc.specs.Entries.{entries_of_footer, entries_of_message};
 ghost use Rattle.arrow_ipc.specs.Schema.{Meets, footer_in, message_in, schema_of_footer, schema_of_message};
 ghost use Rattle.parquet_columns.specs.Findings.{finding};
-ghost use Rattle.column_files.specs.Files.{IsFooterRead, IsSchemaRead, AreAllRead, IsOfLines};
-ghost use Rattle.column_files.specs.Files.{further, footer_begin, IsOfSchema, IsRepeatedIn};
+ghost use Rattle.column_files.specs.Endings.{message_begin, message_end};
+ghost use Rattle.column_files.specs.Files.{IsSchemaRead, IsMessageRead, AreAllRead, IsOfLines};
+ghost use Rattle.column_files.specs.Files.{further, counted_from, IsOfSchema, IsRepeatedIn};
 
 use crate::bad_lines::BadLines;
+use crate::ending::{EndFault, message_begin, message_size};
 use crate::foreign::Foreign;
 use crate::form::{Form, is_marked};
 use crate::geo::{GeoText, take_geo};
@@ -16,7 +18,8 @@ use crate::lines::LinesRead;
 use crate::mark::mark_findings;
 use crate::opening::File;
 use arrow_ipc::{IpcError, IpcFault, Schema, SchemaEntries, read_entries, read_file_entries};
-use parquet_columns::{FileFinding, FilePart, SchemaError, repeated_entries};
+use parquet_columns::{FileFinding, FilePart, SchemaRule, repeated_entries};
+use parquet_footer::FooterRule;
 use std::alloc::{AllocError, AllocFailed, Global};
 
 /// Why the columns of a file are not read.
@@ -30,13 +33,19 @@ pub enum FileFault {
     /// The file is of a format that is not read; with what is found in it, where more is said than
     /// the name of the format.
     Foreign(Foreign, Option<String>),
-    /// The report of the file would be greater than its budget. Reading columns never errs so;
-    /// reporting them may.
+    /// The end of the file, of its footer's size or of the first message of a stream is not as it
+    /// should be.
+    End(EndFault),
+    /// The report of the file would be greater than its budget, or what the footer of a Parquet
+    /// file gives its columns is (docs/FORMAT.md, 4.6).
     ReportTooLarge,
-    /// The schema of an Arrow file or stream is refused.
+    /// The schema of an Arrow file or stream is refused; the byte is that of the file.
     Ipc(IpcError),
-    /// The columns of a Parquet file are refused.
-    Parquet(SchemaError),
+    /// The footer of a Parquet file breaks the rule at that byte of the file.
+    Footer(FooterRule, usize),
+    /// The elements of the schema of a Parquet file make no tree, by the rule; with the byte of the
+    /// file at which the element begins that breaks it, if there is that element.
+    Tree(SchemaRule, Option<usize>),
     /// Out of memory.
     OutOfMemory,
 }
@@ -92,27 +101,24 @@ pub(crate) fn file_of_lines<'a>(
     }
 }
 
-/// What is read of a footer that is read of these bytes of an Arrow file, before which so many
-/// stand.
+/// What is read of the footer that stands in these last bytes of an Arrow file, and begins there in
+/// the file.
 pub(crate) fn file_of_footer<'a>(
     alloc: Global,
     read: Result<Schema, IpcError>,
-    start: usize,
+    begin: usize,
     bytes: &[u8],
 ) -> Result<File<'a>, FileFault>
     requires { Meets (footer_in bytes.now) (schema_of_footer 61) read }
     ensures form { IfOk result (λ file. file.form ≡ Form.ArrowFile) }
-    ensures is { IsFooterRead start bytes.now result }
+    ensures is { IsSchemaRead begin (footer_in bytes.now) (schema_of_footer 61) entries_of_footer result }
 {
     match read {
         Ok(schema) => {
             let found = repeated_in(alloc, &schema, read_file_entries(alloc, bytes))?;
             Ok(file_of_schema(alloc, Form::ArrowFile, schema, found))
         }
-        Err(error) => Err(FileFault::Ipc(further(
-            error,
-            start.saturating_add(footer_begin(bytes)),
-        ))),
+        Err(error) => Err(FileFault::Ipc(further(error, begin))),
     }
 }
 
@@ -130,25 +136,17 @@ fn further(error: IpcError, by: usize) -> IpcError
     }
 }
 
-/// Where the footer of an Arrow file begins, as its end tells; 0 where no footer is found.
-#[tactic(auto, unfolding(arrow_ipc::specs::Schema::footer_in, arrow_ipc::specs::Schema::cut))]
-fn footer_begin(bytes: &[u8]) -> usize
-    ensures { result ≡ footer_begin bytes.now (footer_in bytes.now) }
+/// Where the first message of a stream begins; 0 where the stream ends there, which is told by its
+/// place in the stream.
+#[tactic(auto, using(crate::proofs::FirstMessage::counted))]
+fn counted_from(stream: &[u8]) -> usize
+    requires { message_end stream.now ≤ length stream.now }
+    ensures { result ≡ counted_from (message_begin stream.now) (message_in stream.now) }
 {
-    if bytes.len() < 10 {
+    if message_size(stream) == 0 {
         return 0;
     }
-    let end = bytes.len() - 10;
-    let size = match &bytes[end..] {
-        [a, b, c, d, b'A', b'R', b'R', b'O', b'W', b'1'] => u32::from_le_bytes([*a, *b, *c, *d]),
-        _ => return 0,
-    };
-    let size = size as usize;
-    if 0 < size && size <= end {
-        end - size
-    } else {
-        0
-    }
+    message_begin(stream)
 }
 
 /// What is read of a message of a stream, whose schema is read.
@@ -157,16 +155,17 @@ pub(crate) fn file_of_message<'a>(
     read: Result<Schema, IpcError>,
     stream: &[u8],
 ) -> Result<File<'a>, FileFault>
-    requires { Meets (message_in stream.now) (schema_of_message 61) read }
+    requires whole { message_end stream.now ≤ length stream.now }
+    requires is { Meets (message_in stream.now) (schema_of_message 61) read }
     ensures form { IfOk result (λ file. file.form ≡ Form.ArrowStream) }
-    ensures is { IsSchemaRead (message_in stream.now) (schema_of_message 61) entries_of_message result }
+    ensures is { IsMessageRead stream.now result }
 {
     match read {
         Ok(schema) => {
             let found = repeated_in(alloc, &schema, read_entries(alloc, stream))?;
             Ok(file_of_schema(alloc, Form::ArrowStream, schema, found))
         }
-        Err(error) => Err(FileFault::Ipc(error)),
+        Err(error) => Err(FileFault::Ipc(further(error, counted_from(stream)))),
     }
 }
 

@@ -3,22 +3,26 @@
 
 mod bad_lines;
 mod columns;
+mod ending;
 mod fault;
 mod foreign;
 mod form;
 mod found;
 mod geo;
+mod in_file;
 pub mod laws;
 mod line;
 mod lines;
 mod mark;
 mod opening;
+mod parquet;
 mod reading;
 mod refusal;
 mod schema_bytes;
 
 pub use bad_lines::{BadLine, BadLines, MAX_BAD_LINES};
 pub use columns::FileFault;
+pub use ending::{EndFault, EndRule};
 pub use fault::ReadFault;
 pub use foreign::Foreign;
 pub use form::{Form, form_of};

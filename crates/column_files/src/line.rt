@@ -131,8 +131,9 @@ pub fn column_line(alloc: Global, column: SchemaColumn) -> Result<String, AllocE
             drop(field);
             line
         }
-        AnyType::Other(notation) => {
-            other_line(alloc, name.as_str(), nullable, &metadata, notation.as_str())
+        AnyType::Other(other) => {
+            let notation = other.notation.as_str();
+            other_line(alloc, name.as_str(), nullable, &metadata, notation)
         }
     }
 }

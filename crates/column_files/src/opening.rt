@@ -1,14 +1,18 @@
 //! Files that are opened: their format, their columns, and what is read beside them.
 ghost use Rattle.std.specs.Prelude.{◌≡◌, IfOk};
-ghost use Rattle.parquet_columns.specs.Reads.{footer_in};
-ghost use Rattle.column_files.specs.Files.{IsOpened, IsEndOpened, IsParquetRead};
+ghost use Rattle.column_files.specs.Files.{IsOpened, IsEndOpened, footer_begin};
+ghost use Rattle.column_files.specs.Files.{IsArrowRead, IsStreamRead, IsParquetRead};
 
 use crate::bad_lines::BadLines;
 use crate::columns::{FileFault, file_of_footer, file_of_lines, file_of_message};
+use crate::ending::{
+    Ending, arrow_footer_size, cut_message, file_size, message_end, parquet_footer_size,
+};
 use crate::form::{Form, form_of};
 use crate::found::foreign_fault;
-use crate::geo::{GeoText, geo_of_footer};
+use crate::geo::GeoText;
 use crate::lines::read_lines;
+use crate::parquet::file_of_parquet;
 use arrow_columns::SchemaColumn;
 use arrow_ipc::{read_file_footer, read_schema};
 use parquet_columns::{FileFinding, GEO_KEY, RootElement, read_file};
@@ -42,16 +46,17 @@ pub struct File<'a> {
 
 /// Opens a file by its bytes, whose first tell the format (docs/FORMAT.md, 2.7). The columns are of
 /// an Arrow file or stream those of its schema, of a Parquet file those of its footer, and of lines
-/// a column for each that denotes one; the others that are not blank are its bad lines. Of a stream only the first message is looked at, so these
-/// bytes alone may be given; of an Arrow or Parquet file only the end is, which [`open_end`] takes.
+/// a column for each that denotes one; the others that are not blank are its bad lines. Of a stream
+/// only the first message is looked at, so these bytes alone may be given; of an Arrow or Parquet
+/// file only the end is, which [`open_end`] takes. Bytes of a footer are counted in the file.
 ///
 /// Errs with `NoField` where the first line that is not blank is `{` or `[` alone, or GeoJSON, with
 /// how many lines stand before it, and why; with `Empty` where all lines are blank; with `Foreign`
 /// where the first bytes tell a format that is not read, which, and what is found in no more than
-/// the first 1,024 of them; with `Ipc` as
-/// `read_schema` and `read_file_footer` of `arrow_ipc` do, which say the rule that is broken, and
-/// the byte, of an Arrow file that of the file; with `Parquet` as `read_file` of `parquet_columns`
-/// does; and when out of memory.
+/// the first 1,024 of them; with `End` where the end of an Arrow or Parquet file, or of the first
+/// message of a stream, is not as it should be; with `Ipc` as `read_schema` and `read_file_footer`
+/// of `arrow_ipc` do, which say the rule that is broken; with `Footer`, `Tree` and `ReportTooLarge`
+/// as `read_file` of `parquet_columns` does; each with the byte of the file; and when out of memory.
 ///
 /// ```rust
 /// let file = open(alloc, br#"{"name":"a","nullable":true,"type":"int64"}"#);
@@ -70,12 +75,11 @@ pub fn open<'a>(alloc: Global, bytes: &'a [u8]) -> Result<File<'a>, FileFault>
 
 /// Opens a file in that format by its end, before which so many bytes stand, as
 /// [`crate::read_schema_end`] gives it; a stream or lines by all bytes. Returns and errs as
-/// [`open`] does of the whole file: of an Arrow file the byte is counted from the file's first
-/// (docs/FORMAT.md, 2.7).
+/// [`open`] does of the whole file, with the same bytes (docs/FORMAT.md, 2.7).
 ///
 /// ```rust
 /// let refused = open_end(alloc, Form::ArrowFile, 400, b"\0\0\0\0ARROW2");
-/// assert!(rt; matches!(refused, Err(FileFault::Ipc(IpcError::Broken(fault))) if fault.at == 400));
+/// assert!(rt; matches!(refused, Err(FileFault::End(fault)) if fault.byte == 410));
 /// ```
 pub fn open_end<'a>(
     alloc: Global,
@@ -86,33 +90,50 @@ pub fn open_end<'a>(
     ensures { IsEndOpened form start end.now result }
 {
     match form {
-        Form::ArrowFile => {
-            let read = read_file_footer(alloc, end);
-            file_of_footer(alloc, read, start as usize, end)
-        }
-        Form::ArrowStream => file_of_message(alloc, read_schema(alloc, end), end),
-        Form::Parquet => open_parquet(alloc, end),
+        Form::ArrowFile => open_arrow(alloc, file_size(start, end), end),
+        Form::ArrowStream => open_stream(alloc, end),
+        Form::Parquet => open_parquet(alloc, file_size(start, end), end),
         Form::Lines => file_of_lines(alloc, read_lines(alloc, end), end),
         Form::Foreign(foreign) => Err(foreign_fault(alloc, foreign, end)),
     }
 }
 
-/// Opens a Parquet file by its end.
-fn open_parquet<'a>(alloc: Global, end: &'a [u8]) -> Result<File<'a>, FileFault>
-    ensures form { IfOk result (λ file. file.form ≡ Form.Parquet) }
-    ensures is { IsParquetRead (footer_in end.now) result }
+/// Where the footer of that size begins in a file of that size.
+fn footer_begin(ending: Ending, size: u64, told: u32) -> usize
+    ensures { result ≡ footer_begin ending size told }
 {
-    match read_file(alloc, end, GEO_KEY) {
-        Ok(read) => Ok(File {
-            form: Form::Parquet,
-            columns: read.columns,
-            bad_lines: BadLines::new(alloc),
-            elements: read.elements,
-            refuted: read.refuted,
-            findings: read.findings,
-            texts: read.texts,
-            geo: geo_of_footer(read.value),
-        }),
-        Err(error) => Err(FileFault::Parquet(error)),
+    (size as usize)
+        .saturating_sub(ending.tail())
+        .saturating_sub(told as usize)
+}
+
+/// Opens an Arrow file of that size by its end.
+fn open_arrow<'a>(alloc: Global, size: u64, end: &[u8]) -> Result<File<'a>, FileFault>
+    ensures form { IfOk result (λ file. file.form ≡ Form.ArrowFile) }
+    ensures is { IsArrowRead size end.now result }
+{
+    let told = arrow_footer_size(alloc, size, end)?;
+    let begin = footer_begin(Ending::Arrow, size, told);
+    file_of_footer(alloc, read_file_footer(alloc, end), begin, end)
+}
+
+/// Opens a stream by its first message.
+fn open_stream<'a>(alloc: Global, stream: &[u8]) -> Result<File<'a>, FileFault>
+    ensures form { IfOk result (λ file. file.form ≡ Form.ArrowStream) }
+    ensures is { IsStreamRead stream.now result }
+{
+    if (stream.len() as u64) < message_end(stream) {
+        return Err(cut_message(alloc, stream));
     }
+    file_of_message(alloc, read_schema(alloc, stream), stream)
+}
+
+/// Opens a Parquet file of that size by its end.
+fn open_parquet<'a>(alloc: Global, size: u64, end: &'a [u8]) -> Result<File<'a>, FileFault>
+    ensures form { IfOk result (λ file. file.form ≡ Form.Parquet) }
+    ensures is { IsParquetRead size end.now result }
+{
+    let told = parquet_footer_size(alloc, size, end)?;
+    let begin = footer_begin(Ending::Parquet, size, told);
+    file_of_parquet(alloc, read_file(alloc, end, GEO_KEY), begin, end)
 }

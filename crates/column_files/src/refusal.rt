@@ -3,19 +3,18 @@
 ghost use Rattle.std.specs.Prelude.{◌≡◌};
 ghost use Rattle.arrow_values.specs.Texts.{text_of};
 ghost use Rattle.column_files.specs.Refusals.{line_code, line_found, line_expected, line_help};
-ghost use Rattle.column_files.specs.Refusals.{rule_code, ipc_code, parquet_code, fault_code};
-ghost use Rattle.column_files.specs.Refusals.{fault_found, fault_expected, fault_help};
-ghost use Rattle.column_files.specs.Refusals.{ipc_help, parquet_help, behind, line_place, byte_place};
-ghost use Rattle.column_files.specs.Refusals.{message_place, parquet_place, fault_place};
+ghost use Rattle.column_files.specs.Refusals.{rule_code, ipc_code, end_code, fault_code};
+ghost use Rattle.column_files.specs.Refusals.{fault_found, fault_expected, end_help, fault_help};
+ghost use Rattle.column_files.specs.Refusals.{behind, line_place, ipc_place, fault_place};
 ghost use Rattle.column_files.specs.Refusals.{told, file_told, bad_told, long_told, write_told};
 
 use crate::bad_lines::BadLine;
 use crate::columns::FileFault;
+use crate::ending::EndRule;
 use crate::form::Form;
 use crate::line::LineFault;
 use arrow_ipc::{IpcError, IpcRule, WriteError};
-use parquet_columns::{SchemaError, TOO_LARGE, WITHIN_BUDGET};
-use parquet_footer::FooterError;
+use parquet_columns::{TOO_LARGE, WITHIN_BUDGET};
 
 /// Where a file is at fault (docs/FORMAT.md, 2.8).
 #[derive(Debug, Clone, Copy, PartialEq, Eq)]
@@ -28,12 +27,11 @@ pub enum Place {
     LineByte(u64, u64),
     /// A byte of the file, from 0.
     Byte(u64),
-    /// A byte of the message of a stream, from 0.
-    MessageByte(u64),
-    /// A byte of the footer of a Parquet file, from 0.
+    /// A byte of the file, from 0, in the footer of a Parquet file.
     FooterByte(u64),
-    /// An element of the schema of a Parquet file, from 0.
-    Element(u64),
+    /// The elements of the schema of a Parquet file, with the byte of the file, from 0, at which the
+    /// one begins that is at fault, if there is one.
+    Elements(Option<u64>),
     /// A column, from 0.
     Column(u64),
 }
@@ -48,16 +46,13 @@ pub struct Fault<'a> {
     /// What stands there, or what is wrong with it.
     pub found: &'a str,
     /// What is expected in its place.
-    pub expected: &'static str,
+    pub expected: &'a str,
     /// What helps, where anything is known.
     pub help: Option<&'static str>,
 }
 
 /// The formats that are read.
 const READ_FORMATS: &str = "an Arrow file, an Arrow stream, a Parquet file or lines of fields";
-
-/// What helps where the end is missing.
-const CUT_OFF: &str = "The file is cut off, or still being written";
 
 /// Returns the fault of a file in that format: its code, its place, what is found, what is expected
 /// and what helps. A place that is greater than `u64::MAX` is that number. Allocates nothing.
@@ -74,7 +69,7 @@ pub fn fault_of<'a>(form: Form, fault: &'a FileFault) -> Fault<'a>
 {
     Fault {
         code: code_of(form, fault),
-        place: place_of(form, fault),
+        place: place_of(fault),
         found: found_of(fault),
         expected: expected_of(fault),
         help: help_of(fault),
@@ -197,10 +192,23 @@ fn code_of(form: Form, fault: &FileFault) -> &'static str
         FileFault::NoField(_, fault) => line_code(*fault),
         FileFault::Empty => "EmptyFile",
         FileFault::Foreign(_, _) => "ForeignFormat",
+        FileFault::End(fault) => end_code(fault.rule),
         FileFault::ReportTooLarge => "ReportTooLarge",
         FileFault::Ipc(error) => ipc_code(form, *error),
-        FileFault::Parquet(error) => parquet_code(*error),
+        FileFault::Footer(_, _) => "BadFooter",
+        FileFault::Tree(_, _) => "BadTree",
         FileFault::OutOfMemory => "OutOfMemory",
+    }
+}
+
+/// The code of a file at whose end a rule is broken.
+fn end_code(rule: EndRule) -> &'static str
+    ensures { result.now ≡ end_code rule }
+{
+    match rule {
+        EndRule::Truncated => "Truncated",
+        EndRule::FooterLength => "FooterLength",
+        EndRule::Encrypted => "Encrypted",
     }
 }
 
@@ -220,25 +228,8 @@ fn rule_code(form: Form, rule: IpcRule) -> &'static str
     ensures { result.now ≡ rule_code form rule }
 {
     match (form, rule) {
-        (_, IpcRule::Magic | IpcRule::Cut) => "Truncated",
-        (_, IpcRule::FooterSize) => "FooterLength",
         (_, IpcRule::EndOfStream) | (Form::ArrowStream, IpcRule::Message) => "NoSchema",
         _ => "BadMessage",
-    }
-}
-
-/// The code of a Parquet file at fault.
-fn parquet_code(error: SchemaError) -> &'static str
-    ensures { result.now ≡ parquet_code error }
-{
-    match error {
-        SchemaError::Footer(FooterError::NotParquet) => "Truncated",
-        SchemaError::Footer(FooterError::Encrypted) => "Encrypted",
-        SchemaError::Footer(FooterError::Invalid(_, _)) => "BadFooter",
-        SchemaError::Length => "FooterLength",
-        SchemaError::Elements(_) => "BadTree",
-        SchemaError::Budget => "ReportTooLarge",
-        SchemaError::Footer(FooterError::Memory) | SchemaError::OutOfMemory => "OutOfMemory",
     }
 }
 
@@ -248,26 +239,30 @@ fn found_of(fault: &FileFault) -> &str
 {
     match fault {
         FileFault::NoField(_, fault) => line_found(*fault),
-        FileFault::Empty => "no bytes, or blanks alone",
+        FileFault::Empty => "0 bytes, or blanks alone",
         FileFault::Foreign(_, Some(found)) => found.as_str(),
         FileFault::Foreign(foreign, None) => foreign.name(),
+        FileFault::End(fault) => fault.found.as_str(),
         FileFault::ReportTooLarge => TOO_LARGE,
         FileFault::Ipc(error) => error.message(),
-        FileFault::Parquet(error) => error.message(),
+        FileFault::Footer(rule, _) => rule.message(),
+        FileFault::Tree(rule, _) => rule.message(),
         FileFault::OutOfMemory => "out of memory",
     }
 }
 
 /// What is expected of a file.
-fn expected_of(fault: &FileFault) -> &'static str
+fn expected_of(fault: &FileFault) -> &str
     ensures { result.now ≡ fault_expected fault.now }
 {
     match fault {
         FileFault::NoField(_, fault) => line_expected(*fault),
         FileFault::Empty | FileFault::Foreign(_, _) => READ_FORMATS,
+        FileFault::End(fault) => fault.expected.as_str(),
         FileFault::ReportTooLarge => WITHIN_BUDGET,
         FileFault::Ipc(error) => error.wanted(),
-        FileFault::Parquet(error) => error.wanted(),
+        FileFault::Footer(rule, _) => rule.wanted(),
+        FileFault::Tree(rule, _) => rule.wanted(),
         FileFault::OutOfMemory => "more memory",
     }
 }
@@ -280,32 +275,23 @@ fn help_of(fault: &FileFault) -> Option<&'static str>
         FileFault::NoField(_, fault) => line_help(*fault),
         FileFault::Empty => Some("The writing or the copy broke off before its first byte"),
         FileFault::Foreign(foreign, _) => foreign.help(),
-        FileFault::Ipc(error) => ipc_help(*error),
-        FileFault::Parquet(error) => parquet_help(*error),
-        FileFault::ReportTooLarge | FileFault::OutOfMemory => None,
+        FileFault::End(fault) => end_help(fault.rule),
+        FileFault::Ipc(_)
+        | FileFault::Footer(_, _)
+        | FileFault::Tree(_, _)
+        | FileFault::ReportTooLarge
+        | FileFault::OutOfMemory => None,
     }
 }
 
-/// What helps with an Arrow file or stream at fault, if anything is known.
-fn ipc_help(error: IpcError) -> Option<&'static str>
-    ensures { text_of result ≡ ipc_help error }
+/// What helps with a file at whose end a rule is broken, if anything is known.
+fn end_help(rule: EndRule) -> Option<&'static str>
+    ensures { text_of result ≡ end_help rule }
 {
-    match error {
-        IpcError::Broken(fault) if matches!(fault.rule, IpcRule::Magic | IpcRule::Cut) => Some(
-            CUT_OFF,
-        ),
-        _ => None,
-    }
-}
-
-/// What helps with a Parquet file at fault, if anything is known.
-fn parquet_help(error: SchemaError) -> Option<&'static str>
-    ensures { text_of result ≡ parquet_help error }
-{
-    match error {
-        SchemaError::Footer(FooterError::NotParquet) => Some(CUT_OFF),
-        SchemaError::Footer(FooterError::Encrypted) => Some("A copy with a plain footer is needed"),
-        _ => None,
+    match rule {
+        EndRule::Truncated => Some("The file is cut off, or still being written"),
+        EndRule::Encrypted => Some("A copy with a plain footer is needed"),
+        EndRule::FooterLength => None,
     }
 }
 
@@ -316,18 +302,19 @@ fn line_number(before: usize) -> u64
     (before as u64).saturating_add(1)
 }
 
-/// Where a file in that format is at fault.
-fn place_of(form: Form, fault: &FileFault) -> Place
-    ensures { result ≡ fault_place form fault.now }
+/// Where a file is at fault.
+fn place_of(fault: &FileFault) -> Place
+    ensures { result ≡ fault_place fault.now }
 {
     match fault {
         FileFault::NoField(before, fault) => line_place(line_number(*before), *fault),
-        FileFault::Ipc(error) => message_place(form, *error),
-        FileFault::Parquet(error) => parquet_place(*error),
-        FileFault::Empty
-        | FileFault::Foreign(_, _)
-        | FileFault::ReportTooLarge
-        | FileFault::OutOfMemory => Place::File,
+        FileFault::Empty | FileFault::Foreign(_, _) => Place::Byte(0),
+        FileFault::End(fault) => Place::Byte(fault.byte),
+        FileFault::Ipc(error) => ipc_place(*error),
+        FileFault::Footer(_, at) => Place::FooterByte(*at as u64),
+        FileFault::Tree(_, Some(at)) => Place::Elements(Some(*at as u64)),
+        FileFault::Tree(_, None) => Place::Elements(None),
+        FileFault::ReportTooLarge | FileFault::OutOfMemory => Place::File,
     }
 }
 
@@ -350,38 +337,12 @@ fn line_place(line: u64, fault: LineFault) -> Place
 }
 
 /// Where an Arrow file or stream is at fault.
-fn message_place(form: Form, error: IpcError) -> Place
-    ensures { result ≡ message_place form error }
+fn ipc_place(error: IpcError) -> Place
+    ensures { result ≡ ipc_place error }
 {
     match error {
-        IpcError::Broken(fault) => byte_place(form, fault.at as u64),
-        IpcError::Budget(at) => byte_place(form, at as u64),
+        IpcError::Broken(fault) => Place::Byte(fault.at as u64),
+        IpcError::Budget(at) => Place::Byte(at as u64),
         IpcError::OutOfMemory => Place::File,
-    }
-}
-
-/// A byte of an Arrow file, or of the message of a stream.
-fn byte_place(form: Form, at: u64) -> Place
-    ensures { result ≡ byte_place form at }
-{
-    match form {
-        Form::ArrowFile => Place::Byte(at),
-        Form::ArrowStream | Form::Parquet | Form::Lines | Form::Foreign(_) => {
-            Place::MessageByte(at)
-        }
-    }
-}
-
-/// Where a Parquet file is at fault.
-fn parquet_place(error: SchemaError) -> Place
-    ensures { result ≡ parquet_place error }
-{
-    match error {
-        SchemaError::Footer(FooterError::Invalid(_, at)) => Place::FooterByte(at as u64),
-        SchemaError::Elements(fault) => Place::Element(fault.at as u64),
-        SchemaError::Footer(FooterError::NotParquet | FooterError::Encrypted | FooterError::Memory)
-        | SchemaError::Length
-        | SchemaError::Budget
-        | SchemaError::OutOfMemory => Place::File,
     }
 }

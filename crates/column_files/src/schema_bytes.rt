@@ -6,23 +6,17 @@ ghost use Rattle.column_files.specs.Forms.{IsForm, head_bytes};
 ghost use Rattle.line_reader.specs.Sources.{GivesUpTo};
 ghost use Rattle.column_files.specs.Faults.{IsReadError};
 ghost use Rattle.column_files.specs.ForeignFound.{looked_at};
-ghost use Rattle.column_files.specs.Files.{size_in, HasFooter};
-ghost use Rattle.column_files.specs.Reading.{GivesSchema, GivesEnd, IsEnd, IsHead, ReadAs, message_end};
+ghost use Rattle.column_files.specs.Endings.{size_in, last, message_end};
+ghost use Rattle.column_files.specs.Files.{HasFooter};
+ghost use Rattle.column_files.specs.Reading.{GivesSchema, GivesEnd, IsEnd, IsHead, ReadAs};
 
+use crate::ending::{Ending, message_end, size_of_four};
 use crate::fault::ReadFault;
 use crate::foreign::Foreign;
-use crate::form::{Form, HEAD_BYTES, rest_of};
+use crate::form::{Form, HEAD_BYTES};
 use line_reader::read_up_to;
 use std::alloc::Global;
 use std::io::{Read, Seek, SeekFrom};
-
-/// What stands before the size of a stream's first message, where anything does: four bytes 255.
-const MARKER: u32 = 0xffff_ffff;
-
-/// How many bytes stand behind the footer of an Arrow file, and of a Parquet file: its size in four bytes, and the magic.
-const ARROW_TAIL: usize = 10;
-
-const PARQUET_TAIL: usize = 8;
 
 /// Returns the first 64 bytes of a source, from which `form_of` tells the format; all of them, where
 /// there are fewer. Errs where the source fails, and when out of memory.
@@ -81,18 +75,6 @@ fn left_of_message(head: &[u8]) -> u64
     message_end(head).saturating_sub(head.len() as u64)
 }
 
-/// Where the first message of a stream ends, which has the marker before its size, or has none.
-fn message_end(head: &[u8]) -> u64
-    ensures is { result ≡ message_end head.now }
-{
-    let first = size_of_four(head);
-    if first == MARKER {
-        8 + u64::from(size_of_four(rest_of(head, 4)))
-    } else {
-        4 + u64::from(first)
-    }
-}
-
 /// How many bytes behind the first ones of a file tell what is found in it.
 fn left_of_foreign(foreign: Foreign, head: &[u8]) -> u64
     ensures { result ≡ looked_at foreign - length head.now }
@@ -130,8 +112,8 @@ pub fn read_schema_end<S: Read + Seek>(
     ensures err { IfErr result IsReadError }
 {
     let tail = match form {
-        Form::ArrowFile => ARROW_TAIL,
-        Form::Parquet => PARQUET_TAIL,
+        Form::ArrowFile => Ending::Arrow.tail(),
+        Form::Parquet => Ending::Parquet.tail(),
         Form::ArrowStream | Form::Lines | Form::Foreign(_) => {
             return read_all(form, head, source);
         }
@@ -169,7 +151,7 @@ fn read_footer<S: Read + Seek>(
 /// Whether bytes have, before their last ones, as many as `tail`, so many more as these tell.
 fn has_footer(bytes: &[u8], tail: usize) -> bool
     ensures { result
-        ≡ nat_le (tail + size_in (drop (length bytes.now - tail) bytes.now)) (length bytes.now) }
+        ≡ nat_le (tail + size_in (last tail bytes.now)) (length bytes.now) }
 {
     match bytes.len().checked_sub(tail) {
         Some(at) => size_of_four(&bytes[at..]) as usize <= at,
@@ -216,14 +198,4 @@ fn read_rest<R: Read>(alloc: Global, source: &mut R, count: u64) -> Result<Vec<u
         return Ok(bytes);
     }
     Ok(read_up_to(source, bytes, u64::MAX)?)
-}
-
-/// The number in the first four bytes, the lowest first.
-fn size_of_four(bytes: &[u8]) -> u32
-    ensures { result ≡ size_in bytes.now }
-{
-    match bytes {
-        [a, b, c, d, ..] => u32::from_le_bytes([*a, *b, *c, *d]),
-        _ => 0,
-    }
 }

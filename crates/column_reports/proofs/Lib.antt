@@ -1,4 +1,5 @@
 mod Adding
+pub mod Capping
 mod Joined
 pub mod Reported
 pub mod Whole

@@ -3,7 +3,8 @@ use Rattle.std.proofs.Common.{◌≡◌, Bool, ℕ, ◌+◌, ◌<◌, ◌≤◌,
 use Rattle.std.specs.List.{zip}
 use Rattle.std.proofs.lemmas.List.{map-append, append_assoc, append-nil, at_drop_more, drop_all, length-append}
 use Rattle.arrow_values.specs.Tree.{Text}
-use Rattle.arrow_columns.specs.Column.{ColumnTree, column_tree}
+use Rattle.arrow_columns.specs.Column.{column_tree}
+use Rattle.arrow_columns.specs.Types.{ColumnTree}
 use Rattle.arrow_columns.specs.declared.column.SchemaColumn.{SchemaColumn}
 use Rattle.geoparquet.specs.Facts.{facts_view}
 use Rattle.geoparquet.specs.declared.facts.ColumnFacts.{ColumnFacts}
@@ -36,18 +37,18 @@ pub zip_viewed : (cs : List SchemaColumn) (fs : List ColumnFacts) (ns : List Nam
 zip_viewed cs fs ns = zip_known cs (zip fs ns) ∙ ap (zip (map column_tree cs)) (known_zip fs ns)
 
 -- one more of them with its report
-reported_more : (infer : Bool) (w : Weighing) (xs : List (ColumnTree × Known)) (rs : List ColumnReport) (x : ColumnTree × Known) (r : ColumnReport) → AreReported infer w xs rs → IsColumnReport infer w x.0 x.1 r
-    → AreReported infer w (xs ++ x ∷ []) (rs ++ r ∷ [])
-reported_more infer w [] [] x r are is = (is, tt)
-reported_more infer w (y ∷ xs) (s ∷ rs) x r are is = (are.0, reported_more infer w xs rs x r are.1 is)
-reported_more infer w [] (s ∷ rs) x r are is = absurd are
-reported_more infer w (y ∷ xs) [] x r are is = absurd are
+reported_more : (infer : Bool) (w : Weighing) (alone : Bool) (xs : List (ColumnTree × Known)) (rs : List ColumnReport) (x : ColumnTree × Known) (r : ColumnReport) → AreReported infer w alone xs rs → IsColumnReport infer w alone x.0 x.1 r
+    → AreReported infer w alone (xs ++ x ∷ []) (rs ++ r ∷ [])
+reported_more infer w alone [] [] x r are is = (is, tt)
+reported_more infer w alone (y ∷ xs) (s ∷ rs) x r are is = (are.0, reported_more infer w alone xs rs x r are.1 is)
+reported_more infer w alone [] (s ∷ rs) x r are is = absurd are
+reported_more infer w alone (y ∷ xs) [] x r are is = absurd are
 
-pub reported_next : (infer : Bool) (w : Weighing) (xs : List (SchemaColumn × (ColumnFacts × Named))) (rs new : List ColumnReport) (x : SchemaColumn × (ColumnFacts × Named)) (r : ColumnReport) → AreReported infer w (map viewed xs) rs
-    → IsColumnReport infer w (column_tree x.0) (known_view x.1) r → new ≡ rs ++ r ∷ [] → AreReported infer w (map viewed (xs ++ x ∷ [])) new
-reported_next infer w xs rs new x r are is pushed =
-    subst (AreReported infer w (map viewed (xs ++ x ∷ []))) (sym pushed)
-    (subst (λ ts. AreReported infer w ts (rs ++ r ∷ [])) (sym (map-append viewed xs (x ∷ []))) (reported_more infer w (map viewed xs) rs (viewed x) r are is))
+pub reported_next : (infer : Bool) (w : Weighing) (alone : Bool) (xs : List (SchemaColumn × (ColumnFacts × Named))) (rs new : List ColumnReport) (x : SchemaColumn × (ColumnFacts × Named)) (r : ColumnReport) → AreReported infer w alone (map viewed xs) rs
+    → IsColumnReport infer w alone (column_tree x.0) (known_view x.1) r → new ≡ rs ++ r ∷ [] → AreReported infer w alone (map viewed (xs ++ x ∷ [])) new
+reported_next infer w alone xs rs new x r are is pushed =
+    subst (AreReported infer w alone (map viewed (xs ++ x ∷ []))) (sym pushed)
+    (subst (λ ts. AreReported infer w alone ts (rs ++ r ∷ [])) (sym (map-append viewed xs (x ∷ []))) (reported_more infer w alone (map viewed xs) rs (viewed x) r are is))
 
 -- the lines that are still to come stand behind those that were written
 abbrev pub ColumnsFrom : Option Text → List ColumnReport → ℕ → Text → Type 0

@@ -2,7 +2,7 @@
 use Rattle.std.specs.Prelude.{◌≡◌, true, false, List, [], codes, Option, None, Some}
 use Rattle.arrow_values.specs.Tree.{Text, plain, binary}
 use Rattle.arrow_values.specs.Texts.{set_extension}
-use Rattle.arrow_columns.specs.Column.{ColumnTree, known}
+use Rattle.arrow_columns.specs.Types.{ColumnTree, known}
 use Rattle.column_check.specs.Finding.{IsFinding}
 use Rattle.column_check.specs.Warnings.{AreWarnings}
 use Rattle.column_check.specs.declared.finding.Finding.{Finding}

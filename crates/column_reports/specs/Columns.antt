@@ -1,6 +1,7 @@
 -- What is said of a column, as one value.
-use Rattle.std.specs.Prelude.{◌≡◌, Bool, true, List}
-use Rattle.arrow_columns.specs.Column.{ColumnTree, column_tree}
+use Rattle.std.specs.Prelude.{◌≡◌, ◌++◌, Bool, true, List}
+use Rattle.arrow_columns.specs.Column.{column_tree}
+use Rattle.arrow_columns.specs.Types.{ColumnTree}
 use Rattle.column_check.specs.Finding.{IsFinding}
 use Rattle.column_check.specs.declared.finding.Finding.{Finding}
 use Rattle.column_check.specs.declared.finding.Finding.TheVariants.{Invalid}
@@ -9,10 +10,13 @@ use Rattle.column_check.specs.Warnings.{AreWarnings}
 use Rattle.column_check.specs.declared.warning.Warning.{Warning}
 use Rattle.geoparquet.specs.Facts.{facts_view}
 use Rattle.column_reports.specs.Beside.{AreBeside}
+use Rattle.column_reports.specs.Capped.{kept_of_column}
+use Rattle.column_reports.specs.Claims.{AreClaims}
 use Rattle.column_reports.specs.Gathered.{of_column}
 use Rattle.column_reports.specs.Named.{Known}
 use Rattle.column_reports.specs.Weighed.{weighed}
 use Rattle.column_reports.specs.Weights.{Weighing}
+use Rattle.column_reports.specs.declared.finding.Finding.{Finding as Found}
 use Rattle.column_reports.specs.declared.named.NamedBy.{NamedBy}
 use Rattle.column_reports.specs.declared.named.NamedBy.TheVariants.{Nobody}
 use Rattle.column_reports.specs.declared.report.ColumnReport.{ColumnReport}
@@ -22,9 +26,9 @@ abbrev pub IsFoundBy : NamedBy → Bool → ColumnTree → Finding → Type 0
 IsFoundBy Nobody infer c f = f ≡ Invalid Unread
 IsFoundBy by infer c f = IsFinding infer c f
 
--- the report of a column of which that is known, where types are inferred or not and that is asked of findings: the column itself, by whom it has its name,
--- what is said of it, its facts, and those of what is found of it that are told and shown
-pub record IsColumnReport (infer : Bool) (w : Weighing) (c : ColumnTree) (k : Known) (r : ColumnReport) : Type 0 where
+-- the report of a column of which that is known, alone or in a file that tells what is found of its claims, where types are inferred or not and that is asked of findings: the column itself, by whom it has its name,
+-- what is said of it, its facts, and those of what is found of it that are told and shown, as many of one code as are kept
+pub record IsColumnReport (infer : Bool) (w : Weighing) (alone : Bool) (c : ColumnTree) (k : Known) (r : ColumnReport) : Type 0 where
   pub column : column_tree r.column ≡ c
   pub by : r.by ≡ k.by
   pub finding : IsFoundBy k.by infer c r.finding
@@ -33,4 +37,6 @@ pub record IsColumnReport (infer : Bool) (w : Weighing) (c : ColumnTree) (k : Kn
   pub are : AreWarnings true c r.finding warnings
   pub beside : List Warning
   pub are_beside : AreBeside k.beside beside
-  pub findings : r.findings.items ≡ weighed w (of_column k c warnings beside)
+  pub claims : List Found
+  pub are_claims : AreClaims alone c claims
+  pub findings : r.findings.items ≡ kept_of_column (weighed w (of_column k c warnings beside ++ claims))

@@ -10,34 +10,29 @@ use Rattle.column_files.specs.Refusals.{Told, bad_told}
 use Rattle.column_files.specs.declared.bad_lines.BadLine.{BadLine}
 use Rattle.column_files.specs.declared.bad_lines.BadLines.{BadLines}
 use Rattle.column_files.specs.declared.refusal.Place.{Place}
-use Rattle.column_files.specs.declared.refusal.Place.TheVariants.{Line, LineByte, Byte, MessageByte, FooterByte, Element, Column}
+use Rattle.column_files.specs.declared.refusal.Place.TheVariants.{Line, LineByte, Byte, FooterByte, Elements, Column}
 use Rattle.column_reports.specs.FindingLines.{more_if}
 use Rattle.column_reports.specs.FindingWords.{each, placed, around}
 use Rattle.column_reports.specs.Objects.{object_of, string_if, number_if}
 
 -- the part of the file that a place is in
 abbrev pub part_in : Place → Option Text
-part_in (MessageByte byte) = Some (codes "message")
 part_in (FooterByte byte) = Some (codes "footer")
-part_in (Element element) = Some (codes "elements")
+part_in (Elements byte) = Some (codes "elements")
 part_in place = None
 
 -- the numbers of a place
 abbrev pub byte_in : Place → Option ℕ
 byte_in (LineByte line byte) = Some byte
 byte_in (Byte byte) = Some byte
-byte_in (MessageByte byte) = Some byte
 byte_in (FooterByte byte) = Some byte
+byte_in (Elements byte) = byte
 byte_in place = None
 
 abbrev pub line_in : Place → Option ℕ
 line_in (Line line) = Some line
 line_in (LineByte line byte) = Some line
 line_in place = None
-
-abbrev pub element_in : Place → Option ℕ
-element_in (Element element) = Some element
-element_in place = None
 
 abbrev pub index_in : Place → Option ℕ
 index_in (Column index) = Some index
@@ -59,7 +54,6 @@ place_of place =
     ++ string_if (codes "in") (part_in place)
     ++ number_if (codes "byte") (byte_in place)
     ++ number_if (codes "line") (line_in place)
-    ++ number_if (codes "element") (element_in place)
 
 -- what is found, what is expected, what helps, and how many more there are, if there are any
 abbrev pub words_of : ℕ → Told → List (Text × Json)
@@ -88,7 +82,6 @@ place_parts place =
     ++ each (part_in place)
     ++ each (number_words (codes "byte ") (byte_in place))
     ++ each (number_words (codes "line ") (line_in place))
-    ++ each (number_words (codes "element ") (element_in place))
 
 abbrev pub said_words : Told → Text
 said_words t = codes "found " ++ (t.found ++ (codes "; expected " ++ (t.expected ++ around (codes ". ") t.help [])))

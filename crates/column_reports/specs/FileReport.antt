@@ -1,14 +1,15 @@
 -- The report of a file: its columns with what is said of each, and what is found of it; and its lines of JSON.
-use Rattle.std.specs.Prelude.{◌≡◌, ◌⊎◌, ◌<◌, ◌≤◌, ◌+◌, ◌++◌, ℕ, ⊤, Bool, List, [], ◌∷◌, codes, length, map, Option, Result, Ok, Err, String, string_bytes}
+use Rattle.std.specs.Prelude.{◌≡◌, ◌⊎◌, ◌<◌, ◌≤◌, ◌+◌, ◌++◌, ℕ, ⊤, Bool, true, false, List, [], ◌∷◌, codes, length, map, Option, Result, Ok, Err, String, string_bytes}
 use Rattle.std.specs.List.{zip}
 use Rattle.std.specs.Global.{Global}
 use Rattle.json.specs.Print.{print}
 use Rattle.json.specs.Tree.{json_tokens}
 use Rattle.arrow_values.specs.Tree.{Text}
-use Rattle.arrow_columns.specs.Column.{ColumnTree, column_tree}
+use Rattle.arrow_columns.specs.Column.{column_tree}
+use Rattle.arrow_columns.specs.Types.{ColumnTree}
 use Rattle.column_files.specs.Files.{IsOpened}
 use Rattle.column_files.specs.declared.form.Form.{Form}
-use Rattle.column_files.specs.declared.form.Form.TheVariants.{Parquet}
+use Rattle.column_files.specs.declared.form.Form.TheVariants.{Parquet, Lines}
 use Rattle.column_files.specs.declared.geo.GeoText.{GeoText}
 use Rattle.column_files.specs.declared.geo.GeoText.TheVariants.{Absent, Footer, Schema}
 use Rattle.column_files.specs.declared.opening.File.{File}
@@ -22,6 +23,7 @@ use Rattle.geoparquet.specs.Sources.{Source, unasked, missing, value}
 use Rattle.geoparquet.specs.declared.finding.GeoReport.{GeoReport}
 use Rattle.parquet_columns.specs.Budget.{budget}
 use Rattle.parquet_columns.specs.Layouts.{root_element}
+use Rattle.column_reports.specs.Capped.{kept_of_file}
 use Rattle.column_reports.specs.Columns.{IsColumnReport}
 use Rattle.column_reports.specs.Faults.{kept_text}
 use Rattle.column_reports.specs.FindingLines.{findings_text}
@@ -36,10 +38,15 @@ use Rattle.column_reports.specs.declared.report.ColumnReport.{ColumnReport}
 use Rattle.column_reports.specs.declared.report.Options.{Options}
 
 -- each of the columns, of which that is known, has its report
-abbrev pub AreReported : Bool → Weighing → List (ColumnTree × Known) → List ColumnReport → Type 0
-AreReported infer w [] [] = ⊤
-AreReported infer w (x ∷ xs) (r ∷ rs) = IsColumnReport infer w x.0 x.1 r × AreReported infer w xs rs
-AreReported infer w _ _ = ⊥
+abbrev pub AreReported : Bool → Weighing → Bool → List (ColumnTree × Known) → List ColumnReport → Type 0
+AreReported infer w alone [] [] = ⊤
+AreReported infer w alone (x ∷ xs) (r ∷ rs) = IsColumnReport infer w alone x.0 x.1 r × AreReported infer w alone xs rs
+AreReported infer w alone _ _ = ⊥
+
+-- lines tell nothing of a column but in its report
+abbrev pub is_lines : Form → Bool
+is_lines Lines = true
+is_lines form = false
 
 -- what the rules of GeoParquet take a file in that format to have at the key: of a Parquet file the key is missing where nothing stands at it
 abbrev pub nothing_in : Form → Source
@@ -56,13 +63,13 @@ pub record IsReport (infer : Bool) (w : Weighing) (opened : File) (r : FileRepor
   pub form : r.form ≡ opened.form
   -- its columns by the metadata, each with its report, which has the facts of the columns that the file denotes, and tells of whoever names them
   pub by : List ColumnTree
-  pub are_by : AreColumnsBy (source_in opened.form opened.geo) (map column_tree opened.columns.items) by
-  pub columns : AreReported infer w (zip by (all_known (facts_of (source_in opened.form opened.geo) (map column_tree opened.columns.items) (map root_element opened.elements.items))
+  pub are_by : AreColumnsBy (source_in opened.form opened.geo) (map column_tree opened.columns.items) (map root_element opened.elements.items) by
+  pub columns : AreReported infer w (is_lines opened.form) (zip by (all_known (facts_of (source_in opened.form opened.geo) (map column_tree opened.columns.items) (map root_element opened.elements.items))
       (nobody_where opened.refuted.items (all_named (map column_tree opened.columns.items) (map root_element opened.elements.items))))) r.columns.items
   -- what the metadata are found to be, of the columns that the file denotes
   pub geo : GeoReport
   pub is_geo : AreGeoFindings (source_in opened.form opened.geo) (map column_tree opened.columns.items) (map root_element opened.elements.items) geo.version (map finding geo.findings.items)
-  pub findings : r.findings.items ≡ weighed w (of_file opened.form opened.texts.items opened.findings.items geo)
+  pub findings : r.findings.items ≡ kept_of_file (weighed w (of_file opened.form opened.texts.items opened.findings.items geo))
   pub bad_lines : r.bad_lines ≡ opened.bad_lines
   pub summary : IsSummary r.columns.items r.findings.items r.bad_lines.first.items r.summary
 

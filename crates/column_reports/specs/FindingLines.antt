@@ -6,7 +6,7 @@ use Rattle.json.specs.Tree.{json_tokens}
 use Rattle.arrow_values.specs.Tree.{Text}
 use Rattle.column_check.specs.Severities.{severity_text}
 use Rattle.column_reports.specs.Codes.{word_of}
-use Rattle.column_reports.specs.Found.{code_in, column_in, path_in, part_in, pointer_in, byte_in, found_in, expected_in, help_in, more_in}
+use Rattle.column_reports.specs.Found.{code_in, column_in, path_in, part_in, pointer_in, byte_in, found_in, expected_in, help_in}
 use Rattle.column_reports.specs.Objects.{array_of, object_of, string_if, number_if}
 use Rattle.column_reports.specs.declared.finding.Finding.{Finding}
 use Rattle.column_reports.specs.declared.weighed.Weighed.{Weighed}
@@ -37,17 +37,17 @@ place_members f =
 abbrev pub more_if : ℕ → List (Text × Json)
 more_if more = if more == 0 then [] else (codes "more", number (decimal more)) ∷ []
 
--- what stands there, what is expected, and what helps
-abbrev pub words_members : Finding → List (Text × Json)
-words_members f =
-    string_if (codes "found") (found_in f)
-    ++ string_if (codes "expected") (Some (expected_in f))
-    ++ string_if (codes "help") (help_in f)
-    ++ more_if (more_in f)
+-- what stands there, what is expected, what helps, and how many more there are
+abbrev pub words_members : Weighed → List (Text × Json)
+words_members w =
+    string_if (codes "found") (found_in w.finding)
+    ++ string_if (codes "expected") (Some (expected_in w.finding))
+    ++ string_if (codes "help") (help_in w.finding)
+    ++ more_if w.more
 
 -- a finding: an object of these
 abbrev pub finding_value : Option Text → Option Text → Weighed → Json
-finding_value kind file w = object_of (rule_members kind file w ++ place_members w.finding ++ words_members w.finding)
+finding_value kind file w = object_of (rule_members kind file w ++ place_members w.finding ++ words_members w)
 
 -- of a column of which something is found: all of it that is shown
 abbrev pub findings_in : List Weighed → Option Json

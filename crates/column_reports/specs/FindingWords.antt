@@ -4,7 +4,7 @@ use Rattle.std.specs.List.{join_by}
 use Rattle.arrow_values.specs.Tree.{Text}
 use Rattle.column_check.specs.Severities.{severity_text}
 use Rattle.column_reports.specs.Codes.{word_of}
-use Rattle.column_reports.specs.Found.{code_in, column_in, path_in, part_in, pointer_in, byte_in, found_in, expected_in, help_in, more_in}
+use Rattle.column_reports.specs.Found.{code_in, column_in, path_in, part_in, pointer_in, byte_in, found_in, expected_in, help_in}
 use Rattle.column_reports.specs.declared.finding.Finding.{Finding}
 use Rattle.column_reports.specs.declared.weighed.Weighed.{Weighed}
 
@@ -42,13 +42,13 @@ abbrev pub more_words : ℕ → Option Text
 more_words zero = None
 more_words (suc n) = Some (codes "and " ++ (decimal (suc n) ++ codes " more"))
 
-abbrev pub place_parts : Finding → List Text
-place_parts f =
-    each (column_words (column_in f))
-    ++ each (path_words (path_in f))
-    ++ each (part_words (part_in f) (pointer_in f))
-    ++ each (byte_words (byte_in f))
-    ++ each (more_words (more_in f))
+abbrev pub place_parts : Weighed → List Text
+place_parts w =
+    each (column_words (column_in w.finding))
+    ++ each (path_words (path_in w.finding))
+    ++ each (part_words (part_in w.finding) (pointer_in w.finding))
+    ++ each (byte_words (byte_in w.finding))
+    ++ each (more_words w.more)
 
 -- these behind a blank, with commas between them
 abbrev pub placed : List Text → Text
@@ -70,4 +70,4 @@ said_words f = around (codes "found ") (found_in f) (codes "; ") ++ (codes "expe
 abbrev pub finding_words : Weighed → Text
 finding_words w =
     severity_text w.severity
-    ++ (codes "[" ++ (word_of (code_in w.finding) ++ (codes "]" ++ (placed (place_parts w.finding) ++ (codes ": " ++ said_words w.finding)))))
+    ++ (codes "[" ++ (word_of (code_in w.finding) ++ (codes "]" ++ (placed (place_parts w) ++ (codes ": " ++ said_words w.finding)))))

@@ -1,5 +1,5 @@
 -- What is found of a column or of a file, part by part (docs/FORMAT.md, 2.5 and 5.1).
-use Rattle.std.specs.Prelude.{ℕ, Bool, true, false, List, [], ◌∷◌, codes, if◌then◌else◌, map, Option, None, Some, option_map, string_bytes}
+use Rattle.std.specs.Prelude.{ℕ, List, [], ◌∷◌, codes, map, Option, None, Some, option_map, string_bytes}
 use Rattle.arrow_values.specs.Tree.{Text}
 use Rattle.column_check.specs.Shown.{shown}
 use Rattle.column_check.specs.WarningWords as columns
@@ -8,7 +8,9 @@ use Rattle.parquet_columns.specs.Codes as files
 use Rattle.geoparquet.specs.Spelled.{spelled}
 use Rattle.geoparquet.specs.Words as geo
 use Rattle.geoparquet.specs.declared.code.GeoCode.{GeoCode}
-use Rattle.geoparquet.specs.declared.code.GeoCode.TheVariants.{NoMetadata, EncodingContradicts, CrsContradicts, CrsNotCompared, EdgesContradict, EdgesOnProjected}
+use Rattle.geoparquet.specs.declared.code.GeoCode.TheVariants.{NoMetadata, EncodingContradicts, CrsContradicts, CrsNotCompared}
+use Rattle.geoparquet.specs.declared.fact_sources.FactSource.{FactSource}
+use Rattle.geoparquet.specs.declared.fact_sources.FactSource.TheVariants as sources
 use Rattle.column_reports.specs.declared.code.Code.{Code}
 use Rattle.column_reports.specs.declared.code.Code.TheVariants as codes_of
 use Rattle.column_reports.specs.declared.finding.Finding.{Finding}
@@ -48,49 +50,39 @@ abbrev pub column_part : NamedBy → Option Text → Text
 column_part by None = codes "field"
 column_part by (Some pointer) = metadata_part by
 
--- the part of the file or of the column's metadata, as reports have it
--- a finding in the metadata of GeoParquet, or of a file that has none; or where the field says another thing than the element, without a member of
--- `columns`: the field, or its metadata
-abbrev pub is_whole : Text → Bool
-is_whole [] = true
-is_whole (c ∷ cs) = false
-
-abbrev pub own_part : GeoCode → Text
-own_part NoMetadata = codes "file"
-own_part EncodingContradicts = codes "field"
-own_part CrsContradicts = codes "extension metadata"
-own_part CrsNotCompared = codes "extension metadata"
-own_part EdgesContradict = codes "extension metadata"
-own_part EdgesOnProjected = codes "extension metadata"
-own_part code = codes "geo"
+-- of a finding of GeoParquet metadata, by the source that it is found in: in these, or in the file, where it has none; in the elements; in the field,
+-- or its extension metadata
+abbrev pub geo_part : FactSource → GeoCode → Text
+geo_part sources.Element code = codes "elements"
+geo_part sources.Field EncodingContradicts = codes "field"
+geo_part sources.Field code = codes "extension metadata"
+geo_part sources.Geo NoMetadata = codes "file"
+geo_part sources.Geo code = codes "geo"
 
 abbrev pub own_pointer : GeoCode → Option Text
-own_pointer NoMetadata = None
 own_pointer EncodingContradicts = None
 own_pointer CrsContradicts = Some (codes "/crs")
 own_pointer CrsNotCompared = Some (codes "/crs")
-own_pointer EdgesContradict = Some (codes "/edges")
-own_pointer EdgesOnProjected = Some (codes "/edges")
-own_pointer code = Some []
+own_pointer code = Some (codes "/edges")
 
-abbrev pub geo_part : GeoCode → Text → Text
-geo_part code pointer = if is_whole pointer then own_part code else codes "geo"
+abbrev pub geo_pointer : FactSource → GeoCode → Text → Option Text
+geo_pointer sources.Geo NoMetadata pointer = None
+geo_pointer sources.Geo code pointer = Some pointer
+geo_pointer source code pointer = own_pointer code
 
-abbrev pub geo_pointer : GeoCode → Text → Option Text
-geo_pointer code pointer = if is_whole pointer then own_pointer code else Some pointer
-
+-- the part of the file or of the column's metadata, as reports have it
 abbrev pub part_in : Finding → Option Text
 part_in (of.Column by w) = Some (column_part by (option_map string_bytes w.pointer))
-part_in (of.Text f) = Some (codes "footer")
+part_in (of.Text f) = Some (footers.part_of f.code)
 part_in (of.File f) = Some (files.part_text f.place.part)
-part_in (of.Geo version f) = Some (geo_part f.code (string_bytes f.pointer))
+part_in (of.Geo version f) = Some (geo_part f.source f.code)
 
 -- the pointer into that part
 abbrev pub pointer_in : Finding → Option Text
 pointer_in (of.Column by w) = option_map string_bytes w.pointer
 pointer_in (of.Text f) = None
 pointer_in (of.File f) = None
-pointer_in (of.Geo version f) = geo_pointer f.code (string_bytes f.pointer)
+pointer_in (of.Geo version f) = geo_pointer f.source f.code (string_bytes f.pointer)
 
 -- the byte of that part
 abbrev pub byte_in : Finding → Option ℕ

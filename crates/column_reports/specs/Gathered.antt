@@ -1,11 +1,11 @@
 -- What is found by each source, one behind another.
 use Rattle.std.specs.Prelude.{◌&&◌, Bool, true, false, List, [], ◌∷◌, ◌++◌, flat_map, map, if◌then◌else◌}
-use Rattle.arrow_columns.specs.Column.{ColumnTree}
+use Rattle.arrow_columns.specs.Types.{ColumnTree}
 use Rattle.std.specs.List.{list_any}
 use Rattle.column_files.specs.declared.form.Form.{Form}
 use Rattle.column_files.specs.declared.form.Form.TheVariants.{Lines}
 use Rattle.column_check.specs.declared.code.WarningCode.{WarningCode}
-use Rattle.column_check.specs.declared.code.WarningCode.TheVariants.{CrsMalformed, CrsEmpty, CrsTypeContradicts, CrsWkt1, CrsWithoutType, CrsNumber, CrsNotWhole, CoordinatesNotFloat, CoordinatesNotDouble, AxisOrder, AxisNames, NullableInner, UnionMode, NestedGeometry}
+use Rattle.column_check.specs.declared.code.WarningCode.TheVariants.{CrsMalformed, CrsEmpty, CrsTypeContradicts, CrsWkt1, CrsWithoutType, CrsNumber, CrsNotWhole}
 use Rattle.column_check.specs.declared.warning.Warning.{Warning}
 use Rattle.parquet_footer.specs.declared.finding.FooterFinding.{FooterFinding}
 use Rattle.parquet_columns.specs.declared.finding.FileFinding.{FileFinding}
@@ -33,13 +33,6 @@ is_behind CrsWkt1 = true
 is_behind CrsWithoutType = true
 is_behind CrsNumber = true
 is_behind CrsNotWhole = true
-is_behind CoordinatesNotFloat = true
-is_behind CoordinatesNotDouble = true
-is_behind AxisOrder = true
-is_behind AxisNames = true
-is_behind NullableInner = true
-is_behind UnionMode = true
-is_behind NestedGeometry = true
 is_behind code = false
 
 -- what is told by itself, with a code up to that, or behind it

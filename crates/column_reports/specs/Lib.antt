@@ -1,6 +1,8 @@
 pub mod Codes
 pub mod Found
 pub mod Beside
+pub mod Capped
+pub mod Claims
 pub mod Columns
 pub mod Objects
 pub mod FindingLines

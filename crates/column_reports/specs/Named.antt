@@ -3,7 +3,8 @@ use Rattle.std.specs.Prelude.{◌&&◌, ◌||◌, not, Bool, true, false, List, 
 use Rattle.std.specs.List.{zip}
 use Rattle.arrow_values.specs.Tree.{Text}
 use Rattle.arrow_values.specs.Texts.{text_of}
-use Rattle.arrow_columns.specs.Column.{ColumnTree, name_on}
+use Rattle.arrow_columns.specs.Column.{name_on}
+use Rattle.arrow_columns.specs.Types.{ColumnTree}
 use Rattle.parquet_columns.specs.Claims.{Claim, silent, gives, beside}
 use Rattle.parquet_columns.specs.Layouts.{RootElement}
 use Rattle.parquet_columns.specs.Reserved.{is_reserved}

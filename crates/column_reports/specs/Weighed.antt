@@ -3,7 +3,7 @@ use Rattle.std.specs.Prelude.{Bool, List, [], ◌∷◌, flat_map, Option, None,
 use Rattle.column_check.specs.Severities.{is_error_of}
 use Rattle.column_check.specs.declared.code.Severity.{Severity}
 use Rattle.column_reports.specs.Codes.{word_of, severity_of}
-use Rattle.column_reports.specs.Found.{code_in}
+use Rattle.column_reports.specs.Found.{code_in, more_in}
 use Rattle.column_reports.specs.Weights.{Weighing, counts_as}
 use Rattle.column_reports.specs.declared.finding.Finding.{Finding}
 use Rattle.column_reports.specs.declared.weighed.Weighed.{Weighed}
@@ -11,7 +11,7 @@ use Rattle.column_reports.specs.declared.weighed.Weighed.{Weighed}
 -- a finding, if it is shown
 abbrev pub if_shown : Finding → Option Severity → List Weighed
 if_shown f None = []
-if_shown f (Some severity) = record { severity = severity; finding = f } ∷ []
+if_shown f (Some severity) = record { severity = severity; more = more_in f; finding = f } ∷ []
 
 abbrev pub weighed_one : Weighing → Finding → List Weighed
 weighed_one w f = if_shown f (counts_as w (word_of (code_in f)) (severity_of (code_in f)))

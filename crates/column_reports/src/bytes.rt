@@ -1,13 +1,10 @@
 //! Bytes that are not UTF-8, as reports show them.
-ghost use Rattle.std.specs.Prelude.{◌≡◌, ◌<◌, ◌++◌, IfOk, OnOk, length, string_bytes, take};
-ghost use Rattle.std.specs.Str.{chars, encode_utf8_all};
+ghost use Rattle.std.specs.Prelude.{◌≡◌, ◌<◌, ◌++◌, IfOk, OnOk, string_bytes};
 ghost use Rattle.column_check.specs.Shown.{shown};
 ghost use Rattle.geoparquet.specs.Spelled.{hex_digit, spelled_byte, spelled};
 
+use column_check::shown;
 use std::alloc::{AllocError, Global};
-
-/// How many characters of a text are shown.
-const SHOWN: usize = 120;
 
 /// Returns bytes as reports show them: each of ASCII as it is, and another as two hexadecimal
 /// digits behind `\x`; at most 120 characters, and `..` behind them where there are more. Errs only
@@ -16,34 +13,7 @@ pub(crate) fn bytes_shown(alloc: Global, bytes: &[u8]) -> Result<String, AllocEr
     ensures { IfOk result (λ text. string_bytes text ≡ shown (spelled bytes.now)) }
 {
     let text = spelled(alloc, bytes)?;
-    shown(alloc, text)
-}
-
-/// A text as reports show it.
-fn shown(alloc: Global, text: String) -> Result<String, AllocError>
-    ensures { IfOk result (λ made. string_bytes made ≡ shown (string_bytes text)) }
-{
-    if size(text.as_str()) <= SHOWN {
-        return Ok(text);
-    }
-    let mut first = first_of(alloc, text.as_str())?;
-    first.push_str("..")?;
-    Ok(first)
-}
-
-/// How many characters a text has.
-#[tactic(auto, using(std::proofs::lemmas::Str::chars_from_encodes))]
-fn size(text: &str) -> usize
-    ensures { result ≡ length (chars text.now) }
-{
-    text.chars().count()
-}
-
-/// The characters of a text that are shown.
-fn first_of(alloc: Global, text: &str) -> Result<String, AllocError>
-    ensures { IfOk result (λ first. string_bytes first ≡ encode_utf8_all (take 120 (chars text.now))) }
-{
-    text.chars().take(SHOWN).collect(alloc)
+    shown(alloc, text.as_str())
 }
 
 /// The text of bytes, all of it.

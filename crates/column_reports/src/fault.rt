@@ -4,7 +4,7 @@ ghost use Rattle.arrow_values.specs.Texts.{text_of};
 ghost use Rattle.column_files.specs.Refusals.{told};
 ghost use Rattle.column_reports.specs.Objects.{AddsMembers};
 ghost use Rattle.column_reports.specs.FindingWords.{each};
-ghost use Rattle.column_reports.specs.Faults.{part_in, byte_in, line_in, element_in, index_in};
+ghost use Rattle.column_reports.specs.Faults.{part_in, byte_in, line_in, index_in};
 ghost use Rattle.column_reports.specs.Faults.{rule_of, place_of, words_of, fault_line};
 ghost use Rattle.column_reports.specs.Faults.{number_words, place_parts, said_words, fault_words};
 
@@ -18,7 +18,7 @@ use std::alloc::{AllocError, Global};
 use value_tokens::text_of;
 
 /// Returns why a file is refused as a line of JSON: an object with the keys `kind`, which is
-/// `finding`, `severity`, `code`, `file`, `index`, `in`, `byte`, `line`, `element`, `found`, `expected` and `help`, in this order
+/// `finding`, `severity`, `code`, `file`, `index`, `in`, `byte`, `line`, `found`, `expected` and `help`, in this order
 /// and without blanks (docs/FORMAT.md, 2.8), and without a line feed. What does not apply is left
 /// out, and `file` where none is named. Errs only when out of memory.
 ///
@@ -76,8 +76,7 @@ fn put_place(out: &mut Writer, place: Place) -> Result<(), AllocError>
     put_number_if(out, "index", index_in(place))?;
     put_text_if(out, "in", part_in(place))?;
     put_number_if(out, "byte", byte_in(place))?;
-    put_number_if(out, "line", line_in(place))?;
-    put_number_if(out, "element", element_in(place))
+    put_number_if(out, "line", line_in(place))
 }
 
 /// Writes what is found, what is expected, what helps, and how many more there are.
@@ -119,10 +118,6 @@ fn place_parts(alloc: Global, place: Place) -> Result<Vec<String>, AllocError>
     add_text(alloc, &mut parts, part_in(place))?;
     add(&mut parts, number_words(alloc, "byte ", byte_in(place))?)?;
     add(&mut parts, number_words(alloc, "line ", line_in(place))?)?;
-    add(
-        &mut parts,
-        number_words(alloc, "element ", element_in(place))?,
-    )?;
     Ok(parts)
 }
 
@@ -160,9 +155,8 @@ fn part_in(place: Place) -> Option<&'static str>
     ensures { text_of result ≡ part_in place }
 {
     match place {
-        Place::MessageByte(_) => Some("message"),
         Place::FooterByte(_) => Some("footer"),
-        Place::Element(_) => Some("elements"),
+        Place::Elements(_) => Some("elements"),
         _ => None,
     }
 }
@@ -172,11 +166,9 @@ fn byte_in(place: Place) -> Option<u64>
     ensures { result ≡ byte_in place }
 {
     match place {
-        Place::LineByte(_, byte)
-        | Place::Byte(byte)
-        | Place::MessageByte(byte)
-        | Place::FooterByte(byte) => Some(byte),
-        Place::File | Place::Line(_) | Place::Element(_) | Place::Column(_) => None,
+        Place::LineByte(_, byte) | Place::Byte(byte) | Place::FooterByte(byte) => Some(byte),
+        Place::Elements(byte) => byte,
+        Place::File | Place::Line(_) | Place::Column(_) => None,
     }
 }
 
@@ -186,16 +178,6 @@ fn line_in(place: Place) -> Option<u64>
 {
     match place {
         Place::Line(line) | Place::LineByte(line, _) => Some(line),
-        _ => None,
-    }
-}
-
-/// The element of a place.
-fn element_in(place: Place) -> Option<u64>
-    ensures { result ≡ element_in place }
-{
-    match place {
-        Place::Element(element) => Some(element),
         _ => None,
     }
 }

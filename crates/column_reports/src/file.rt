@@ -6,15 +6,16 @@ ghost use Rattle.arrow_columns.specs.Column.{column_tree};
 ghost use Rattle.column_check.specs.States.{is_invalid, is_geometry};
 ghost use Rattle.geoparquet.specs.Facts.{facts_view};
 ghost use Rattle.column_reports.specs.Named.{all_known, named_view};
-ghost use Rattle.column_reports.specs.FileReport.{AreReported, IsReport, Reports};
+ghost use Rattle.column_reports.specs.FileReport.{AreReported, is_lines, IsReport, Reports};
 ghost use Rattle.column_reports.specs.Summary.{has_error};
 ghost use Rattle.column_reports.specs.Weights.{plain, weighing};
 
+use crate::capped::kept_of_file;
 use crate::gathered::of_file;
 use crate::geo::source_of;
 use crate::lines::json_lines;
 use crate::named::{Named, named_in};
-use crate::report::{ColumnReport, Options, column_with};
+use crate::report::{ColumnReport, Known, Options, column_with};
 use crate::summary::{Summary, has_error};
 use crate::weighed::{Weighed, weigh};
 use crate::weights::Weights;
@@ -33,7 +34,8 @@ pub struct FileReport<'a> {
     /// Its columns, by its GeoParquet metadata (docs/FORMAT.md, 5.2), each with what is said of it.
     pub columns: Vec<ColumnReport>,
     /// What is found of the file and shown: of the texts of its footer (docs/FORMAT.md, 4.3), then of its
-    /// schemas and keys (4.5), then of its GeoParquet metadata (5).
+    /// schemas and keys (4.5), then of its GeoParquet metadata (5). Of one code at most a hundred, and
+    /// sixteen that name one column.
     pub findings: Vec<Weighed<'a>>,
     /// Of lines, those that are not blank and denote no column (docs/FORMAT.md, 2.7).
     pub bad_lines: BadLines,
@@ -90,8 +92,11 @@ pub fn weighed_report<'a>(
     let named = named_in(alloc, columns.as_slice(), elements.as_slice(), flags)?;
     let answer = inspect_geo(alloc, source, columns, elements.as_slice())?;
     let found = of_file(alloc, form, texts, findings, answer.report)?;
-    let findings = weigh(alloc, weights, found)?;
-    let columns = report_columns(alloc, answer.columns, answer.facts, named, infer, weights)?;
+    let shown = weigh(alloc, weights, found)?;
+    let findings = kept_of_file(alloc, shown)?;
+    let alone = is_lines(form);
+    let (columns, facts) = (answer.columns, answer.facts);
+    let columns = report_columns(alloc, columns, facts, named, alone, infer, weights)?;
     let bad = bad_lines.first.as_slice();
     let summary = summary_of(columns.as_slice(), findings.as_slice(), bad);
     Ok(FileReport {
@@ -103,23 +108,37 @@ pub fn weighed_report<'a>(
     })
 }
 
-/// Returns the reports of columns of those facts, which have their extension names by those, in order.
+/// Whether a file is of lines, which tell nothing of a column but in its report.
+fn is_lines(form: Form) -> bool
+    ensures { result ≡ is_lines form }
+{
+    matches!(form, Form::Lines)
+}
+
+/// Returns the reports of columns of those facts, which have their extension names by those, in order,
+/// each alone or in a file that tells what is found of its claims.
 /// Errs only when out of memory.
 fn report_columns(
     alloc: Global,
     columns: Vec<SchemaColumn>,
     facts: Vec<ColumnFacts>,
     named: Vec<Named<'_>>,
+    alone: bool,
     infer: bool,
     weights: &Weights,
 ) -> Result<Vec<ColumnReport>, AllocError>
-    ensures { IfOk result (λ reported. AreReported infer (weighing weights.now) (zip (map column_tree columns.items) (all_known (map facts_view facts.items) (map named_view named.entry.items))) reported.items) }
+    ensures { IfOk result (λ reported. AreReported infer (weighing weights.now) alone (zip (map column_tree columns.items) (all_known (map facts_view facts.items) (map named_view named.entry.items))) reported.items) }
 {
     let mut scratch = Scratch::new(alloc);
     let mut reported = Vec::new(alloc);
     let known = facts.into_iter().zip(named.into_iter());
     for (column, (facts, named)) in columns.into_iter().zip(known) {
-        let said = column_with(alloc, &mut scratch, column, facts, named, infer, weights)?;
+        let about = Known {
+            facts,
+            named,
+            alone,
+        };
+        let said = column_with(alloc, &mut scratch, column, about, infer, weights)?;
         reported.push(said)?;
     }
     Ok(reported)

@@ -2,12 +2,12 @@
 ghost use Rattle.std.specs.Prelude.{◌≡◌, map, option_map, string_bytes};
 ghost use Rattle.arrow_values.specs.Texts.{text_of};
 ghost use Rattle.column_reports.specs.Found.{code_in, column_in, path_in};
-ghost use Rattle.column_reports.specs.Found.{column_part, own_part, own_pointer, geo_part, geo_pointer, part_in, pointer_in, byte_in, more_in};
+ghost use Rattle.column_reports.specs.Found.{column_part, own_pointer, geo_part, geo_pointer, part_in, pointer_in, byte_in, more_in};
 
 use crate::code::Code;
 use crate::named::NamedBy;
 use column_check::Warning;
-use geoparquet::{GeoCode, GeoFinding, Version};
+use geoparquet::{FactSource, GeoCode, GeoFinding, Version};
 use parquet_columns::FileFinding;
 use parquet_footer::FooterFinding;
 
@@ -71,9 +71,9 @@ impl<'a> Finding<'a> {
     {
         match self {
             Finding::Column(by, warning) => Some(column_part(*by, &warning.pointer)),
-            Finding::Text(_) => Some("footer"),
+            Finding::Text(finding) => Some(finding.code.part()),
             Finding::File(finding) => Some(finding.place.part.text()),
-            Finding::Geo(_, finding) => Some(geo_part(finding.code, finding.pointer.as_str())),
+            Finding::Geo(_, finding) => Some(geo_part(finding.source, finding.code)),
         }
     }
 
@@ -85,7 +85,9 @@ impl<'a> Finding<'a> {
         match self {
             Finding::Column(_, warning) => warning.pointer.as_deref(),
             Finding::Text(_) | Finding::File(_) => None,
-            Finding::Geo(_, finding) => geo_pointer(finding.code, finding.pointer.as_str()),
+            Finding::Geo(_, finding) => {
+                geo_pointer(finding.source, finding.code, finding.pointer.as_str())
+            }
         }
     }
 
@@ -124,53 +126,40 @@ fn column_part(by: NamedBy, pointer: &Option<String>) -> &'static str
     }
 }
 
-/// The part of a finding that is in no place of the metadata of GeoParquet: the file, where it has
-/// none; what the field says against the element, without a member of `columns`; or those metadata as
-/// a whole.
-fn own_part(code: GeoCode) -> &'static str
-    ensures { result.now ≡ own_part code }
+/// The part of a finding of `geoparquet`, by the source that it is found in: those metadata, or the
+/// file, where it has none; the elements; the field, or its extension metadata.
+fn geo_part(source: FactSource, code: GeoCode) -> &'static str
+    ensures { result.now ≡ geo_part source code }
 {
-    match code {
-        GeoCode::NoMetadata => "file",
-        GeoCode::EncodingContradicts => "field",
-        GeoCode::CrsContradicts
-        | GeoCode::CrsNotCompared
-        | GeoCode::EdgesContradict
-        | GeoCode::EdgesOnProjected => "extension metadata",
-        _ => "geo",
+    match (source, code) {
+        (FactSource::Element, _) => "elements",
+        (FactSource::Field, GeoCode::EncodingContradicts) => "field",
+        (FactSource::Field, _) => "extension metadata",
+        (FactSource::Geo, GeoCode::NoMetadata) => "file",
+        (FactSource::Geo, _) => "geo",
     }
 }
 
-/// Where such a finding is in that part.
+/// Where a finding is in what an element or a field says.
 fn own_pointer(code: GeoCode) -> Option<&'static str>
     ensures { text_of result ≡ own_pointer code }
 {
     match code {
-        GeoCode::NoMetadata | GeoCode::EncodingContradicts => None,
+        GeoCode::EncodingContradicts => None,
         GeoCode::CrsContradicts | GeoCode::CrsNotCompared => Some("/crs"),
-        GeoCode::EdgesContradict | GeoCode::EdgesOnProjected => Some("/edges"),
-        _ => Some(""),
+        _ => Some("/edges"),
     }
-}
-
-/// The part of a finding of `geoparquet`, by its place in the metadata of GeoParquet.
-fn geo_part(code: GeoCode, pointer: &str) -> &'static str
-    ensures { result.now ≡ geo_part code pointer.now }
-{
-    if pointer.is_empty() {
-        return own_part(code);
-    }
-    "geo"
 }
 
 /// Where a finding of `geoparquet` is in its part.
-fn geo_pointer(code: GeoCode, pointer: &str) -> Option<&str>
-    ensures { text_of result ≡ geo_pointer code pointer.now }
+fn geo_pointer(source: FactSource, code: GeoCode, pointer: &str) -> Option<&str>
+    ensures { text_of result ≡ geo_pointer source code pointer.now }
 {
-    if pointer.is_empty() {
-        return own_pointer(code);
+    match (source, code) {
+        (FactSource::Geo, GeoCode::NoMetadata) => None,
+        (FactSource::Geo, _) => Some(pointer),
+        (FactSource::Element | FactSource::Field, _) => own_pointer(code),
     }
-    Some(pointer)
 }
 
 /// A number of 64 bits, if there is one.

@@ -24,19 +24,20 @@ use value_tokens::text_of;
 /// let finding = GeoFinding {
 ///     code: GeoCode::Version,
 ///     column: None,
+///     source: FactSource::Geo,
 ///     pointer: String::from_str(alloc, "/version")?,
 ///     found: Some(String::from_str(alloc, "1")?),
 ///     wanted: None,
 ///     more: 0,
 /// };
 /// let finding = Finding::Geo(Version::V1_1, finding);
-/// let line = finding_line(alloc, None, &Weighed { severity: Severity::Error, finding })?;
+/// let line = finding_line(alloc, None, &Weighed { severity: Severity::Error, more: 0, finding })?;
 /// let text = r#"{"kind":"finding","severity":"error","code":"GeoVersion","in":"geo","pointer":"/version","found":"1","expected":"1.1.0","help":"The rules of 1.1.0 are used."}"#;
 /// assert_eq!(rt; line.as_str(), text);
 ///
 /// let text = FooterText { bytes: &[0xff, b'a'], byte: 8 };
 /// let finding = Finding::Text(FooterFinding { code: FooterCode::KeyNotText, text });
-/// let note = Weighed { severity: Severity::Note, finding };
+/// let note = Weighed { severity: Severity::Note, more: 0, finding };
 /// let line = finding_line(alloc, Some("a.parquet"), &note)?;
 /// let text = r#"{"kind":"finding","severity":"note","code":"KeyNotText","file":"a.parquet","in":"footer","byte":8,"found":"\\xffa","expected":"UTF-8","help":"It is passed over."}"#;
 /// assert_eq!(rt; line.as_str(), text);
@@ -86,7 +87,7 @@ fn put_finding(
     out.begin_object()?;
     put_rule(out, kind, file, found)?;
     put_place(out, &found.finding)?;
-    put_words(alloc, out, &found.finding)?;
+    put_words(alloc, out, found)?;
     out.end_object()
 }
 
@@ -128,16 +129,17 @@ fn put_path(out: &mut Writer, path: &[String]) -> Result<(), AllocError>
 }
 
 /// Writes what is found, what is expected, what helps, and how many more there are.
-fn put_words(alloc: Global, out: &mut Writer, finding: &Finding<'_>) -> Result<(), AllocError>
-    ensures { OnOk result (AddsMembers (words_members finding.now) out.old out.new) }
+fn put_words(alloc: Global, out: &mut Writer, weighed: &Weighed<'_>) -> Result<(), AllocError>
+    ensures { OnOk result (AddsMembers (words_members weighed.now) out.old out.new) }
 {
+    let finding = &weighed.finding;
     let found = finding.found(alloc)?;
     let expected = finding.expected(alloc)?;
     let help = finding.help(alloc)?;
     put_text_if(out, "found", found.as_deref())?;
     put_text(out, "expected", expected.as_str())?;
     put_text_if(out, "help", help.as_deref())?;
-    put_more(out, finding.more())
+    put_more(out, weighed.more)
 }
 
 /// Writes how many more there are, if there are any.

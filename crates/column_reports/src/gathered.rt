@@ -87,13 +87,6 @@ fn is_behind(code: WarningCode) -> bool
             | WarningCode::CrsWithoutType
             | WarningCode::CrsNumber
             | WarningCode::CrsNotWhole
-            | WarningCode::CoordinatesNotFloat
-            | WarningCode::CoordinatesNotDouble
-            | WarningCode::AxisOrder
-            | WarningCode::AxisNames
-            | WarningCode::NullableInner
-            | WarningCode::UnionMode
-            | WarningCode::NestedGeometry
     )
 }
 

@@ -10,6 +10,8 @@
 mod bad_lines;
 mod beside;
 mod bytes;
+mod capped;
+mod claims;
 mod code;
 mod fact_members;
 mod fault;
@@ -32,6 +34,7 @@ mod weights;
 mod words;
 
 pub use bad_lines::bad_line_lines;
+pub use capped::{all_findings_count, few_findings_stay};
 pub use code::Code;
 pub use fault::{fault_line, fault_words};
 pub use file::{FileReport, report_file, report_of, weighed_report};

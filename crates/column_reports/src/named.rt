@@ -1,6 +1,7 @@
 //! Who gives a column its extension name and metadata, and what its element says beside them.
 ghost use Rattle.std.specs.Prelude.{◌≡◌, ◌∷◌, ◌++◌, IfOk, List, OnOk, map, option_map};
-ghost use Rattle.arrow_columns.specs.Column.{ColumnTree, column_tree, name_on};
+ghost use Rattle.arrow_columns.specs.Column.{column_tree, name_on};
+ghost use Rattle.arrow_columns.specs.Types.{ColumnTree};
 ghost use Rattle.parquet_columns.specs.Layouts.{root_element};
 ghost use Rattle.geoparquet.specs.Sources.{with_elements};
 ghost use Rattle.arrow_values.specs.Texts.{text_of};

@@ -1,12 +1,15 @@
 //! What is said of a column, as one value.
-ghost use Rattle.std.specs.Prelude.{IfOk};
+ghost use Rattle.std.specs.Prelude.{IfOk, true};
 ghost use Rattle.arrow_columns.specs.Column.{column_tree};
 ghost use Rattle.geoparquet.specs.Facts.{facts_view};
+ghost use Rattle.column_reports.specs.Claims.{AreClaims};
 ghost use Rattle.column_reports.specs.Columns.{IsFoundBy, IsColumnReport};
 ghost use Rattle.column_reports.specs.Named.{known, known_alone, named_view};
 ghost use Rattle.column_reports.specs.Weights.{plain, weighing};
 
 use crate::beside::warnings_beside;
+use crate::capped::kept_of_column;
+use crate::claims::{Claimed, claims_of};
 use crate::gathered::of_column;
 use crate::named::{Named, NamedBy};
 use crate::weighed::{Weighed, weigh};
@@ -40,6 +43,8 @@ pub struct ColumnReport {
     pub facts: ColumnFacts,
     /// What is found of it and shown: of why it is invalid and of what is doubtful, as `warnings` of
     /// `column_check` answers it; and that the CRS that its element says beside it is no PROJJSON.
+    /// Of a column of lines what is found of its claims, too (docs/FORMAT.md, 5). Of one code at most
+    /// sixteen.
     pub findings: Vec<Weighed<'static>>,
 }
 
@@ -65,7 +70,7 @@ pub fn report_column(
     column: SchemaColumn,
     options: Options,
 ) -> Result<ColumnReport, AllocError>
-    ensures { IfOk result (IsColumnReport options.infer (plain options.notes) (column_tree column) (known_alone (column_tree column))) }
+    ensures { IfOk result (IsColumnReport options.infer (plain options.notes) true (column_tree column) (known_alone (column_tree column))) }
 {
     let weights = Weights::new(alloc, options.notes);
     weighed_column(alloc, scratch, column, options.infer, &weights)
@@ -81,35 +86,71 @@ pub fn weighed_column(
     infer: bool,
     weights: &Weights,
 ) -> Result<ColumnReport, AllocError>
-    ensures { IfOk result (IsColumnReport infer (weighing weights.now) (column_tree column) (known_alone (column_tree column))) }
+    ensures { IfOk result (IsColumnReport infer (weighing weights.now) true (column_tree column) (known_alone (column_tree column))) }
 {
     let facts = field_facts(alloc, &column)?;
     let named = Named {
         by: NamedBy::Field,
         beside: None,
     };
-    column_with(alloc, scratch, column, facts, named, infer, weights)
+    let about = Known {
+        facts,
+        named,
+        alone: true,
+    };
+    column_with(alloc, scratch, column, about, infer, weights)
 }
 
-/// Returns a column of those facts, which has its extension name by that, and beside which its
-/// element says that, with what is said of it and what is found of it, as it counts by what is asked
-/// of findings. Errs only when out of memory.
+/// What is known of a column beside itself.
+#[derive(Drop)]
+pub(crate) struct Known<'e> {
+    /// Its facts.
+    pub(crate) facts: ColumnFacts,
+    /// Who gives it its extension name, and what its element says beside that.
+    pub(crate) named: Named<'e>,
+    /// Whether its report tells what is found of its claims, as no file does.
+    pub(crate) alone: bool,
+}
+
+/// Returns a column of which that is known with what is said of it and what is found of it, as it
+/// counts by what is asked of findings. Errs only when out of memory.
 pub(crate) fn column_with(
     alloc: Global,
     scratch: &mut Scratch,
     column: SchemaColumn,
-    facts: ColumnFacts,
-    named: Named<'_>,
+    about: Known<'_>,
     infer: bool,
     weights: &Weights,
 ) -> Result<ColumnReport, AllocError>
-    ensures { IfOk result (IsColumnReport infer (weighing weights.now) (column_tree column) (known (facts_view facts, named_view named.entry))) }
+    ensures { IfOk result (IsColumnReport infer (weighing weights.now) about.entry.alone (column_tree column) (known (facts_view about.entry.facts, named_view about.entry.named))) }
 {
+    let claimed = claims_of(alloc, about.alone, column)?;
+    claimed_column(alloc, scratch, claimed, about, infer, weights)
+}
+
+/// Returns a column of which that is known with what is said of it and what is found of it, behind
+/// which stands what is found of its claims. Errs only when out of memory.
+fn claimed_column(
+    alloc: Global,
+    scratch: &mut Scratch,
+    claimed: Claimed,
+    about: Known<'_>,
+    infer: bool,
+    weights: &Weights,
+) -> Result<ColumnReport, AllocError>
+    ensures { AreClaims about.entry.alone (column_tree claimed.column) claimed.findings.items
+        → IfOk result (IsColumnReport infer (weighing weights.now) about.entry.alone (column_tree claimed.column) (known (facts_view about.entry.facts, named_view about.entry.named))) }
+{
+    let Claimed { column, findings } = claimed;
+    let Known { facts, named, .. } = about;
     let finding = said_of(alloc, scratch, &column, named.by, infer)?;
     let own = warnings(alloc, &column, &finding, true)?;
     let beside = warnings_beside(alloc, scratch, named.beside)?;
-    let told = of_column(alloc, named, &facts, &column, own, beside)?;
-    let findings = weigh(alloc, weights, told)?;
+    let mut told = of_column(alloc, named, &facts, &column, own, beside)?;
+    let mut claims = findings;
+    told.append(&mut claims)?;
+    let shown = weigh(alloc, weights, told)?;
+    let findings = kept_of_column(alloc, shown)?;
     Ok(ColumnReport {
         column,
         by: named.by,

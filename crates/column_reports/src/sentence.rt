@@ -19,20 +19,21 @@ use std::alloc::{AllocError, Global};
 /// let found = Some(String::from_str(alloc, "nullable")?);
 /// let code = WarningCode::NullableInner;
 /// let finding = Finding::Column(NamedBy::Field, Warning { code, path, pointer: None, found, wanted: None, more: 4 });
-/// let finding = Weighed { severity: Severity::Warning, finding };
+/// let finding = Weighed { severity: Severity::Warning, more: 4, finding };
 /// let text = "warning[NullableInner] at rings.vertices, field, and 4 more: found nullable; expected not null";
 /// assert_eq!(rt; finding_words(alloc, &finding)?.as_str(), text);
 ///
 /// let finding = GeoFinding {
 ///     code: GeoCode::Epoch,
 ///     column: Some(String::from_str(alloc, "geom")?),
+///     source: FactSource::Geo,
 ///     pointer: String::from_str(alloc, "/columns/geom/epoch")?,
 ///     found: Some(String::from_str(alloc, "\"2020\"")?),
 ///     wanted: None,
 ///     more: 0,
 /// };
 /// let finding = Finding::Geo(Version::V1_1, finding);
-/// let words = finding_words(alloc, &Weighed { severity: Severity::Error, finding })?;
+/// let words = finding_words(alloc, &Weighed { severity: Severity::Error, more: 0, finding })?;
 /// let text = "error[GeoEpoch] column geom, geo /columns/geom/epoch: found \"2020\"; expected a number. A number has no quotes.";
 /// assert_eq!(rt; words.as_str(), text);
 /// ```
@@ -42,7 +43,7 @@ pub fn finding_words(alloc: Global, found: &Weighed<'_>) -> Result<String, Alloc
     let finding = &found.finding;
     let severity = found.severity.word();
     let word = finding.code().word();
-    let parts = place_parts(alloc, finding)?;
+    let parts = place_parts(alloc, found)?;
     let place = placed(alloc, parts.as_slice())?;
     let said = said_words(alloc, finding)?;
     format!(in alloc; "{severity}[{word}]{place}: {said}")
@@ -60,9 +61,10 @@ pub(crate) fn placed(alloc: Global, parts: &[String]) -> Result<String, AllocErr
 }
 
 /// The parts of the place of a finding.
-fn place_parts(alloc: Global, finding: &Finding<'_>) -> Result<Vec<String>, AllocError>
-    ensures { IfOk result (λ parts. map string_bytes parts.items ≡ place_parts finding.now) }
+fn place_parts(alloc: Global, found: &Weighed<'_>) -> Result<Vec<String>, AllocError>
+    ensures { IfOk result (λ parts. map string_bytes parts.items ≡ place_parts found.now) }
 {
+    let finding = &found.finding;
     let mut parts = Vec::new(alloc);
     add(&mut parts, column_words(alloc, finding.column())?)?;
     add(&mut parts, path_words(alloc, finding.path())?)?;
@@ -71,7 +73,7 @@ fn place_parts(alloc: Global, finding: &Finding<'_>) -> Result<Vec<String>, Allo
         part_words(alloc, finding.part(), finding.pointer())?,
     )?;
     add(&mut parts, byte_words(alloc, finding.byte())?)?;
-    add(&mut parts, more_words(alloc, finding.more())?)?;
+    add(&mut parts, more_words(alloc, found.more)?)?;
     Ok(parts)
 }
 

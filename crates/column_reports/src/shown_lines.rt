@@ -13,7 +13,7 @@ use std::alloc::{AllocError, Global};
 /// ```rust
 /// let text = FooterText { bytes: &[0xff], byte: 8 };
 /// let finding = Finding::Text(FooterFinding { code: FooterCode::KeyNotText, text });
-/// let findings = vec![in alloc; Weighed { severity: Severity::Note, finding }]?;
+/// let findings = vec![in alloc; Weighed { severity: Severity::Note, more: 0, finding }]?;
 /// let lines = finding_lines(alloc, None, findings.as_slice())?;
 /// assert_eq!(rt; lines.as_str().lines().count(), 1);
 /// ```

@@ -13,6 +13,8 @@ use std::alloc::{AllocError, Global};
 pub struct Weighed<'a> {
     /// How much it counts: as its code weighs, or as an error where it is denied.
     pub severity: Severity,
+    /// How many more it stands for, which are not told one by one.
+    pub more: usize,
     /// What is found.
     pub finding: Finding<'a>,
 }
@@ -52,7 +54,12 @@ fn add_weighed<'a>(
 {
     let code = finding.code();
     if let Some(severity) = weights.severity_of(code.word(), code.severity()) {
-        all.push(Weighed { severity, finding })?;
+        let more = finding.more();
+        all.push(Weighed {
+            severity,
+            more,
+            finding,
+        })?;
     }
     Ok(())
 }

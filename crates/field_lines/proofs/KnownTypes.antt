@@ -2,14 +2,15 @@
 use Rattle.std.proofs.Common.{◌≡◌, [], ◌∷◌, Bool, Option, Some, None, IsUtf8, option_and_then, option_map, cond, refl, sym, ap, ◌∙◌}
 use Rattle.std.proofs.lemmas.Option.{none-some}
 use Rattle.field_lines.proofs.Terms.{false_from_ne_true, IsUtf8-from_is_utf8, is_utf8-from_IsUtf8, is_utf8, Data, object, read, Text, Metadata, Tree, FieldTree, field_tree, field_from, field_of_value, column_type, column_from, column_of_value, column_of_line, other_value, parts_in}
-use Rattle.arrow_columns.specs.Column.{ColumnTree, TypeTree, known, other, column_of}
+use Rattle.arrow_columns.specs.Column.{column_of}
+use Rattle.arrow_columns.specs.Types.{ColumnTree, TypeTree, known, other, leaf}
 use Rattle.field_lines.proofs.Round.{texts_in-value}
 use Rattle.field_lines.proofs.TokenMembers.{field_of_parts_in, column_of_parts_in}
 
 -- the field of a column whose type is known
 abbrev of_type : ColumnTree → TypeTree → Option FieldTree
 of_type c (known t) = Some (field_tree c.name t c.nullable c.metadata)
-of_type c (other notation) = None
+of_type c (other s g ids ps) = None
 
 abbrev known_field : ColumnTree → Option FieldTree
 known_field c = of_type c c.data_type
@@ -44,7 +45,7 @@ column_field _ f is = absurd (none-some (column_of f) is)
 
 -- the value of another type denotes its column
 abbrev pub other_column : Text → Text → Bool → Metadata → ColumnTree
-other_column n u b m = record { name = n; data_type = other u; nullable = b; metadata = m }
+other_column n u b m = record { name = n; data_type = leaf u; nullable = b; metadata = m }
 
 pub other_read : (n u : Text) (b : Bool) (m : Metadata) → column_of_value (other_value n u b m) ≡ Some (other_column n u b m)
 other_read n u b [] = refl

@@ -5,7 +5,7 @@ use Rattle.serde_json.specs.Data.{Data, object, no_members, member}
 use Rattle.serde_json.specs.Find.{get_member, as_str, as_bool}
 use Rattle.serde_json.specs.Read.{read}
 use Rattle.arrow_values.specs.Tree.{Text, Metadata, Tree}
-use Rattle.arrow_columns.specs.Column.{TypeTree, known, other, ColumnTree}
+use Rattle.arrow_columns.specs.Types.{TypeTree, known, leaf, ColumnTree}
 use Rattle.field_lines.specs.FieldOfValue.{under, metadata_of_value, type_of_value}
 
 -- another type is an object with the single key `other`, at which its notation stands, a text
@@ -16,7 +16,7 @@ other_of_value _ = None
 -- one of the 26 types, or another by its notation
 abbrev pub column_type : Option Tree → Option Text → Option TypeTree
 column_type (Some t) notation = Some (known t)
-column_type None notation = option_map other notation
+column_type None notation = option_map leaf notation
 
 abbrev pub column_type_of_value : Data → Option TypeTree
 column_type_of_value d = column_type (type_of_value d) (other_of_value d)

@@ -11,7 +11,7 @@ use Rattle.serde_json.specs.Written.{outline, members_outline}
 use Rattle.arrow_values.specs.Tree.{Text, Metadata, Tree, FieldTree}
 use Rattle.arrow_values.specs.Union.{is_type_id}
 use Rattle.arrow_values.specs.View.{tree, texts_of}
-use Rattle.arrow_columns.specs.Column.{ColumnTree}
+use Rattle.arrow_columns.specs.Types.{ColumnTree}
 use Rattle.field_lines.specs.FieldOfValue.{under, metadata_of_value, field_from, type_of_value, id_of_value, keyed_type, field_of_value, fields_of_value}
 use Rattle.field_lines.specs.ColumnOfValue.{other_of_value, column_type, column_from}
 use Rattle.field_lines.specs.declared.parts.Parts.{Parts}

@@ -5,7 +5,8 @@ ghost use Rattle.serde_json.specs.Data.{Data, Members, put, depth};
 ghost use Rattle.serde_json.specs.Read.{read, max_depth};
 ghost use Rattle.serde_json.specs.Written.{compact_text, has_float};
 ghost use Rattle.arrow_values.specs.Tree.{Text, Metadata, FieldTree, field_tree, plain, null};
-ghost use Rattle.arrow_columns.specs.Column.{other, column_of};
+ghost use Rattle.arrow_columns.specs.Column.{column_of};
+ghost use Rattle.arrow_columns.specs.Types.{leaf};
 ghost use Rattle.field_lines.specs.ColumnOfValue.{column_of_value};
 ghost use Rattle.field_lines.specs.Held.{is_held, members_are_held};
 ghost use Rattle.field_lines.specs.FieldOfValue.{field_of_value};
@@ -38,7 +39,7 @@ pub fn field_is_column()
 #[tactic(auto, using(crate::proofs::KnownTypes::other_read))]
 pub fn written_other_is_read()
     ensures { (name notation : Text) (nullable : Bool) (m : Metadata) → column_of_value (other_value name notation nullable m)
-        ≡ Some (record { name = name; data_type = other notation; nullable = nullable; metadata = m }) }
+        ≡ Some (record { name = name; data_type = leaf notation; nullable = nullable; metadata = m }) }
 {}
 
 /// A law: a value that has no ignored key and no empty metadata, at any depth, and denotes a field is the value that

@@ -79,7 +79,10 @@ fn any_type(
         return Ok(Some(AnyType::Data(data_type)));
     }
     match notation {
-        Some(notation) => Ok(Some(AnyType::Other(String::from_str(alloc, notation)?))),
+        Some(notation) => {
+            let notation = String::from_str(alloc, notation)?;
+            Ok(Some(AnyType::leaf(alloc, notation)))
+        }
         None => Ok(None),
     }
 }

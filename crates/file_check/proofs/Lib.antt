@@ -1,6 +1,7 @@
 pub mod Marks
 pub mod Parts
 pub mod Blanks
+pub mod Fits
 pub mod Rows
 pub mod Wanted
 pub mod Made

@@ -2,7 +2,8 @@
 use Rattle.std.specs.Prelude.{List, [], ◌++◌, codes, map, Option, None, Some, option_map}
 use Rattle.std.specs.Option.{unwrap_or}
 use Rattle.arrow_values.specs.Tree.{Text}
-use Rattle.arrow_columns.specs.Column.{ColumnTree, column_tree, name_on}
+use Rattle.arrow_columns.specs.Column.{column_tree, name_on}
+use Rattle.arrow_columns.specs.Types.{ColumnTree}
 use Rattle.column_check.specs.declared.finding.Finding.{Finding as ColumnFinding}
 use Rattle.column_check.specs.declared.finding.Finding.TheVariants.{Geometry, Invalid, Extension, Inferred, Plain}
 use Rattle.column_check.specs.declared.finding.Reasons.TheVariants.{Unread}

@@ -1,7 +1,8 @@
 -- The table of the columns of a file, as text.
-use Rattle.std.specs.Prelude.{ℕ, ◌-◌, max, List, [], ◌∷◌, ◌++◌, length, replicate, take, nat_lt, codes, map, flat_map, string_bytes, if◌then◌else◌}
+use Rattle.std.specs.Prelude.{ℕ, ◌-◌, ◌==◌, false, max, unwrap_or, List, [], ◌∷◌, ◌++◌, replicate, nat_lt, codes, map, flat_map, string_bytes, if◌then◌else◌}
 use Rattle.std.specs.Str.{chars, encode_utf8_all, trim_end}
 use Rattle.arrow_values.specs.Tree.{Text}
+use Rattle.unicode_width.specs.Width.{char_width, str_width}
 use Rattle.file_check.specs.declared.table.Row.{Row}
 use Rattle.file_check.specs.declared.table.Rooms.{Rooms}
 
@@ -26,13 +27,26 @@ line_of row = record {
 abbrev pub head : Line
 head = record { name = codes "column"; holds = codes "holds"; crs = codes "CRS"; edges = codes "edges"; notes = [] }
 
--- how many characters a text has
+-- how many columns of a terminal a text takes
 abbrev pub width : Text → ℕ
-width text = length (chars text)
+width text = str_width false (chars text)
 
--- a text as a cell, which has at most 40 characters: of a longer one the first 38, and two points
+-- how many a character takes at most; U+FE0F may widen the one before it by one
+abbrev pub room_of : ℕ → ℕ
+room_of c = if c == 0xFE0F then 1 else unwrap_or (char_width false c) 0
+
+-- the first characters of a text, as many as have room in so many columns
+abbrev pub fitting : ℕ → List ℕ → List ℕ
+fitting room [] = []
+fitting room (c ∷ cs) = if nat_lt room (room_of c) then [] else c ∷ fitting (room - room_of c) cs
+
+-- a text as a cell of so many columns: of a wider one the first characters, and two points
+abbrev pub cut_to : ℕ → Text → Text
+cut_to room text = if nat_lt room (width text) then encode_utf8_all (fitting (room - 2) (chars text)) ++ codes ".." else text
+
+-- a text as a cell, which has at most 40 columns
 abbrev pub cut : Text → Text
-cut text = if nat_lt 40 (width text) then encode_utf8_all (take 38 (chars text)) ++ codes ".." else text
+cut text = cut_to 40 text
 
 -- the width of the widest of some cells
 abbrev pub widest : List Text → ℕ

@@ -5,7 +5,8 @@ use Rattle.std.specs.declared.vec.Vec.{Vec}
 use Rattle.std.specs.declared.alloc.Global.{Global}
 use Rattle.json.specs.Json.{Json}
 use Rattle.arrow_values.specs.Tree.{Text}
-use Rattle.arrow_columns.specs.Column.{ColumnTree, column_tree}
+use Rattle.arrow_columns.specs.Column.{column_tree}
+use Rattle.arrow_columns.specs.Types.{ColumnTree}
 use Rattle.arrow_columns.specs.Notation.{type_text}
 use Rattle.column_check.specs.Shown.{shown, shown_value}
 use Rattle.column_check.specs.Severities.{is_error_of}

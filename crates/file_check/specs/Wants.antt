@@ -1,5 +1,6 @@
 -- What a column is expected to hold, and what is not met of it.
-use Rattle.std.specs.Prelude.{◌≡◌, ◌⊎◌, ◌==◌, ⊤, Bool, true, false, option_map, string_bytes, List, [], ◌∷◌, ◌++◌, length, codes, Option, None, Some, if◌then◌else◌}
+use Rattle.std.specs.Prelude.{◌≡◌, ◌⊎◌, ◌==◌, ⊤, Bool, true, false, IsTrue, map, option_map, string_bytes, List, [], ◌∷◌, ◌++◌, length, codes, Option, None, Some, if◌then◌else◌}
+use Rattle.std.specs.Char.{to_ascii_lowercase}
 use Rattle.std.specs.List.{All, slice_split}
 use Rattle.arrow_values.specs.Tree.{Text}
 use Rattle.geoarrow_layout.specs.declared.native_kinds.Kind.{Kind}
@@ -8,7 +9,8 @@ use Rattle.geoarrow_layout.specs.Kinds.{coord_type_of, dimension_of}
 use Rattle.geoarrow_layout.specs.KindWords.{kind_word, coord_type_word, dimension_word}
 use Rattle.column_check.specs.States.{geometry_in}
 use Rattle.column_check.specs.declared.finding.Geometry.{Geometry as GeometryColumn}
-use Rattle.geoparquet.specs.Facts.{FactsOf, facts_view}
+use Rattle.geoparquet.specs.Facts.{CrsOf, FactsOf, facts_view}
+use Rattle.same_columns.specs.Aspects.{is_of_crs}
 use Rattle.file_check.specs.declared.asked.Want.{Want}
 use Rattle.column_reports.specs.Report.{kind_text}
 use Rattle.column_reports.specs.declared.report.ColumnReport.{ColumnReport}
@@ -27,9 +29,22 @@ encoding_word (Wkb w) = codes "WKB"
 encoding_word (Wkt w) = codes "WKT"
 encoding_word k = codes "native"
 
--- a part is met by the CRS of geometries, their edges, their encoding, their kind, their coordinate type or their dimension
+-- letters of ASCII are alike
+abbrev pub IsAlike : Text → Text → Type 0
+IsAlike one other = map to_ascii_lowercase one ≡ map to_ascii_lowercase other
+
+-- a part is the word of the encoding, the kind, the coordinate type or the dimension of geometries
+abbrev pub IsWord : Kind → Text → Type 0
+IsWord k part = IsAlike part (encoding_word k) ⊎ (IsAlike part (kind_word k) ⊎ (IsAlike part (coord_type_word (coord_type_of k)) ⊎ IsAlike part (dimension_word (dimension_of k))))
+
+-- a part is their CRS, where they have one
+abbrev pub is_crs : Option CrsOf → Text → Bool
+is_crs None part = false
+is_crs (Some crs) part = is_of_crs crs part
+
+-- a part is met by the CRS of geometries, by their edges, or by a word of them
 abbrev pub Meets : Kind → FactsOf → Text → Type 0
-Meets k fs part = (part ≡ crs_that_counts fs) ⊎ ((part ≡ edges_that_count fs) ⊎ ((part ≡ encoding_word k) ⊎ ((part ≡ kind_word k) ⊎ ((part ≡ coord_type_word (coord_type_of k)) ⊎ (part ≡ dimension_word (dimension_of k))))))
+Meets k fs part = IsTrue (is_crs fs.crs part) ⊎ (IsAlike part (edges_that_count fs) ⊎ IsWord k part)
 
 -- what is said where a column holds no geometries
 abbrev pub no_geometries : Text → Text

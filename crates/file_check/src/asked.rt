@@ -15,6 +15,24 @@ pub struct Asked {
     pub wants: Vec<Want>,
     /// The files, `-` for standard input.
     pub files: Vec<String>,
+    /// How text is shown.
+    pub screen: Screen,
+}
+
+impl Asked {
+    /// Whether words of severities have a colour in what is printed.
+    pub(crate) fn is_colored(&self) -> bool {
+        self.screen.is_colored && matches!(self.flags.output(), Output::Table | Output::Errors)
+    }
+}
+
+/// How text is shown.
+#[derive(Debug, Clone, Copy)]
+pub struct Screen {
+    /// Whether words of severities have a colour.
+    pub is_colored: bool,
+    /// How many columns a line of a table has, where that is known.
+    pub width: Option<usize>,
 }
 
 /// What a column is expected to hold.

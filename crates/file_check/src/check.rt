@@ -36,7 +36,8 @@ pub struct Answer {
 /// ```rust
 /// let flags = Flags { format: file_check::Format::Json, lines: false, ipc: false, infer: false, quiet: false, problems: false, require_geometry: false, same: false };
 /// let weights = Weights::new(alloc, false);
-/// let asked = Asked { flags, weights, wants: Vec::new(alloc), files: Vec::new(alloc) };
+/// let screen = file_check::Screen { is_colored: false, width: None };
+/// let asked = Asked { flags, weights, wants: Vec::new(alloc), files: Vec::new(alloc), screen };
 /// let answer = check_bytes(alloc, &asked, "-", b"\xef\xbb\xbf{}")?;
 /// let line = b"{\"kind\":\"finding\",\"severity\":\"error\",\"code\":\"BadLine\",\"line\":1,\"found\":\"no string at \\\"name\\\"\",\"expected\":\"a string at \\\"name\\\"\"}\n";
 /// assert!(rt; answer.output.as_slice() == line.as_slice());

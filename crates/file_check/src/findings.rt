@@ -13,13 +13,14 @@ use std::alloc::{AllocError, Global};
 /// let finding = GeoFinding {
 ///     code: GeoCode::Version,
 ///     column: None,
+///     source: FactSource::Geo,
 ///     pointer: String::from_str(alloc, "/version")?,
 ///     found: Some(String::from_str(alloc, "1")?),
 ///     wanted: None,
 ///     more: 0,
 /// };
 /// let finding = Finding::Geo(Version::V1_1, finding);
-/// let findings = vec![in alloc; Weighed { severity: Severity::Error, finding }]?;
+/// let findings = vec![in alloc; Weighed { severity: Severity::Error, more: 0, finding }]?;
 /// let text = findings_text(alloc, findings.as_slice())?;
 /// let line = "error[GeoVersion] geo /version: found 1; expected 1.1.0. The rules of 1.1.0 are used.\n";
 /// assert_eq!(rt; text.as_str(), line);

@@ -23,6 +23,7 @@ mod said;
 mod same;
 mod sarif;
 mod schema;
+mod screen;
 mod summary;
 mod table;
 mod text;
@@ -30,7 +31,7 @@ mod told;
 mod unlike;
 mod wants;
 
-pub use asked::{Asked, Flags, Format, Output, Want};
+pub use asked::{Asked, Flags, Format, Output, Screen, Want};
 pub use cell::cut;
 pub use check::{Answer, check_bytes, check_file, check_source};
 pub use columns::row_of;

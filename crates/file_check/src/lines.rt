@@ -3,12 +3,12 @@
 use crate::asked::{Asked, Output};
 use crate::columns::{is_in_table, row_of};
 use crate::counted::Counted;
-use crate::findings::findings_text;
 use crate::names::named;
 use crate::numbers::{Numbers, Tally};
 use crate::print::{KEPT_BYTES, Made, named_table, print_made, push_line};
 use crate::refusal::{refuse, tell_bad_lines};
 use crate::said::{print_text, say};
+use crate::screen::shown_findings;
 use crate::table::{Row, row_bytes};
 use crate::told::{push_column, push_findings};
 use crate::wants::Found;
@@ -64,7 +64,7 @@ pub(crate) fn check_lines<'x, R: Read + Drop, W: Write, E: Write>(
     match report.add_all(lines, tally, out)? {
         None if report.bad_lines.is_empty() => {
             let found = report.found_text(tally)?;
-            tally.keep(asked, mem::replace(&mut report.reported, Vec::new(alloc)));
+            report.hand_over(tally);
             let mut made = report.made()?;
             made.text.push_str(found.as_str())?;
             print_made(alloc, asked, file, made, tally, out, err)
@@ -230,13 +230,19 @@ impl<'a> LineReport<'a> {
         Ok(self.text.push_str(lines.as_str())?)
     }
 
+    /// Gives the tally the columns, where files are to be the same.
+    fn hand_over(&mut self, tally: &mut Tally) {
+        let reported = mem::replace(&mut self.reported, Vec::new(self.alloc));
+        tally.keep(self.asked, reported);
+    }
+
     /// What is found of the file, as it is printed behind the columns and the bad lines.
     fn found_text(&self, tally: &mut Tally) -> Result<String, AllocError> {
         let findings = self.findings.as_slice();
         let mut text = String::new(self.alloc);
         match self.asked.flags.output() {
             Output::Json => return finding_lines(self.alloc, named(self.file), findings),
-            Output::Table => return findings_text(self.alloc, findings),
+            Output::Table => return shown_findings(self.alloc, self.asked, findings),
             Output::Errors | Output::Github | Output::Sarif => {
                 let (asked, file) = (self.asked, self.file);
                 push_findings(self.alloc, asked, file, None, findings, tally, &mut text)?;
@@ -265,6 +271,7 @@ impl<'a> LineReport<'a> {
         let (alloc, asked, file) = (report.alloc, report.asked, report.file);
         let bad_lines = mem::replace(&mut report.bad_lines, BadLines::new(alloc));
         let found = report.found_text(tally)?;
+        report.hand_over(tally);
         let made = report.made()?;
         print_text(asked, made.text.as_str(), tally, out)?;
         tell_bad_lines(alloc, asked, file, &bad_lines, tally, out, err)?;
@@ -283,7 +290,7 @@ impl<'a> LineReport<'a> {
             file,
             scratch: _,
             text,
-            rows,
+            mut rows,
             columns,
             reported: _,
             counted,
@@ -293,7 +300,13 @@ impl<'a> LineReport<'a> {
         } = self;
         let text = match asked.flags.output() {
             Output::Table => {
-                named_table(alloc, asked, file, rows.as_slice(), !findings.is_empty())?
+                named_table(
+                    alloc,
+                    asked,
+                    file,
+                    rows.as_mut_slice(),
+                    !findings.is_empty(),
+                )?
             }
             Output::Json
             | Output::Errors

@@ -8,6 +8,7 @@ use crate::asked::{Asked, Output};
 use crate::counted::Counted;
 use crate::numbers::Tally;
 use crate::said::{print_text, say};
+use crate::screen::dress;
 use crate::table::{Row, table_text};
 use crate::text::shown;
 use crate::told::Told;
@@ -129,7 +130,7 @@ pub(crate) fn named_table(
     alloc: Global,
     asked: &Asked,
     file: &str,
-    rows: &[Row],
+    rows: &mut [Row],
     has_findings: bool,
 ) -> Result<String, AllocError> {
     let mut text = String::new(alloc);
@@ -139,6 +140,7 @@ pub(crate) fn named_table(
         text.push_str(":\n")?;
     }
     if !is_left_out {
+        dress(alloc, asked, rows)?;
         text.push_str(table_text(alloc, rows)?.as_str())?;
     }
     Ok(text)

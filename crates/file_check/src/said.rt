@@ -79,7 +79,7 @@ fn said_text(
             Output::Github => github_line(alloc, file, one)?,
             Output::Sarif => sarif_result(alloc, file, one, tally)?,
             Output::Errors | Output::Table | Output::Json | Output::Lines | Output::Ipc => {
-                words_line(alloc, file, one)?
+                words_line(alloc, asked, file, one)?
             }
         };
         text.push_str(line.as_str())?;

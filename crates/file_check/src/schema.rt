@@ -5,10 +5,10 @@ ghost use Rattle.file_check.specs.Made.{IsPastTable, MakesText, MakesOf, MakesOf
 use crate::asked::{Asked, Output};
 use crate::columns::{is_in_table, row_of};
 use crate::counted::{Counted, found_in};
-use crate::findings::findings_text;
 use crate::names::named;
 use crate::numbers::{Numbers, Tally};
 use crate::print::{Made, named_table};
+use crate::screen::shown_findings;
 use crate::table::row_bytes;
 use crate::told::{push_column, push_findings};
 use arrow_columns::SchemaColumn;
@@ -129,7 +129,7 @@ fn table_of(
 ) -> Result<String, FileFault>
     ensures { IfErr result IsPastTable }
 {
-    let findings = findings_text(alloc, report.findings.as_slice())?;
+    let findings = shown_findings(alloc, asked, report.findings.as_slice())?;
     let mut rows = Vec::new(alloc);
     let mut size = findings.len() as u128;
     for said in &report.columns {
@@ -142,7 +142,13 @@ fn table_of(
             return Err(FileFault::ReportTooLarge);
         }
     }
-    let mut text = named_table(alloc, asked, file, rows.as_slice(), !findings.is_empty())?;
+    let mut text = named_table(
+        alloc,
+        asked,
+        file,
+        rows.as_mut_slice(),
+        !findings.is_empty(),
+    )?;
     text.push_str(findings.as_str())?;
     Ok(text)
 }

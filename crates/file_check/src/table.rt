@@ -8,7 +8,7 @@ use std::alloc::{AllocError, Global};
 /// How many bytes a line has room for before it grows.
 const LINE_BYTES: usize = 120;
 
-/// As many blanks as a cell has characters at most.
+/// As many blanks as a cell has columns of a terminal at most.
 const BLANKS: &str = "                                        ";
 
 /// What a table says of a column: the cells of its line, each a text that [`cut`](crate::cut) gives,
@@ -27,7 +27,7 @@ pub struct Row {
     pub notes: Vec<String>,
 }
 
-/// How many characters the widest cell of each column has, but for the last column.
+/// How many columns of a terminal the widest cell of each column has, but for the last column.
 #[derive(Clone, Copy)]
 pub(crate) struct Rooms {
     name: usize,
@@ -36,8 +36,8 @@ pub(crate) struct Rooms {
 }
 
 /// Returns the rows as lines below a head: `column`, `holds`, `CRS` and `edges`. Each column is as
-/// wide as its widest cell, in characters, with two blanks between columns; each note has a line of
-/// its own below that of its row, behind four blanks. White space at the end of a line is left out
+/// wide as its widest cell, in columns of a terminal, with two blanks between columns; each note has
+/// a line of its own below that of its row, behind four blanks. White space at the end of a line is left out
 /// (`docs/FORMAT.md`, 2.7). Errs only when out of memory.
 ///
 /// ```rust

@@ -38,7 +38,7 @@ pub(crate) fn blanked(alloc: Global, text: &str) -> Result<String, AllocError>
 }
 
 /// The characters of a text.
-fn characters_of(alloc: Global, text: &str) -> Result<Vec<char>, AllocError>
+pub(crate) fn characters_of(alloc: Global, text: &str) -> Result<Vec<char>, AllocError>
     ensures { IfOk result (λ cs. cs.items ≡ chars text.now) }
 {
     let mut characters = Vec::with_capacity(alloc, text.len())?;

@@ -4,6 +4,7 @@ use crate::github::github_line;
 use crate::numbers::Tally;
 use crate::rules::{Rule, rule_of};
 use crate::sarif::sarif_result;
+use crate::screen::colored;
 use crate::text::shown;
 use column_check::Severity;
 use column_files::{Fault, Place};
@@ -98,23 +99,21 @@ impl Told {
     }
 }
 
-/// Where a fault is: bytes of a message or of a footer are not counted from the file's first.
+/// Where a fault is.
 fn region_of_place(place: Place) -> Option<Region> {
     match place {
         Place::Line(line) | Place::LineByte(line, _) => Some(Region::Line(line)),
-        Place::Byte(byte) => Some(Region::Byte(byte)),
-        Place::File
-        | Place::MessageByte(_)
-        | Place::FooterByte(_)
-        | Place::Element(_)
-        | Place::Column(_) => None,
+        Place::Byte(byte) | Place::FooterByte(byte) | Place::Elements(Some(byte)) => {
+            Some(Region::Byte(byte))
+        }
+        Place::File | Place::Elements(None) | Place::Column(_) => None,
     }
 }
 
-/// Where a finding is: bytes of its other parts are not counted from the file's first.
+/// Where a finding is: bytes of its other parts, which are decoded, are counted in these.
 fn region_of_finding(finding: &Finding<'_>) -> Option<Region> {
     match (finding.part(), finding.byte()) {
-        (Some("file"), Some(byte)) => Some(Region::Byte(byte)),
+        (Some("file" | "footer" | "elements"), Some(byte)) => Some(Region::Byte(byte)),
         _ => None,
     }
 }
@@ -182,7 +181,7 @@ fn finding_line(
         return Ok(String::new(alloc));
     }
     match asked.flags.output() {
-        Output::Errors => words_line(alloc, file, told),
+        Output::Errors => words_line(alloc, asked, file, told),
         Output::Github => github_line(alloc, file, told),
         Output::Sarif => sarif_result(alloc, file, told, tally),
         Output::Table | Output::Json | Output::Lines | Output::Ipc => Ok(String::new(alloc)),
@@ -190,9 +189,16 @@ fn finding_line(
 }
 
 /// The line in words of what is told, behind the file's name.
-pub(crate) fn words_line(alloc: Global, file: &str, told: &Told) -> Result<String, AllocError> {
+pub(crate) fn words_line(
+    alloc: Global,
+    asked: &Asked,
+    file: &str,
+    told: &Told,
+) -> Result<String, AllocError> {
     let file = shown(alloc, file)?;
     let (severity, code) = (told.severity.word(), told.rule.code);
     let behind = shown(alloc, told.behind.as_str())?;
-    format!(in alloc; "{file}: {severity}[{code}]{behind}\n")
+    let words = format!(in alloc; "{severity}[{code}]{behind}")?;
+    let words = colored(alloc, asked, words)?;
+    format!(in alloc; "{file}: {words}\n")
 }

@@ -1,9 +1,9 @@
 //! What a column is expected to hold.
 ghost use Rattle.std.specs.Prelude.{◌≡◌, ◌↔◌, ◌==◌, IfOk, OnOk, IsTrue, Some, map, option_map, string_bytes};
 ghost use Rattle.column_check.specs.States.{geometry_in};
-ghost use Rattle.geoparquet.specs.Facts.{facts_view};
+ghost use Rattle.geoparquet.specs.Facts.{crs_view, facts_view};
 ghost use Rattle.file_check.specs.Crs.{crs_that_counts, edges_that_count};
-ghost use Rattle.file_check.specs.Wants.{parts_of, encoding_word, Meets, no_geometries, crs_or_none, unmet, IsUnmet, IsUnmetText, IsFound, is_unmet, said_of};
+ghost use Rattle.file_check.specs.Wants.{parts_of, encoding_word, is_crs, IsWord, Meets, no_geometries, crs_or_none, unmet, IsUnmet, IsUnmetText, IsFound, is_unmet, said_of};
 
 use crate::asked::Want;
 use crate::crs::{crs_that_counts, edges_that_count};
@@ -12,7 +12,8 @@ use arrow_columns::SchemaColumn;
 use column_check::Geometry;
 use column_reports::{ColumnReport, type_word};
 use geoarrow_layout::{Kind, coord_type_word, dimension_word, kind_word};
-use geoparquet::ColumnFacts;
+use geoparquet::{ColumnFacts, CrsFact};
+use same_columns::is_of_crs;
 use std::alloc::{AllocError, Global};
 
 /// What is found of an expectation while the columns of a file are looked at, one after another.
@@ -73,9 +74,11 @@ impl Found {
     }
 }
 
-/// What is said of a column that is expected to hold that, if it does not: that it holds no geometries, or the first part that is not met, and what
-/// the column holds. The parts stand between commas; each is the kind, the coordinate type, the dimension, the encoding (`native`, `WKB` or `WKT`),
-/// the CRS that counts by `crs_name`, or the edges that count. Errs only when out of memory.
+/// Returns what is said of a column that is expected to hold that, if it does not: that it holds no
+/// geometries, or the first part that is not met, and what the column holds. The parts stand
+/// between commas; each is the kind, the coordinate type, the dimension, the encoding (`native`,
+/// `WKB` or `WKT`) or the edges that count, all in any letters, or a CRS that agrees with the one
+/// that counts. Errs only when out of memory.
 pub fn unmet_text(
     alloc: Global,
     report: &ColumnReport,
@@ -121,36 +124,45 @@ fn unmet_part(
 ) -> Result<Option<String>, AllocError>
     ensures { IfOk result (λ said. IsUnmet (string_bytes column.now.name) geometry.now.kind (facts_view facts.now) (map (λ part. part.now) parts.entry.now) (option_map string_bytes said)) }
 {
-    let crs = crs_that_counts(alloc, facts)?;
-    let edges = edges_that_count(alloc, facts)?;
     for part in parts {
-        if !meets(geometry.kind, facts, crs.as_str(), edges.as_str(), part) {
-            let text = unmet(
-                alloc,
-                column,
-                geometry,
-                facts,
-                crs.as_str(),
-                edges.as_str(),
-                part,
-            )?;
+        let is_met = meets(alloc, geometry.kind, facts, part)?;
+        if !is_met {
+            let text = unmet(alloc, column, geometry, facts, part)?;
             return Ok(Some(text));
         }
     }
     Ok(None)
 }
 
-/// Whether a part is met. The facts are there for the contract.
-fn meets(kind: Kind, facts: &ColumnFacts, crs: &str, edges: &str, part: &str) -> bool
-    ensures { crs.now ≡ crs_that_counts (facts_view facts.now) → edges.now ≡ edges_that_count (facts_view facts.now) → IsTrue result ↔ Meets kind (facts_view facts.now) part.now }
+/// Whether a part is met. Errs only when out of memory.
+fn meets(alloc: Global, kind: Kind, facts: &ColumnFacts, part: &str) -> Result<bool, AllocError>
+    ensures { IfOk result (λ met. IsTrue met ↔ Meets kind (facts_view facts.now) part.now) }
 {
-    let _facts = facts;
-    part == crs
-        || part == edges
-        || part == encoding_word(kind)
-        || part == kind_word(kind)
-        || part == coord_type_word(kind.coord_type())
-        || part == dimension_word(kind.dimension())
+    if is_crs(alloc, facts.crs.as_ref(), part)? {
+        return Ok(true);
+    }
+    let edges = edges_that_count(alloc, facts)?;
+    Ok(part.eq_ignore_ascii_case(edges.as_str()) || is_word(kind, part))
+}
+
+/// Whether a part is the CRS that counts. Errs only when out of memory.
+fn is_crs(alloc: Global, crs: Option<&CrsFact>, part: &str) -> Result<bool, AllocError>
+    ensures { IfOk result (λ is. is ≡ is_crs (option_map (λ f. crs_view f.now) crs.entry) part.now) }
+{
+    match crs {
+        Some(crs) => is_of_crs(alloc, crs, part),
+        None => Ok(false),
+    }
+}
+
+/// Whether a part is a word of a kind.
+fn is_word(kind: Kind, part: &str) -> bool
+    ensures { IsTrue result ↔ IsWord kind part.now }
+{
+    part.eq_ignore_ascii_case(encoding_word(kind))
+        || part.eq_ignore_ascii_case(kind_word(kind))
+        || part.eq_ignore_ascii_case(coord_type_word(kind.coord_type()))
+        || part.eq_ignore_ascii_case(dimension_word(kind.dimension()))
 }
 
 /// The word of an encoding.
@@ -170,17 +182,16 @@ fn unmet(
     column: &SchemaColumn,
     geometry: &Geometry,
     facts: &ColumnFacts,
-    crs: &str,
-    edges: &str,
     part: &str,
 ) -> Result<String, AllocError>
-    ensures { IfOk result (λ text. crs.now ≡ crs_that_counts (facts_view facts.now) → edges.now ≡ edges_that_count (facts_view facts.now) → string_bytes text ≡ unmet (string_bytes column.now.name) geometry.now.kind (facts_view facts.now) part.now) }
+    ensures { IfOk result (λ text. string_bytes text ≡ unmet (string_bytes column.now.name) geometry.now.kind (facts_view facts.now) part.now) }
 {
-    let _facts = facts;
     let name = shown(alloc, column.name.as_str())?;
     let part = shown(alloc, part)?;
     let held = type_word(alloc, column, Some(geometry))?;
-    let crs = crs_or_none(crs);
+    let crs = crs_that_counts(alloc, facts)?;
+    let crs = crs_or_none(crs.as_str());
+    let edges = edges_that_count(alloc, facts)?;
     format!(in alloc; "column {name} is not {part}: {held}, {crs}, {edges}")
 }
 

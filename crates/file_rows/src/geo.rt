@@ -7,7 +7,7 @@
 //! it says nothing. Its layout is that of bytes, or stands behind `; layout`.
 use arrow_columns::SchemaColumn;
 use column_files::{column_line, columns_of_lines};
-use geoparquet::{GeoAnswer, GeoFinding, GeoReport, GeoSource, inspect_geo};
+use geoparquet::{FactSource, GeoAnswer, GeoFinding, GeoReport, GeoSource, inspect_geo};
 use parquet_columns::{EdgesClaim, ElementClaim, ElementLayout, RootElement};
 use rows::asked::Asked;
 use rows::said::Said;
@@ -166,13 +166,17 @@ fn say_columns(it: &mut Asked<'_>, columns: Vec<SchemaColumn>) {
     }
 }
 
-/// Says the parts of a finding, with a bar between them.
+/// Says the parts of a finding, with a bar between them: its pointer in the metadata, or the word of
+/// another source that it is found in.
 fn say_finding(said: &mut Said, finding: &GeoFinding) {
     said.push(finding.code.code());
     said.push("|");
     say_part(said, &finding.column);
     said.push("|");
-    said.push(finding.pointer.as_str());
+    match finding.source {
+        FactSource::Geo => said.push(finding.pointer.as_str()),
+        source => said.push(source.word()),
+    }
     said.push("|");
     say_part(said, &finding.found);
     said.push("|");

@@ -10,7 +10,6 @@ use column_reports::{
     ColumnReport, Options, Weighed, finding_words, report_column, report_file, report_of,
 };
 use json::Scratch;
-use parquet_columns::SchemaError;
 use rows::asked::Asked;
 use same_columns::{Difference, differences};
 use std::alloc::{AllocError, Global};
@@ -187,7 +186,7 @@ fn differences_of(
 /// Says why a file is not read.
 fn say_fault(it: &mut Asked<'_>, fault: &FileFault) {
     match fault {
-        FileFault::OutOfMemory | FileFault::Parquet(SchemaError::OutOfMemory) => it.said.fail(),
+        FileFault::OutOfMemory => it.said.fail(),
         fault => it.said.name(fault),
     }
 }

@@ -2,7 +2,8 @@
 use Rattle.std.proofs.Common.{◌≡◌, ℕ, List, [], String, length, map, Option, None, Ok, Err, Vec, Global, string_bytes, refl, sym, subst}
 use Rattle.arrow_values.specs.Tree.{Text}
 use Rattle.arrow_values.specs.View.{texts_of}
-use Rattle.arrow_columns.specs.Column.{ColumnTree, column_tree}
+use Rattle.arrow_columns.specs.Column.{column_tree}
+use Rattle.arrow_columns.specs.Types.{ColumnTree}
 use Rattle.arrow_columns.specs.declared.column.SchemaColumn.{SchemaColumn}
 use Rattle.arrow_ipc.specs.Schema.{SchemaTree}
 use Rattle.arrow_ipc.specs.Denotes.{IsStreamOf}

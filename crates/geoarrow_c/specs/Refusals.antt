@@ -5,9 +5,6 @@ use Rattle.arrow_ipc.specs.declared.fault.IpcError.{IpcError}
 use Rattle.arrow_ipc.specs.declared.fault.IpcError.TheVariants as messages
 use Rattle.arrow_ipc.specs.declared.write.WriteError.{WriteError}
 use Rattle.arrow_ipc.specs.declared.write.WriteError.TheVariants as writes
-use Rattle.parquet_columns.specs.declared.error.SchemaError.{SchemaError}
-use Rattle.parquet_columns.specs.declared.error.SchemaError.TheVariants as schemas
-use Rattle.parquet_footer.specs.declared.fault.FooterError.TheVariants as footers
 use Rattle.column_files.specs.Refusals.{Told, file_told, write_told}
 use Rattle.column_files.specs.declared.columns.FileFault.{FileFault}
 use Rattle.column_files.specs.declared.columns.FileFault.TheVariants as files
@@ -20,15 +17,9 @@ abbrev pub lacks_memory_for_message : IpcError → Bool
 lacks_memory_for_message messages.OutOfMemory = true
 lacks_memory_for_message error = false
 
-abbrev pub lacks_memory_for_columns : SchemaError → Bool
-lacks_memory_for_columns schemas.OutOfMemory = true
-lacks_memory_for_columns (schemas.Footer footers.Memory) = true
-lacks_memory_for_columns error = false
-
 abbrev pub lacks_memory : FileFault → Bool
 lacks_memory files.OutOfMemory = true
 lacks_memory (files.Ipc error) = lacks_memory_for_message error
-lacks_memory (files.Parquet error) = lacks_memory_for_columns error
 lacks_memory fault = false
 
 -- the line of a fault, with the name of the file, if there is one, and with its line feed

@@ -4,15 +4,13 @@ ghost use Rattle.arrow_values.specs.Texts.{text_of};
 ghost use Rattle.column_files.specs.Refusals.{told};
 ghost use Rattle.geoarrow_c.specs.Buffer.{Fills, Lacks, Makes};
 ghost use Rattle.geoarrow_c.specs.Refusals.{line_of, lacks_memory, lacks_memory_for_message};
-ghost use Rattle.geoarrow_c.specs.Refusals.{lacks_memory_for_columns, IsLineOfFile, IsLineOfSchema};
+ghost use Rattle.geoarrow_c.specs.Refusals.{IsLineOfFile, IsLineOfSchema};
 
 use crate::buffer::fill;
 use crate::status::{DONE, MEMORY, REFUSED, SHORT};
 use arrow_ipc::{IpcError, WriteError};
 use column_files::{Fault, FileFault, Form, fault_of, write_fault};
 use column_reports::fault_line;
-use parquet_columns::SchemaError;
-use parquet_footer::FooterError;
 use std::alloc::{AllocError, Global};
 
 /// Whether memory is all that lacks for a message to be read.
@@ -25,21 +23,6 @@ fn lacks_memory_for_message(error: IpcError) -> bool
     }
 }
 
-/// Whether memory is all that lacks for the columns of a Parquet file to be read.
-fn lacks_memory_for_columns(error: SchemaError) -> bool
-    ensures { result ≡ lacks_memory_for_columns error }
-{
-    match error {
-        SchemaError::OutOfMemory | SchemaError::Footer(FooterError::Memory) => true,
-        SchemaError::Footer(
-            FooterError::NotParquet | FooterError::Encrypted | FooterError::Invalid(_, _),
-        )
-        | SchemaError::Length
-        | SchemaError::Elements(_)
-        | SchemaError::Budget => false,
-    }
-}
-
 /// Whether memory is all that lacks for a file to be reported.
 fn lacks_memory(fault: &FileFault) -> bool
     ensures { result ≡ lacks_memory fault.now }
@@ -47,10 +30,12 @@ fn lacks_memory(fault: &FileFault) -> bool
     match fault {
         FileFault::OutOfMemory => true,
         FileFault::Ipc(error) => lacks_memory_for_message(*error),
-        FileFault::Parquet(error) => lacks_memory_for_columns(*error),
         FileFault::NoField(_, _)
         | FileFault::Empty
         | FileFault::Foreign(_, _)
+        | FileFault::End(_)
+        | FileFault::Footer(_, _)
+        | FileFault::Tree(_, _)
         | FileFault::ReportTooLarge => false,
     }
 }

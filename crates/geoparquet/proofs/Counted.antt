@@ -1,16 +1,7 @@
--- How many children a group has.
-use Rattle.std.proofs.Common.{◌≡◌, ◌==◌, Bor, List, [], ◌∷◌, length, map, refl, ap, ◌∙◌, arith}
+-- How many names there are.
+use Rattle.std.proofs.Common.{◌≡◌, ◌==◌, Bor, List, ℕ, length, map, ap}
 use Rattle.std.proofs.lemmas.List.{length-map}
-use Rattle.arrow_values.specs.Tree.{FieldTree, Text}
-use Rattle.arrow_values.specs.View.{field_trees}
-use Rattle.geoparquet.specs.CoveringAbsent.{count_of}
+use Rattle.arrow_values.specs.Tree.{Text}
 
-counted : (fs : List FieldTree) → count_of (field_trees fs) ≡ length fs
-counted [] = refl
-counted (f ∷ fs) = omega (arith, counted fs)
-
-pub same_counts : (fs : List FieldTree) (names : List (Bor Text))
-    → (count_of (field_trees fs) == length (map (λ name. name.now) names)) ≡ (length fs == length names)
-same_counts fs names =
-    ap (λ n. n == length (map (λ name. name.now) names)) (counted fs)
-    ∙ ap (λ n. length fs == n) (length-map names (λ name. name.now))
+pub same_counts : (n : ℕ) (names : List (Bor Text)) → (n == length (map (λ name. name.now) names)) ≡ (n == length names)
+same_counts n names = ap (λ m. n == m) (length-map names (λ name. name.now))

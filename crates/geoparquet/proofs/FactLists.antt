@@ -5,7 +5,7 @@ use Rattle.std.proofs.lemmas.List.{append-nil, at_drop_more, drop_all, map-appen
 use Rattle.json.specs.Json.{Json}
 use Rattle.json.specs.Value.{value_view}
 use Rattle.json.specs.declared.value.Value.{Value}
-use Rattle.arrow_columns.specs.Column.{ColumnTree}
+use Rattle.arrow_columns.specs.Types.{ColumnTree}
 use Rattle.value_tokens.specs.Values.{IsReadable}
 use Rattle.geoparquet.specs.Extensions.{IsRead}
 use Rattle.geoparquet.specs.Facts.{column_facts, facts_behind, facts_view, member_for}

@@ -1,4 +1,4 @@
--- The members of a value that was read: what `serde_json` reads of them, and how deep they nest.
+-- The members of a value that was read, and how deep they nest.
 use Rattle.std.proofs.Common.{◌≡◌, ℕ, ◌<◌, ◌≤◌, Bool, true, false, cond, bytes_eq, [], append-nil, Option, None, Some, option_map, option_and_then, codes, refl, sym, ap, ◌∙◌, subst, arith}
 use Rattle.json.specs.Json as json
 use Rattle.json.specs.Find as find
@@ -21,36 +21,6 @@ use Rattle.value_tokens.specs.Values.{is_object}
 use Rattle.value_tokens.proofs.Kept.{Reads, value_read}
 use Rattle.geoparquet.specs.Extensions.{IsRead, crs_of, named_in, text_at, text_with}
 use Rattle.geoparquet.specs.Values.{at, text_of_value}
-
--- ---- texts
-
-no_text : {A : Type 0} (f : A → Data) (o : Option A) (d : Data) → ((a : A) → as_str (f a) ≡ None) → option_map f o ≡ Some d → None ≡ as_str d
-no_text f None d h e = absurd (cc)
-no_text f (Some a) d h e = let same : f a ≡ d = grind arith in sym (h a) ∙ ap as_str same
-
-text_read : (j : json.Json) (d : Data) → of_json j ≡ Some d → find.as_str j ≡ as_str d
-text_read json.null d e = grind arith
-text_read (json.boolean b) d e = grind arith
-text_read (json.number s) d e = no_text number (number_of s) d (λ n. refl) e
-text_read (json.string s) d e = grind arith
-text_read (json.array js) d e = no_text array (of_items js) d (λ ds. refl) e
-text_read (json.object ms) d e = no_text object (of_members ms no_members) d (λ ds. refl) e
-
-text_found : (o : Option json.Json) (found : Option Data) → Reads o found → option_and_then find.as_str o ≡ text_of_value found
-text_found None found none = ap text_of_value (sym none)
-text_found (Some j) found (d, is, there) = text_read j d is ∙ ap text_of_value (sym there)
-
-pub text_at_read : (k : Text) (j : json.Json) (d : Data) → of_json j ≡ Some d → text_at k j ≡ text_of_value (at k (Some d))
-text_at_read k j d e = text_found (find.get k j) (get k d) (value_read k j d e)
-
--- ---- the member of `columns` with a name
-
-then_member : (k : Text) (o : Option json.Json) (found : Option Data) → Reads o found → Reads (option_and_then (find.get k) o) (at k found)
-then_member k None found none = ap (at k) none
-then_member k (Some j) found (d, is, there) = subst (λ v. Reads (find.get k j) (at k v)) (sym there) (value_read k j d is)
-
-pub named_read : (name : Text) (j : json.Json) (d : Data) → of_json j ≡ Some d → Reads (named_in j name) (at name (get (codes "columns") d))
-named_read name j d e = then_member name (find.get (codes "columns") j) (get (codes "columns") d) (value_read (codes "columns") j d e)
 
 -- ---- what is in a value that was read
 

@@ -15,3 +15,4 @@ pub mod Seeing
 pub mod FactLists
 pub mod CountingSources
 pub mod Answered
+pub mod Grouped

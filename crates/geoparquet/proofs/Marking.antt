@@ -1,100 +1,88 @@
 -- The columns by GeoParquet metadata, one after another.
-use Rattle.std.proofs.Common.{◌≡◌, ℕ, ◌+◌, ◌<◌, Bool, true, false, cond, ◌||◌, is_some, List, [], ◌∷◌, ◌++◌, Option, None, Some, Global, codes, bytes_eq, inl, inr, refl, sym, ap, ◌∙◌, subst, append_assoc, drop, get_or, length, if◌then◌else◌, map, IfSome, option_map, option_and_then, unwrap_or}
+use Rattle.std.proofs.Common.{◌≡◌, ℕ, ◌+◌, ◌<◌, Bool, true, false, cond, ◌||◌, is_some, List, [], ◌∷◌, ◌++◌, Option, None, Some, Global, codes, bytes_eq, refl, sym, ap, ◌∙◌, subst, append_assoc, drop, get_or, length, if◌then◌else◌, map, IfSome, option_map, option_and_then}
 use Rattle.std.specs.Borrow.{Bor}
 use Rattle.std.specs.BTreeMap.{BTreeMap, get_by, UpdatesBy}
 use Rattle.std.specs.Cmp.Lexicographic.{slice_cmp}
 use Rattle.std.specs.Ordering.{nat_cmp}
 use Rattle.std.proofs.lemmas.List.{append-nil, at_drop_more, map-append}
 use Rattle.std.proofs.lemmas.Map.Text.{btree_map_updates_str}
-use Rattle.json.specs.Json.{Json}
+use Rattle.json.specs.Json.{Json, null}
 use Rattle.json.specs.Find as find
 use Rattle.json.specs.Value.{members_view, value_view}
 use Rattle.json.specs.declared.value.Value.{Value}
-use Rattle.serde_json.specs.Data.{Data, null}
-use Rattle.serde_json.specs.Find.{get}
-use Rattle.serde_json.specs.Read.{read}
 use Rattle.arrow_values.specs.Tree.{Text}
-use Rattle.arrow_columns.specs.Column.{ColumnTree, column_tree}
+use Rattle.arrow_columns.specs.Column.{column_tree}
+use Rattle.arrow_columns.specs.Types.{ColumnTree}
 use Rattle.arrow_columns.specs.Names.{first_of}
 use Rattle.arrow_columns.specs.declared.column.SchemaColumn.{SchemaColumn}
-use Rattle.geoarrow_layout.specs.declared.names.ExtensionName.{ExtensionName}
-use Rattle.geoparquet.specs.Encodings.{IsEncodedAs}
-use Rattle.geoparquet.specs.Extensions.{IsExtensionText, IsJson, IsRead, crs_of, edges_of, member_named, member_text, named_in, text_at, text_with}
-use Rattle.geoparquet.specs.GeoColumns.{AreGeoColumns, AreGeoColumnsFrom, IsGeoColumn, IsGeoColumnOf, left_for, value_in}
-use Rattle.geoparquet.specs.Values.{at, text_of_value}
-use Rattle.geoparquet.proofs.KeptMembers.{member_is_read, named_read, text_at_read}
-use Rattle.value_tokens.proofs.Kept.{Reads}
+use Rattle.geoparquet.specs.Extensions.{IsRead, named_in}
+use Rattle.geoparquet.specs.GeoColumns.{AreGeoColumns, IsGeoColumn, left_for, value_in}
+use Rattle.geoparquet.specs.Sources.{Element, with_elements}
+use Rattle.geoparquet.specs.Versions.{version_of}
+use Rattle.geoparquet.proofs.KeptMembers.{member_is_read}
 
 -- ---- one more column
 
-one_behind : (geo : Text) (before cs ds : List ColumnTree) (c d : ColumnTree) → AreGeoColumnsFrom geo before cs ds → IsGeoColumn geo (before ++ cs) c d → AreGeoColumnsFrom geo before (cs ++ c ∷ []) (ds ++ d ∷ [])
-one_behind geo before [] [] c d are is = (subst (λ b. IsGeoColumn geo b c d) (append-nil before) is, tt)
-one_behind geo before (x ∷ cs) (y ∷ ds) c d are is =
-    (are.0, one_behind geo (before ++ x ∷ []) cs ds c d are.1 (subst (λ b. IsGeoColumn geo b c d) (sym (append_assoc before (x ∷ []) cs)) is))
-one_behind geo before [] (y ∷ ds) c d are is = absurd are
-one_behind geo before (x ∷ cs) [] c d are is = absurd are
+-- the columns, without what their elements say
+names_of : (cs : List ColumnTree) (es : List Element) → map (λ x. x.0) (with_elements cs es) ≡ cs
+names_of [] es = refl
+names_of (c ∷ cs) [] = ap (λ xs. c ∷ xs) (names_of cs [])
+names_of (c ∷ cs) (e ∷ es) = ap (λ xs. c ∷ xs) (names_of cs es)
 
-pub one_pushed : (geo : Text) (cs ds after : List SchemaColumn) (c d : SchemaColumn) → AreGeoColumns geo (map column_tree cs) (map column_tree ds) → IsGeoColumn geo (map column_tree cs) (column_tree c) (column_tree d)
-    → after ≡ ds ++ d ∷ [] → AreGeoColumns geo (map column_tree (cs ++ c ∷ [])) (map column_tree after)
-one_pushed geo cs ds after c d are is pushed =
-    let more = one_behind geo [] (map column_tree cs) (map column_tree ds) (column_tree c) (column_tree d) are is in
-    let sources = subst (λ xs. AreGeoColumns geo xs (map column_tree ds ++ column_tree d ∷ [])) (sym (map-append column_tree cs (c ∷ []))) more in
-    let results = subst (λ xs. AreGeoColumns geo (map column_tree (cs ++ c ∷ [])) xs) (sym (map-append column_tree ds (d ∷ []))) sources in
-    subst (λ xs. AreGeoColumns geo (map column_tree (cs ++ c ∷ [])) (map column_tree xs)) (sym pushed) results
+one_behind : (j : Json) (before : List ColumnTree) (xs : List (ColumnTree × Option Element)) (ds : List ColumnTree) (x : ColumnTree × Option Element) (d : ColumnTree)
+    → AreGeoColumns j before xs ds → IsGeoColumn (version_of j) (left_for j (before ++ map (λ y. y.0) xs) x.0.name) x.0 x.1 d → AreGeoColumns j before (xs ++ x ∷ []) (ds ++ d ∷ [])
+one_behind j before [] [] x d are is = (subst (λ b. IsGeoColumn (version_of j) (left_for j b x.0.name) x.0 x.1 d) (append-nil before) is, tt)
+one_behind j before (y ∷ xs) (e ∷ ds) x d are is = (
+  are.0,
+  one_behind j (before ++ y.0 ∷ []) xs ds x d are.1
+      (subst (λ b. IsGeoColumn (version_of j) (left_for j b x.0.name) x.0 x.1 d) (sym (append_assoc before (y.0 ∷ []) (map (λ z. z.0) xs))) is),
+)
+one_behind j before [] (e ∷ ds) x d are is = absurd are
+one_behind j before (y ∷ xs) [] x d are is = absurd are
 
--- ---- a column that has no member
+-- the columns so far with what their elements say, and what the elements of the others say
+abbrev pub IsSplit : List Element → List ColumnTree → List Element → Type 0
+IsSplit es cs said = (more : List ColumnTree) → with_elements (cs ++ more) es ≡ with_elements cs es ++ with_elements more said
 
-no_encoding : (member : Option Data) (n : ExtensionName) (c : ColumnTree) → member ≡ None → IsEncodedAs (text_of_value (at (codes "encoding") member)) n c → ⊥
-no_encoding None n c none is = is
-no_encoding (Some d) n c none is = absurd (cc)
+module _ (es said others : List Element) (cs : List ColumnTree) (c : ColumnTree) (e : Option Element)
+    (next : (more : List ColumnTree) → with_elements (c ∷ more) said ≡ (c, e) ∷ with_elements more others) (split : IsSplit es cs said) where
+  last : with_elements (cs ++ c ∷ []) es ≡ with_elements cs es ++ (c, e) ∷ []
+  last = split (c ∷ []) ∙ ap (λ xs. with_elements cs es ++ xs) (next [])
 
-unnamed : (geo : Text) (before : List ColumnTree) (c : ColumnTree) → member_named geo c.name ≡ None → IsGeoColumn geo before c c
-unnamed geo before c none = inr ((λ n is. no_encoding (member_named geo c.name) n c none is.encoded), refl)
+  pub split_behind : IsSplit es (cs ++ c ∷ []) others
+  split_behind more =
+      ap (λ ys. with_elements ys es) (append_assoc cs (c ∷ []) more) ∙ split (c ∷ more) ∙ ap (λ xs. with_elements cs es ++ xs) (next more)
+      ∙ sym (append_assoc (with_elements cs es) ((c, e) ∷ []) (with_elements more others)) ∙ ap (λ xs. xs ++ with_elements more others) (sym last)
 
-all_unnamed : (geo : Text) (before cs : List ColumnTree) → ((name : Text) → member_named geo name ≡ None) → AreGeoColumnsFrom geo before cs cs
-all_unnamed geo before [] none = tt
-all_unnamed geo before (c ∷ cs) none = (unnamed geo before c (none c.name), all_unnamed geo (before ++ c ∷ []) cs none)
+  pub one_pushed : (j : Json) (ds : List ColumnTree) (d : ColumnTree) → AreGeoColumns j [] (with_elements cs es) ds → IsGeoColumn (version_of j) (left_for j cs c.name) c e d
+      → AreGeoColumns j [] (with_elements (cs ++ c ∷ []) es) (ds ++ d ∷ [])
+  one_pushed j ds d are is =
+      subst (λ xs. AreGeoColumns j [] xs (ds ++ d ∷ [])) (sym last)
+      (one_behind j [] (with_elements cs es) ds (c, e) d are (subst (λ b. IsGeoColumn (version_of j) (left_for j b c.name) c e d) (sym (names_of cs es)) is))
 
-none_named : (o : Option Data) (name : Text) → o ≡ None → at name (get (codes "columns") (unwrap_or o null)) ≡ None
-none_named None name none = refl
-none_named (Some d) name none = absurd (cc)
+-- ---- columns without metadata
 
--- a text that is not read changes nothing
-pub all_stay : (geo : Text) (cs : List ColumnTree) → read geo ≡ None → AreGeoColumns geo cs cs
-all_stay geo cs none = all_unnamed geo [] cs (λ name. none_named (read geo) name none)
+none_left : (before : List ColumnTree) (name : Text) → left_for null before name ≡ None
+none_left before name = of_seen (is_some (first_of before name))
+  where
+    of_seen : (b : Bool) → (if b then None else named_in null name) ≡ None
+    of_seen true = refl
+    of_seen false = refl
 
--- ---- a column by the member that is left for it
+all_stay_behind : (before cs : List ColumnTree) (es : List Element) → AreGeoColumns null before (with_elements cs es) cs
+all_stay_behind before [] es = tt
+all_stay_behind before (c ∷ cs) [] = (
+  subst (λ m. IsGeoColumn (version_of null) m c None c) (sym (none_left before c.name)) refl,
+  all_stay_behind (before ++ c ∷ []) cs [],
+)
+all_stay_behind before (c ∷ cs) (e ∷ es) = (
+  subst (λ m. IsGeoColumn (version_of null) m c (Some e) c) (sym (none_left before c.name)) refl,
+  all_stay_behind (before ++ c ∷ []) cs es,
+)
 
-module _ (geo : Text) (j : Json) (is : IsJson geo j) where
-  same_member : (name : Text) → Reads (named_in j name) (member_named geo name)
-  same_member name = subst (λ o. Reads (named_in j name) (at name (get (codes "columns") (unwrap_or o null)))) (sym is.reads) (named_read name j is.value is.converts)
-
-  same_text : (key name : Text) (m : Json) → named_in j name ≡ Some m → text_at key m ≡ text_of_value (at key (member_named geo name))
-  same_text key name m e =
-      let there = subst (λ o. Reads o (member_named geo name)) e (same_member name) in
-      text_at_read key m there.0 there.1 ∙ ap (λ o. text_of_value (at key o)) (sym there.2)
-
-  text_of_member : (name : Text) (m : Json) → named_in j name ≡ Some m → IsExtensionText geo name (member_text m)
-  text_of_member name m e = (
-    option_and_then (find.get (codes "crs")) (named_in j name),
-    (j, is, refl),
-    ap (λ o. text_with (crs_of (option_and_then (find.get (codes "crs")) o)) (edges_of (text_at (codes "edges") m))) (sym e)
-        ∙ ap (λ t. text_with (crs_of (option_and_then (find.get (codes "crs")) (named_in j name))) (edges_of t)) (same_text (codes "edges") name m e),
-  )
-
-  of_left : (before : List ColumnTree) (c d : ColumnTree) (x : Option ColumnTree) (m : Option Json) → first_of before c.name ≡ x → named_in j c.name ≡ m
-      → IsGeoColumnOf (if is_some x then None else m) c d → IsGeoColumn geo before c d
-  of_left before c d (Some x) m seen found h = inr ((λ n is. absurd (cc)), h)
-  of_left before c d None None seen found h = subst (IsGeoColumn geo before c) (sym h) (unnamed geo before c (subst (λ o. Reads o (member_named geo c.name)) found (same_member c.name)))
-  of_left before c d None (Some m) seen found (inl h) =
-      let encoded = subst (λ t. IsEncodedAs t h.0 c) (same_text (codes "encoding") c.name m found) h.1.1 in
-      inl (h.0, member_text m, record { unnamed = h.1.0; first = seen; encoded = encoded }, text_of_member c.name m found, h.2)
-  of_left before c d None (Some m) seen found (inr h) =
-      let encoded = λ (n : ExtensionName). subst (λ t. IsEncodedAs t n c) (sym (same_text (codes "encoding") c.name m found)) in
-      inr ((λ n is. h.0 n is.unnamed (encoded n is.encoded)), h.1)
-
-  pub geo_column_of : (before : List ColumnTree) (c d : ColumnTree) (o : Option Json) → o ≡ left_for j before c.name → IsGeoColumnOf o c d → IsGeoColumn geo before c d
-  geo_column_of before c d o left h = of_left before c d (first_of before c.name) (named_in j c.name) refl refl (subst (λ m. IsGeoColumnOf m c d) left h)
+-- what is no JSON changes nothing
+pub all_stay : (cs : List ColumnTree) (es : List Element) → AreGeoColumns null [] (with_elements cs es) cs
+all_stay cs es = all_stay_behind [] cs es
 
 -- ---- what is left behind a column
 

@@ -9,7 +9,7 @@ use Rattle.std.proofs.lemmas.List.{map-append, take_all}
 use Rattle.std.proofs.lemmas.List.Folds.{find-append}
 use Rattle.std.proofs.lemmas.Slice.Eq.{bytes_eq-Decides}
 use Rattle.arrow_values.specs.Tree.{Text}
-use Rattle.arrow_columns.specs.Column.{ColumnTree}
+use Rattle.arrow_columns.specs.Types.{ColumnTree}
 use Rattle.parquet_columns.specs.declared.layouts.RootElement.{RootElement}
 use Rattle.geoparquet.specs.Sources.{Element, element_view, sourced, source_named, element_first, AreElements}
 use Rattle.geoparquet.specs.declared.sources.Sourced.{Sourced}

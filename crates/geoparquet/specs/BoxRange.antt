@@ -6,7 +6,7 @@ use Rattle.std.specs.Float.Parse.{parse_float}
 use lib.ListN.{get_or}
 use Rattle.json.specs.Json.{Json, null}
 use Rattle.arrow_values.specs.Tree.{Text}
-use Rattle.arrow_columns.specs.Column.{ColumnTree}
+use Rattle.arrow_columns.specs.Types.{ColumnTree}
 use Rattle.geoparquet.specs.BoxRules.{box_in, box_place, float_of, is_less}
 use Rattle.geoparquet.specs.Counting.{is_crs_paired}
 use Rattle.geoparquet.specs.Sources.{Element}

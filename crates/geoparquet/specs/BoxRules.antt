@@ -8,7 +8,7 @@ use lib.ListN.{get_or}
 use Rattle.json.specs.Json.{Json, null}
 use Rattle.json.specs.Find.{get, as_number}
 use Rattle.arrow_values.specs.Tree.{Text}
-use Rattle.arrow_columns.specs.Column.{ColumnTree}
+use Rattle.arrow_columns.specs.Types.{ColumnTree}
 use Rattle.geoarrow_layout.specs.declared.dimensions.Dimension.{Dimension}
 use Rattle.geoarrow_layout.specs.declared.native_kinds.NativeKind.{NativeKind}
 use Rattle.geoparquet.specs.Counting.{crs_that_counts, is_projected}

@@ -6,7 +6,8 @@ use Rattle.serde_json.specs.Data as own
 use Rattle.serde_json.specs.Data.{Data}
 use Rattle.serde_json.specs.Find.{get as get_data}
 use Rattle.arrow_values.specs.Tree.{Text}
-use Rattle.arrow_columns.specs.Column.{ColumnTree, name_on, metadata_on}
+use Rattle.arrow_columns.specs.Column.{name_on, metadata_on}
+use Rattle.arrow_columns.specs.Types.{ColumnTree}
 use Rattle.geoarrow_layout.specs.declared.dimensions.Dimension.{Dimension}
 use Rattle.geoarrow_layout.specs.declared.native_kinds.NativeKind.{NativeKind}
 use Rattle.geoarrow_layout.specs.declared.native_kinds.NativeKind.TheVariants.{Point, LineString, Polygon, MultiPoint, MultiLineString, MultiPolygon}
@@ -14,7 +15,7 @@ use Rattle.geoparquet.specs.Findings.{Finding}
 use Rattle.geoparquet.specs.Pairs.{text_findings}
 use Rattle.geoparquet.specs.Sources.{Claim, silent, gives, beside, Element}
 use Rattle.geoparquet.specs.Capped.{capped}
-use Rattle.geoparquet.specs.Rules.{part_place, items_findings, unless}
+use Rattle.geoparquet.specs.Rules.{items_findings, part_place, told_at, unless}
 use Rattle.geoparquet.specs.MemberRules.{encoding_of, is_edges, is_edges_value}
 use Rattle.parquet_columns.specs.declared.geometry.EdgesClaim.{EdgesClaim}
 use Rattle.parquet_columns.specs.declared.geometry.EdgesClaim.TheVariants as edges
@@ -40,7 +41,7 @@ stored_layout version c e j = layout_in (encoding_of version j) c e
 
 -- the column has another layout than that of its encoding; not judged where there is no column, or no encoding
 abbrev pub layout_finding : Text → Text → Text → Finding
-layout_finding key found wanted = record { code = NoLayout; column = Some key; pointer = part_place key (codes "encoding"); found = Some found; wanted = Some wanted; more = 0 }
+layout_finding key found wanted = told_at NoLayout (Some key) (part_place key (codes "encoding")) (Some found) (Some wanted)
 
 abbrev pub encoding_layout_findings : Text → Option Text → Option ColumnTree → Option Element → List Finding
 encoding_layout_findings key (Some s) (Some c) e = unless (is_laid_out s c e) (layout_finding key (layout_text c e) s)

@@ -1,22 +1,24 @@
 -- The CRS and the edges that count: by which a column is judged where its element, its member and its field say some (docs/FORMAT.md, 5).
 use Rattle.std.specs.Prelude.{[], ◌&&◌, ◌||◌, is_some, Bool, true, false, not, List, codes, bytes_eq, Option, None, Some, if◌then◌else◌}
-use Rattle.json.specs.Json.{Json}
+use Rattle.json.specs.Json.{Json, string}
 use Rattle.json.specs.Find.{get}
 use Rattle.arrow_values.specs.Tree.{Text}
-use Rattle.arrow_columns.specs.Column.{ColumnTree}
+use Rattle.arrow_columns.specs.Types.{ColumnTree}
 use Rattle.crs_identity.specs.Verdicts.{Claimed, class_said, form_said, has_paired}
 use Rattle.crs_identity.specs.declared.class.Class.{Class}
 use Rattle.crs_identity.specs.declared.class.Class.TheVariants as classes
 use Rattle.geoparquet.specs.Contradictions.{element_metadata, own_metadata}
 use Rattle.geoparquet.specs.CrsClaims.{element_crs, element_json, field_json, own_crs_in, said_crs}
-use Rattle.geoparquet.specs.EdgesClaims.{edges_counting}
+use Rattle.geoparquet.specs.EdgesClaims.{EdgesOf, edges_fact_in}
 use Rattle.geoparquet.specs.Findings.{Finding}
-use Rattle.geoparquet.specs.Rules.{found_at, part_place, unless}
+use Rattle.geoparquet.specs.Rules.{found_at, found_in, part_place, unless}
 use Rattle.geoparquet.specs.Sources.{Element}
 use Rattle.geoparquet.specs.Versions.{is_judged}
 use Rattle.geoparquet.specs.declared.code.GeoCode.TheVariants.{EdgesOnProjected}
 use Rattle.geoparquet.specs.declared.counting.Asked.{Asked}
 use Rattle.geoparquet.specs.declared.counting.Asked.TheVariants.{Projected, Paired}
+use Rattle.geoparquet.specs.declared.fact_sources.FactSource.{FactSource}
+use Rattle.geoparquet.specs.declared.fact_sources.FactSource.TheVariants as of
 use Rattle.geoparquet.specs.declared.finding.Version.{Version}
 use Rattle.geoparquet.specs.declared.finding.Version.TheVariants.{V1_1}
 
@@ -70,21 +72,35 @@ is_crs_paired version c e j =
 
 -- ---- the edges
 
--- planar where none are said
-abbrev pub is_planar : Option Text → Bool
-is_planar None = true
-is_planar (Some s) = bytes_eq s (codes "planar")
+-- the finding of edges: of those of a member at their place there, of any others in what the element or the field says
+abbrev pub member_edges_finding : Text → Text → Finding
+member_edges_finding key s = found_at EdgesOnProjected (Some key) (part_place key (codes "edges")) (Some (string s)) None
 
-abbrev pub are_planar : Version → Option ColumnTree → Option Element → Option Json → Bool
-are_planar version c e member = is_planar (edges_counting version member e (element_metadata e c) (own_metadata c))
+abbrev pub own_edges_finding : FactSource → Text → Text → Finding
+own_edges_finding source key s = found_in source EdgesOnProjected key (Some (string s)) None
 
--- edges that are not planar, and a projected CRS; not judged before 1.0.0
+abbrev pub edges_finding : Text → FactSource → Text → Finding
+edges_finding key of.Geo s = member_edges_finding key s
+edges_finding key of.Element s = own_edges_finding of.Element key s
+edges_finding key of.Field s = own_edges_finding of.Field key s
+
+-- edges that are not planar, and a CRS that is projected; where none are said, they are planar
+abbrev pub unplanar_findings : Text → Bool → Option EdgesOf → List Finding
+unplanar_findings key projected None = []
+unplanar_findings key projected (Some x) = unless (bytes_eq x.edges (codes "planar") || not projected) (edges_finding key x.from x.edges)
+
+abbrev pub projects : Version → Option ColumnTree → Option Element → Option Json → Bool
+projects version c e None = is_projected (crs_alone c e)
+projects version c e (Some j) = is_projected (crs_that_counts version c e j)
+
+abbrev pub on_projected_findings : Version → Text → Option ColumnTree → Option Element → Option Json → List Finding
+on_projected_findings version key c e member =
+    unplanar_findings key (projects version c e member) (edges_fact_in version member e (element_metadata e c) (own_metadata c))
+
+-- of a column with a member: not judged before 1.0.0
 abbrev pub edges_on_projected_findings : Version → Text → Option ColumnTree → Option Element → Json → List Finding
-edges_on_projected_findings version key c e j =
-    unless (not (is_judged version) || (are_planar version c e (Some j) || not (is_projected (crs_that_counts version c e j))))
-    (found_at EdgesOnProjected (Some key) (part_place key (codes "edges")) (get (codes "edges") j) None)
+edges_on_projected_findings version key c e j = if is_judged version then on_projected_findings version key c e (Some j) else []
 
--- those of a column that has no member, of which no place in the metadata tells
+-- of one that has no member
 abbrev pub own_on_projected_findings : Text → Option ColumnTree → Option Element → List Finding
-own_on_projected_findings key c e =
-    unless (are_planar V1_1 c e None || not (is_projected (crs_alone c e))) (found_at EdgesOnProjected (Some key) [] None None)
+own_on_projected_findings key c e = on_projected_findings V1_1 key c e None

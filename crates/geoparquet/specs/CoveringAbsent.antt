@@ -1,10 +1,10 @@
 -- A group that would do as a covering, where a column has none (docs/FORMAT.md, 5).
-use Rattle.std.specs.Prelude.{◌&&◌, ◌||◌, ◌==◌, ◌+◌, ℕ, Bool, true, false, not, List, [], ◌∷◌, codes, Option, None, Some, is_some, find, length, option_map, if◌then◌else◌}
+use Rattle.std.specs.Prelude.{◌&&◌, ◌||◌, ◌==◌, Bool, true, false, not, List, [], ◌∷◌, codes, Option, None, Some, is_some, find, length, option_map, if◌then◌else◌}
 use Rattle.std.specs.List.{list_all}
 use Rattle.json.specs.Json.{Json, string}
 use Rattle.json.specs.Find.{get}
-use Rattle.arrow_values.specs.Tree.{Text, FieldTrees, no_fields, field}
-use Rattle.arrow_columns.specs.Column.{ColumnTree}
+use Rattle.arrow_values.specs.Tree.{Text}
+use Rattle.arrow_columns.specs.Types.{ColumnTree}
 use Rattle.geoparquet.specs.Coverings.{child_of, children_in, fits}
 use Rattle.geoparquet.specs.Findings.{Finding}
 use Rattle.geoparquet.specs.Rules.{column_place, found_at}
@@ -19,21 +19,17 @@ flat_names = codes "xmin" ∷ codes "ymin" ∷ codes "xmax" ∷ codes "ymax" ∷
 abbrev pub high_names : List Text
 high_names = codes "xmin" ∷ codes "ymin" ∷ codes "xmax" ∷ codes "ymax" ∷ codes "zmin" ∷ codes "zmax" ∷ []
 
-abbrev pub count_of : FieldTrees → ℕ
-count_of no_fields = 0
-count_of (field n t b m fs) = count_of fs + 1
-
 -- as many children as names, and a child of floats under each: so each name stands there once, and no other does
-abbrev pub have_names : List Text → Bool → FieldTrees → Bool
-have_names names single fs = (count_of fs == length names) && list_all (λ name. fits single (child_of name fs)) names
+abbrev pub have_names : List Text → Bool → List ColumnTree → Bool
+have_names names single cs = (length cs == length names) && list_all (λ name. fits single (child_of name cs)) names
 
 -- the children are those bounds, all of single precision, or all of double
-abbrev pub are_floats : List Text → FieldTrees → Bool
-are_floats names fs = have_names names true fs || have_names names false fs
+abbrev pub are_floats : List Text → List ColumnTree → Bool
+are_floats names cs = have_names names true cs || have_names names false cs
 
-abbrev pub is_box : Option FieldTrees → Bool
+abbrev pub is_box : Option (List ColumnTree) → Bool
 is_box None = false
-is_box (Some fs) = are_floats flat_names fs || are_floats high_names fs
+is_box (Some cs) = are_floats flat_names cs || are_floats high_names cs
 
 abbrev pub is_box_column : ColumnTree → Bool
 is_box_column c = is_box (children_in c.data_type)

@@ -1,23 +1,27 @@
 -- Coverings: a column of boxes, one for each geometry, that the paths of bounds lead to (docs/FORMAT.md, 5.1).
-use Rattle.std.specs.Prelude.{◌&&◌, ◌||◌, Bool, true, false, not, List, [], ◌∷◌, ◌++◌, codes, bytes_eq, Option, None, Some, is_some, option_map, option_and_then, flat_map, find, IfSome, ⊤, if◌then◌else◌}
+use Rattle.std.specs.Prelude.{◌&&◌, ◌||◌, Bool, true, false, not, List, [], ◌∷◌, ◌++◌, codes, bytes_eq, Option, None, Some, is_some, option_map, option_and_then, map, flat_map, find, IfSome, ⊤, if◌then◌else◌}
 use Rattle.std.specs.Bool.{beq}
 use Rattle.std.specs.List.{list_all}
 use Rattle.json.specs.Json.{Json, Items, no_items, item}
 use Rattle.json.specs.Find.{get, at, as_str, as_array}
 use Rattle.json.specs.Value.{value_view}
 use Rattle.value_tokens.specs.Values.{IsReadable, is_object}
-use Rattle.arrow_values.specs.Tree.{Text, Tree, plain, float32, float64, struct, FieldTrees, no_fields, field}
-use Rattle.arrow_values.specs.View.{field_trees}
-use Rattle.arrow_columns.specs.Column.{TypeTree, known, ColumnTree}
+use Rattle.arrow_values.specs.Tree.{Text, plain, float32, float64}
+use Rattle.arrow_columns.specs.Below.{below, is_struct}
+use Rattle.arrow_columns.specs.Column.{column_of}
+use Rattle.arrow_columns.specs.Types.{TypeTree, known, ColumnTree}
 use Rattle.arrow_columns.specs.Names.{first_of, is_one}
-use Rattle.geoparquet.specs.Findings.{Finding, member_place, item_place}
-use Rattle.geoparquet.specs.Rules.{found_at, part_place, unless}
+use Rattle.arrow_columns.specs.Notation.{type_text}
+use Rattle.geoparquet.specs.Findings.{Finding, member_place, item_place, shown}
+use Rattle.geoparquet.specs.Rules.{found_at, part_place, told_at, unless}
 use Rattle.geoparquet.specs.Versions.{is_judged}
 use Rattle.geoparquet.specs.declared.code.GeoCode.{GeoCode}
 use Rattle.geoparquet.specs.declared.code.GeoCode.TheVariants.{Covering, CoveringName, CoveringColumn, CoveringType, CoveringShape}
 use Rattle.geoparquet.specs.declared.finding.Version.{Version}
 use Rattle.geoparquet.specs.declared.bounds.Bound.{Bound as DeclaredBound}
 use Rattle.geoparquet.specs.declared.bounds.Path.{Path as DeclaredPath}
+use Rattle.geoparquet.specs.declared.group.Children.{Children as DeclaredChildren}
+use Rattle.geoparquet.specs.declared.group.Children.TheVariants.{Fields, Parts}
 use Rattle.geoparquet.specs.declared.group.Group.{Group as DeclaredGroup}
 
 -- ---- bounds and their paths
@@ -68,21 +72,19 @@ path_at b = option_and_then path_of b.found
 pub record Group : Type 0 where
   pub name : Text
   pub nullable : Bool
-  pub children : FieldTrees
+  pub children : List ColumnTree
 
 -- the type of the first child of that name
-abbrev pub child_of : Text → FieldTrees → Option Tree
-child_of name no_fields = None
-child_of name (field n t b m fs) = if bytes_eq n name then Some t else child_of name fs
+abbrev pub child_of : Text → List ColumnTree → Option TypeTree
+child_of name cs = option_map (λ c. c.data_type) (first_of cs name)
 
--- the children of a type that is a group
-abbrev pub children_in : TypeTree → Option FieldTrees
-children_in (known (struct fs)) = Some fs
-children_in t = None
+-- the children of a type that is a group: a struct, whatever its children are
+abbrev pub children_in : TypeTree → Option (List ColumnTree)
+children_in t = if is_struct t then Some (below t) else None
 
 abbrev pub group_in : Option ColumnTree → Option Group
 group_in None = None
-group_in (Some c) = option_map (λ fs. record { name = c.name; nullable = c.nullable; children = fs }) (children_in c.data_type)
+group_in (Some c) = option_map (λ cs. record { name = c.name; nullable = c.nullable; children = cs }) (children_in c.data_type)
 
 -- the group that a path names: the one column of the name, where it is a group
 abbrev pub group_of : List ColumnTree → Option Path → Option Group
@@ -90,20 +92,20 @@ group_of cs None = None
 group_of cs (Some p) = if is_one cs p.column then group_in (first_of cs p.column) else None
 
 -- the type to which a path leads in a group
-abbrev pub type_at : Option Group → Option Path → Option Tree
+abbrev pub type_at : Option Group → Option Path → Option TypeTree
 type_at (Some g) (Some p) = if bytes_eq p.column g.name then child_of p.child g.children else None
 type_at _ _ = None
 
-abbrev pub is_single : Option Tree → Bool
-is_single (Some (plain float32)) = true
+abbrev pub is_single : Option TypeTree → Bool
+is_single (Some (known (plain float32))) = true
 is_single t = false
 
-abbrev pub is_double : Option Tree → Bool
-is_double (Some (plain float64)) = true
+abbrev pub is_double : Option TypeTree → Bool
+is_double (Some (known (plain float64))) = true
 is_double t = false
 
 -- floats: of single precision where the first path leads to those, and otherwise of double
-abbrev pub fits : Bool → Option Tree → Bool
+abbrev pub fits : Bool → Option TypeTree → Bool
 fits single t = if single then is_single t else is_double t
 
 -- whether a name is that of a bound
@@ -122,9 +124,8 @@ is_path_end name [] = false
 is_path_end name (b ∷ bs) = ends_in name (path_at b) || is_path_end name bs
 
 -- whether the children have the names of bounds alone, and of those that the paths lead to
-abbrev pub are_bounds : List Bound → FieldTrees → Bool
-are_bounds bs no_fields = true
-are_bounds bs (field n t b m fs) = (is_bound n || is_path_end n bs) && are_bounds bs fs
+abbrev pub are_bounds : List Bound → List ColumnTree → Bool
+are_bounds bs cs = list_all (λ c. is_bound c.name || is_path_end c.name bs) cs
 
 -- whether values may be null in the group where they may be in the column of the geometries
 abbrev pub is_null_alike : Option ColumnTree → Group → Bool
@@ -180,10 +181,16 @@ abbrev pub shape_findings : Text → Text → Option ColumnTree → Option Group
 shape_findings key place c None bs = []
 shape_findings key place c (Some g) bs = if is_shaped c bs g then [] else finding_of_first CoveringShape key place bs
 
+-- a path leads to another type: what is found is that
+abbrev pub type_findings : Text → Text → Option Group → Option Bound → List Finding
+type_findings key place g None = []
+type_findings key place g (Some b) =
+    told_at CoveringType (Some key) (member_place place b.name) (option_map (λ t. shown (type_text t)) (type_at g (path_at b))) None ∷ []
+
 -- where each path leads to a child of the group: of the types, and else of the group
 abbrev pub fit_findings : Text → Text → Option ColumnTree → Option Group → Bool → List Bound → List Finding
 fit_findings key place c g single bs =
-    if is_some (first_unfitting g single bs) then finding_at_bound CoveringType key place (first_unfitting g single bs)
+    if is_some (first_unfitting g single bs) then type_findings key place g (first_unfitting g single bs)
     else shape_findings key place c g bs
 
 abbrev pub group_findings : Text → Text → Option ColumnTree → Option Group → Bool → List Bound → List Finding
@@ -233,6 +240,15 @@ covering_findings cs version key c j =
 
 -- ---- for private contracts
 
+-- children that are lent, and the first of them
+abbrev pub children_list : DeclaredChildren → List ColumnTree
+children_list (Fields fs) = map column_of fs.now
+children_list (Parts cs) = cs.now
+
+abbrev pub first_and_rest : List ColumnTree → Option (ColumnTree × List ColumnTree)
+first_and_rest [] = None
+first_and_rest (c ∷ cs) = Some (c, cs)
+
 abbrev pub bound_tree : DeclaredBound → Bound
 bound_tree b = record { name = b.name.now; found = option_map (λ v. value_view v.now) b.found }
 
@@ -240,7 +256,7 @@ abbrev pub path_tree : DeclaredPath → Path
 path_tree p = record { column = p.column.now; child = p.child.now }
 
 abbrev pub group_tree : DeclaredGroup → Group
-group_tree g = record { name = g.name.now; nullable = g.nullable; children = field_trees g.children.now }
+group_tree g = record { name = g.name.now; nullable = g.nullable; children = children_list g.children }
 
 -- what stands at a bound was read
 abbrev pub IsBoundRead : DeclaredBound → Type 0

@@ -3,7 +3,7 @@ use Rattle.std.specs.Prelude.{◌||◌, Bool, true, false, List, [], codes, byte
 use Rattle.json.specs.Json.{Json, null, string, object}
 use Rattle.json.specs.Find.{get, as_str}
 use Rattle.arrow_values.specs.Tree.{Text}
-use Rattle.arrow_columns.specs.Column.{ColumnTree}
+use Rattle.arrow_columns.specs.Types.{ColumnTree}
 use Rattle.crs_identity.specs.Forms.{Said, unknown, value, srid, json_in}
 use Rattle.crs_identity.specs.Verdicts.{Claimed, crs_verdict}
 use Rattle.crs_identity.specs.declared.verdict.Verdict.{Verdict}

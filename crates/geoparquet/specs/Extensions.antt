@@ -7,7 +7,6 @@ use Rattle.json.specs.Lex.{tokens}
 use Rattle.json.specs.Print.{print}
 use Rattle.json.specs.Tree.{json_tokens}
 use Rattle.serde_json.specs.Data.{Data}
-use Rattle.serde_json.specs.Find.{get}
 use Rattle.serde_json.specs.Read.{of_json, read}
 use Rattle.arrow_values.specs.Tree.{Text}
 use Rattle.value_tokens.specs.Values.{IsReadable, is_object}
@@ -17,11 +16,6 @@ use Rattle.geoarrow_meta.specs.declared.crs.crs_type.CrsType.{CrsType}
 use Rattle.geoarrow_meta.specs.declared.crs.crs_type.CrsType.TheVariants.{Projjson, AuthorityCode}
 use Rattle.geoarrow_meta.specs.MetadataText.{metadata_tokens}
 use Rattle.geoparquet.specs.Identifiers.{default_identifier}
-use Rattle.geoparquet.specs.Values.{at, geo_value, text_of_value}
-
--- the member of `columns` with that name
-abbrev pub member_named : Text → Text → Option Data
-member_named geo name = at name (get (codes "columns") (geo_value geo))
 
 -- the text is that JSON value, each number as it is written and the members in their order, and `serde_json` reads it as that value
 pub record IsJson (s : Text) (j : Json) : Type 0 where
@@ -33,10 +27,6 @@ pub record IsJson (s : Text) (j : Json) : Type 0 where
 -- the last member with that name of the last member `columns`
 abbrev pub named_in : Json → Text → Option Json
 named_in j name = option_and_then (find.get name) (find.get (codes "columns") j)
-
--- the CRS of the column with that name, as it is written in the metadata, if there is one: the last member `crs` of its member of `columns`
-abbrev pub IsCrsWritten : Text → Text → Option Json → Type 0
-IsCrsWritten geo name crs = (j : Json) × IsJson geo j × (crs ≡ option_and_then (find.get (codes "crs")) (named_in j name))
 
 -- a CRS by the tokens that it is written with, and its type
 pub record TypedCrs : Type 0 where
@@ -57,21 +47,16 @@ edges_of (Some s) = if bytes_eq s (codes "spherical") then Some Spherical else N
 abbrev pub text_with : TypedCrs → Option Edges → Text
 text_with crs edges = print (metadata_tokens crs.tokens crs.crs_type edges)
 
--- the text is that of the extension metadata which the column with that name has by its member
-abbrev pub IsExtensionText : Text → Text → Text → Type 0
-IsExtensionText geo name text =
-    (crs : Option Json) × IsCrsWritten geo name crs × (text ≡ text_with (crs_of crs) (edges_of (text_of_value (at (codes "edges") (member_named geo name)))))
+-- the text of the last member with that key, if it is one
+abbrev pub text_at : Text → Json → Option Text
+text_at key j = option_and_then find.as_str (find.get key j)
+
+-- the text of the extension metadata which a column has by its member of `columns`
+abbrev pub member_text : Json → Text
+member_text j = text_with (crs_of (find.get (codes "crs") j)) (edges_of (text_at (codes "edges") j))
 
 -- ---- for private contracts
 
 -- a value that was read from a text
 abbrev pub IsRead : Json → Type 0
 IsRead j = IsReadable j × ((d : Data) × (of_json j ≡ Some d))
-
--- the text of the last member with that key, if it is one
-abbrev pub text_at : Text → Json → Option Text
-text_at key j = option_and_then find.as_str (find.get key j)
-
--- the text of the extension metadata by a member of `columns`
-abbrev pub member_text : Json → Text
-member_text j = text_with (crs_of (find.get (codes "crs") j)) (edges_of (text_at (codes "edges") j))

@@ -2,7 +2,7 @@
 use Rattle.std.specs.Prelude.{◌≡◌, not, Option, Some, option_and_then}
 use Rattle.json.specs.Json.{Json}
 use Rattle.arrow_values.specs.Tree.{Text}
-use Rattle.arrow_columns.specs.Column.{ColumnTree}
+use Rattle.arrow_columns.specs.Types.{ColumnTree}
 use Rattle.crs_identity.specs.Verdicts.{Claimed}
 use Rattle.geoparquet.specs.Contradictions.{layout_findings}
 use Rattle.geoparquet.specs.Counting.{crs_that_counts}

@@ -1,30 +1,27 @@
 -- The facts of a column: of its CRS, its edges and its encoding what counts, by which source, and what the others say against it (docs/FORMAT.md, 5).
 use Rattle.std.specs.Prelude.{Bool, true, false, not, List, [], ◌∷◌, ◌++◌, codes, string_bytes, Option, None, Some, is_some, option_and_then, option_map, unwrap_or, if◌then◌else◌}
-use Rattle.std.specs.Str.{is_utf8}
 use Rattle.json.specs.Json.{Json, null, string}
 use Rattle.json.specs.Find.{get, as_str}
 use Rattle.serde_json.specs.Data.{Data}
 use Rattle.value_tokens.specs.Values.{is_object}
 use Rattle.arrow_values.specs.Tree.{Text}
-use Rattle.arrow_columns.specs.Column.{ColumnTree}
-use Rattle.crs_identity.specs.Forms.{json_in}
+use Rattle.arrow_columns.specs.Types.{ColumnTree}
 use Rattle.crs_identity.specs.Verdicts.{Claimed, crs_verdict}
 use Rattle.geoparquet.specs.Contradictions.{element_encoding, element_metadata, field_encoding, layout_encoding, own_metadata}
 use Rattle.geoparquet.specs.CrsClaims.{crs_at, element_crs, element_json, field_json, own_crs_in, said_crs}
-pub use Rattle.geoparquet.specs.EdgesClaims.{are_absent, edges_claims, edges_counting, edges_defaults, has_no_edges, is_default_if, member_edges}
+pub use Rattle.geoparquet.specs.EdgesClaims.{EdgesOf, are_absent, edges_claims, edges_defaults, edges_fact_in, edges_fact_of, edges_from, edges_view, has_no_edges, is_default_if, member_edges}
 use Rattle.geoparquet.specs.FactSources.{BySource, against, of_source, source_counting, text_verdict}
 use Rattle.geoparquet.specs.GeoColumns.{left_for}
 use Rattle.geoparquet.specs.MemberRules.{encoding_of}
 use Rattle.geoparquet.specs.StrictLayouts.{is_laid_out}
 use Rattle.geoparquet.specs.MemberFacts.{SaidOf, member_facts, member_facts_view}
 use Rattle.geoparquet.specs.Identifiers.{default_identifier}
-use Rattle.geoparquet.specs.Sources.{Element, Source, unasked, missing, value, with_elements}
+use Rattle.geoparquet.specs.Sources.{Element, Source, geo_json, with_elements}
 use Rattle.geoparquet.specs.Versions.{version_of}
 use Rattle.geoparquet.specs.declared.fact_sources.Against.{Against}
 use Rattle.geoparquet.specs.declared.fact_sources.FactSource.{FactSource}
 use Rattle.geoparquet.specs.declared.fact_sources.FactSource.TheVariants as of
 use Rattle.geoparquet.specs.declared.crs_facts.CrsFact.{CrsFact}
-use Rattle.geoparquet.specs.declared.text_facts.EdgesFact.{EdgesFact}
 use Rattle.geoparquet.specs.declared.text_facts.EncodingFact.{EncodingFact}
 use Rattle.geoparquet.specs.declared.facts.ColumnFacts.{ColumnFacts}
 use Rattle.geoparquet.specs.declared.finding.Version.{Version}
@@ -38,11 +35,6 @@ pub record CrsOf : Type 0 where
   pub crs_type : Option Text
   pub against : Against
 
-pub record EdgesOf : Type 0 where
-  pub from : FactSource
-  pub edges : Text
-  pub against : Against
-
 pub record FactsOf : Type 0 where
   pub crs : Option CrsOf
   pub edges : Option EdgesOf
@@ -52,9 +44,6 @@ pub record FactsOf : Type 0 where
 
 abbrev pub crs_view : CrsFact → CrsOf
 crs_view f = record { from = f.from; crs = f.crs; crs_type = option_map string_bytes f.crs_type; against = f.against }
-
-abbrev pub edges_view : EdgesFact → EdgesOf
-edges_view f = record { from = f.from; edges = string_bytes f.edges; against = f.against }
 
 abbrev pub facts_view : ColumnFacts → FactsOf
 facts_view f = record { crs = option_map crs_view f.crs; edges = option_map edges_view f.edges; encoding = f.encoding; layout_contradicts = f.layout_contradicts; member = member_facts_view f.member }
@@ -124,16 +113,6 @@ crs_fact version member c e = crs_fact_in version e (json_sources member c e)
 
 -- ---- the edges
 
-abbrev pub edges_from : BySource Text → FactSource → Option EdgesOf
-edges_from ts from = option_map (λ s. record { from = from; edges = s; against = against text_verdict from ts }) (of_source from ts)
-
-abbrev pub edges_fact_of : BySource Text → BySource Bool → Option EdgesOf
-edges_fact_of ts ds = option_and_then (edges_from ts) (source_counting ds)
-
-abbrev pub edges_fact_in : Version → Option Json → Option Element → Data → Data → Option EdgesOf
-edges_fact_in version member e element field =
-    edges_fact_of (edges_claims version member e element field) (edges_defaults member e field (edges_claims version member e element field))
-
 abbrev pub edges_fact : Version → Option Json → ColumnTree → Option Element → Option EdgesOf
 edges_fact version member c e = edges_fact_in version member e (element_metadata e (Some c)) (own_metadata (Some c))
 
@@ -177,15 +156,6 @@ layout_contradicts version (Some j) c e = has_other_layout (encoding_of version 
 abbrev pub column_facts : Version → Option Json → ColumnTree → Option Element → FactsOf
 column_facts version member c e =
     record { crs = crs_fact version member c e; edges = edges_fact version member c e; encoding = encoding_fact version member c e; layout_contradicts = layout_contradicts version member c e; member = member_facts version member }
-
--- the JSON that a file has at the key `geo`; null where there is none
-abbrev pub json_at_geo : Source → Option Json
-json_at_geo unasked = None
-json_at_geo missing = None
-json_at_geo (value bytes) = if is_utf8 bytes then json_in bytes else None
-
-abbrev pub geo_json : Source → Json
-geo_json s = unwrap_or (json_at_geo s) null
 
 -- an object, and no other value
 abbrev pub if_object : Option Json → Option Json

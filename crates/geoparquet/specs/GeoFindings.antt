@@ -6,7 +6,7 @@ use Rattle.json.specs.Find.{get, as_str}
 use Rattle.serde_json.specs.Read.{read}
 use Rattle.value_tokens.specs.Values.{IsReadable, is_object}
 use Rattle.arrow_values.specs.Tree.{Text}
-use Rattle.arrow_columns.specs.Column.{ColumnTree}
+use Rattle.arrow_columns.specs.Types.{ColumnTree}
 use Rattle.arrow_columns.specs.Names.{first_of, is_one}
 use Rattle.geoparquet.specs.Findings.{Finding, shown}
 use Rattle.geoparquet.specs.Sources.{Source, unasked, missing, value, Element, element_named, with_elements}
@@ -29,6 +29,7 @@ use Rattle.geoparquet.specs.Ordered.{are_some, columns_of, has_member}
 use Rattle.geoparquet.specs.Extensions.{IsJson}
 use Rattle.geoparquet.specs.declared.code.GeoCode.{GeoCode}
 use Rattle.geoparquet.specs.declared.code.GeoCode.TheVariants.{NotJson, NotObject, Columns, ColumnMissing, ColumnRepeated, Member, PrimaryColumn}
+use Rattle.geoparquet.specs.declared.fact_sources.FactSource.TheVariants.{Geo}
 use Rattle.geoparquet.specs.declared.finding.Version.{Version}
 use Rattle.geoparquet.specs.declared.finding.Version.TheVariants.{V1_1}
 use Rattle.geoparquet.specs.declared.source.Unread.{Unread}
@@ -169,7 +170,7 @@ geo_findings cs xs j = json_findings cs xs j ++ alone_findings (columns_of j) xs
 
 -- what is found of a value that is no JSON, as it is shown
 abbrev pub unread_finding : Text → Finding
-unread_finding text = record { code = NotJson; column = None; pointer = []; found = Some (shown text); wanted = None; more = 0 }
+unread_finding text = record { code = NotJson; column = None; source = Geo; pointer = []; found = Some (shown text); wanted = None; more = 0 }
 
 -- the version and the findings are those of the text: of the value that it is, where it is JSON
 abbrev pub AreTextFindings : Text → List ColumnTree → List (ColumnTree × Option Element) → Version → List Finding → Type 0

@@ -3,8 +3,9 @@ use Rattle.std.specs.Prelude.{◌++◌, Bool, false, not, List, [], ◌∷◌, c
 use Rattle.json.specs.Json.{Json, string}
 use Rattle.arrow_values.specs.Tree.{Text}
 use Rattle.geoparquet.specs.Findings.{Finding}
-use Rattle.geoparquet.specs.Rules.{found_at, part_place}
+use Rattle.geoparquet.specs.Rules.{found_at, found_in, part_place}
 use Rattle.geoparquet.specs.declared.code.GeoCode.{GeoCode}
+use Rattle.geoparquet.specs.declared.fact_sources.FactSource.TheVariants.{Field}
 use Rattle.geoparquet.specs.declared.pairs.Pair.{Pair}
 use Rattle.geoparquet.specs.declared.pairs.Pair.TheVariants.{ElementGeo, ElementField, FieldGeo}
 
@@ -31,13 +32,13 @@ abbrev pub of_field : Text → Text
 of_field s = s ++ codes " of the field"
 
 -- what is found of a pair, by what stands in `geo` and in the field, and by what the element and the field say:
--- of a pair with `geo` at its place there, of another at no place of `geo`; what is found is of the second of the pair, what is wanted of the first
+-- of a pair with `geo` at its place there, of another in what the field says; what is found is of the second of the pair, what is wanted of the first
 abbrev pub pair_findings : GeoCode → Text → Text → Option Json → Option Text → Option Json → Option Text → Option Pair → List Finding
 pair_findings code key name found element field own None = []
 pair_findings code key name found element field own (Some ElementGeo) =
     found_at code (Some key) (part_place key name) found (option_map of_element element) ∷ []
 pair_findings code key name found element field own (Some ElementField) =
-    found_at code (Some key) [] field (option_map of_element element) ∷ []
+    found_in Field code key field (option_map of_element element) ∷ []
 pair_findings code key name found element field own (Some FieldGeo) =
     found_at code (Some key) (part_place key name) found (option_map of_field own) ∷ []
 

@@ -14,6 +14,7 @@ use Rattle.parquet_columns.specs.Findings.{values_text}
 use Rattle.geoparquet.specs.Findings.{Finding, finding, member_place, item_place}
 use Rattle.geoparquet.specs.Ordered.{ordered_members}
 use Rattle.geoparquet.specs.declared.code.GeoCode.TheVariants.{RepeatedKey}
+use Rattle.geoparquet.specs.declared.fact_sources.FactSource.TheVariants.{Geo}
 use Rattle.geoparquet.specs.declared.finding.GeoFinding.{GeoFinding}
 use Rattle.geoparquet.specs.declared.repeated_keys.Step.{Step as StepOf}
 use Rattle.geoparquet.specs.declared.repeated_keys.Step.TheVariants as steps
@@ -80,7 +81,7 @@ values_at k (member l j ms) = if bytes_eq l k then j ∷ values_at k ms else val
 -- of a key at the end of a way, by how many values it has, and whether they are equal
 abbrev pub repeated_finding : List Step → ℕ → Bool → Finding
 repeated_finding way n same =
-    record { code = RepeatedKey; column = column_on way; pointer = pointer way; found = Some (values_text n same); wanted = None; more = 0 }
+    record { code = RepeatedKey; column = column_on way; source = Geo; pointer = pointer way; found = Some (values_text n same); wanted = None; more = 0 }
 
 abbrev pub several : List Step → ℕ → Bool → List Finding
 several way n same = if nat_lt 1 n then repeated_finding way n same ∷ [] else []

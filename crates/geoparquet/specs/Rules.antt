@@ -4,6 +4,8 @@ use Rattle.json.specs.Json.{Json, array, Items, no_items, item}
 use Rattle.arrow_values.specs.Tree.{Text}
 use Rattle.geoparquet.specs.Findings.{Finding, member_place, item_place, shown_value}
 use Rattle.geoparquet.specs.declared.code.GeoCode.{GeoCode}
+use Rattle.geoparquet.specs.declared.fact_sources.FactSource.{FactSource}
+use Rattle.geoparquet.specs.declared.fact_sources.FactSource.TheVariants.{Geo}
 
 -- the place of the member of `columns` with that key, and that of its own member with a name
 abbrev pub column_place : Text → Text
@@ -12,10 +14,19 @@ column_place key = member_place (codes "/columns") key
 abbrev pub part_place : Text → Text → Text
 part_place key name = member_place (column_place key) name
 
--- what is found at a place where that stands, if something does; and what the rule wants there
+-- what is found at a place in the metadata, as it is shown; and what the rule wants there
+abbrev pub told_at : GeoCode → Option Text → Text → Option Text → Option Text → Finding
+told_at code column place found wanted =
+    record { code = code; column = column; source = Geo; pointer = place; found = found; wanted = wanted; more = 0 }
+
+-- so what stands there, if something does
 abbrev pub found_at : GeoCode → Option Text → Text → Option Json → Option Text → Finding
-found_at code column place found wanted =
-    record { code = code; column = column; pointer = place; found = option_map shown_value found; wanted = wanted; more = 0 }
+found_at code column place found wanted = told_at code column place (option_map shown_value found) wanted
+
+-- what is found of a column in what its element or its field says
+abbrev pub found_in : FactSource → GeoCode → Text → Option Json → Option Text → Finding
+found_in source code key found wanted =
+    record { code = code; column = Some key; source = source; pointer = []; found = option_map shown_value found; wanted = wanted; more = 0 }
 
 -- what is found of a member of a column's member
 abbrev pub part_finding : GeoCode → Text → Text → Option Json → Finding

@@ -1,11 +1,15 @@
 -- The sources that say something of a column: the value at the key `geo`, and what the element says beside the field (docs/FORMAT.md, 4.6 and 5).
-use Rattle.std.specs.Prelude.{◌≡◌, List, [], ◌∷◌, bytes_eq, Option, None, Some, option_and_then, option_map, find}
+use Rattle.std.specs.Prelude.{◌≡◌, List, [], ◌∷◌, bytes_eq, Option, None, Some, option_and_then, option_map, unwrap_or, find, if◌then◌else◌}
 use Rattle.std.specs.Borrow.{Bor}
 use Rattle.std.specs.BTreeMap.{BTreeMap, get_by}
 use Rattle.std.specs.Cmp.Lexicographic.{slice_cmp}
 use Rattle.std.specs.Ordering.{nat_cmp}
+use Rattle.std.specs.Str.{is_utf8}
+use Rattle.json.specs.Json.{Json, null}
 use Rattle.arrow_values.specs.Tree.{Text}
-use Rattle.arrow_columns.specs.Column.{ColumnTree, column_tree}
+use Rattle.arrow_columns.specs.Column.{column_tree}
+use Rattle.arrow_columns.specs.Types.{ColumnTree}
+use Rattle.crs_identity.specs.Forms.{json_in}
 use Rattle.parquet_columns.specs.declared.layouts.RootElement as declared
 pub use Rattle.parquet_columns.specs.Claims.{Claim, silent, gives, beside}
 pub use Rattle.parquet_columns.specs.Layouts.{RootElement as Element, root_element as element_view}
@@ -23,6 +27,15 @@ abbrev pub source : GeoSource → Source
 source Unasked = unasked
 source Missing = missing
 source (Value v) = value v.now
+
+-- the JSON that a file has at the key `geo`; null where there is none
+abbrev pub json_at_geo : Source → Option Json
+json_at_geo unasked = None
+json_at_geo missing = None
+json_at_geo (value bytes) = if is_utf8 bytes then json_in bytes else None
+
+abbrev pub geo_json : Source → Json
+geo_json s = unwrap_or (json_at_geo s) null
 
 -- the columns, each with what its element says, if one is there
 abbrev pub with_elements : List ColumnTree → List Element → List (ColumnTree × Option Element)

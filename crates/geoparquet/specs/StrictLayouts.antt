@@ -1,7 +1,7 @@
 -- The strict layouts of encodings (docs/FORMAT.md, 5.5), and the extension names of the same encodings.
 use Rattle.std.specs.Prelude.{◌&&◌, ◌||◌, ◌==◌, ◌++◌, [], is_some, ℕ, zero, suc, Bool, true, false, not, codes, bytes_eq, Option, None, Some, option_map, option_and_then, if◌then◌else◌}
 use Rattle.arrow_values.specs.Tree.{Text, Tree, plain, list, large_list, struct, float64, binary, large_binary, binary_view, FieldTrees, no_fields, field}
-use Rattle.arrow_columns.specs.Column.{TypeTree, known, other, ColumnTree}
+use Rattle.arrow_columns.specs.Types.{TypeTree, known, other, ColumnTree}
 use Rattle.arrow_columns.specs.Notation.{type_text}
 use Rattle.parquet_columns.specs.Layouts as elements
 use Rattle.parquet_columns.specs.Unreadable.{is_unreadable}
@@ -80,7 +80,7 @@ layout_of_tree s t =
 
 abbrev pub layout_of : Text → TypeTree → Option Layout
 layout_of s (known t) = layout_of_tree s t
-layout_of s (other n) = None
+layout_of s (other n f ids ps) = None
 
 -- ---- of elements (docs/FORMAT.md, 5.5)
 

@@ -4,7 +4,8 @@ use Rattle.std.specs.List.{list_any}
 use Rattle.json.specs.Json.{Json, string}
 use Rattle.parquet_columns.specs.GeoNames.{covers}
 use Rattle.arrow_values.specs.Tree.{Text}
-use Rattle.arrow_columns.specs.Column.{ColumnTree, name_on}
+use Rattle.arrow_columns.specs.Column.{name_on}
+use Rattle.arrow_columns.specs.Types.{ColumnTree}
 use Rattle.geoparquet.specs.Findings.{Finding}
 use Rattle.geoparquet.specs.Rules.{found_at, unless}
 use Rattle.geoparquet.specs.Ordered.{has_member}

@@ -113,6 +113,20 @@ judged_text versions.V1_0 = codes "The rules of 1.0.0 are used."
 judged_text versions.V1_1 = codes "The rules of 1.1.0 are used."
 judged_text versions.V2 = codes "The rules of version 2 are used, as far as they are known."
 
+-- of a member of `columns`
+abbrev pub member_advice : GeoCode → Option Text
+member_advice Encoding = Some (codes "The name has no geoarrow. before it.")
+member_advice TypesVersion = Some (codes "Types with measures come with version 2.")
+member_advice Crs = Some (codes "projinfo -o PROJJSON CODE prints one, where CODE is as EPSG:4326.")
+member_advice Orientation = Some (codes "Leave it out if rings go either way.")
+member_advice Epoch = Some (codes "A number has no quotes.")
+member_advice BboxOrder = Some (codes "Only a box of a geographic CRS has an xmin above its xmax, where it crosses the antimeridian.")
+member_advice CoveringName = Some (codes "Where bounds are exchanged, filters by this covering drop rows.")
+member_advice CoveringAbsent = Some (codes "Add \"covering\":{\"bbox\":{\"xmin\":[NAME,\"xmin\"],\"ymin\":[NAME,\"ymin\"],\"xmax\":[NAME,\"xmax\"],\"ymax\":[NAME,\"ymax\"]}}, where NAME is the name found.")
+member_advice CrsContradicts = Some (codes "That of the element counts first, then that of geo, then that of the field; a default counts last.")
+member_advice EdgesContradict = Some (codes "Those of the element count first, then those of geo, then those of the field; a default counts last.")
+member_advice code = None
+
 abbrev pub advice_of : GeoVersion → GeoCode → Option Text
 advice_of version NotJson = Some (codes "JSON has no NaN, no Infinity and no byte order mark; leave out a bbox that is not finite.")
 advice_of version RepeatedKey = Some (codes "The last counts here; other readers take the first.")
@@ -120,17 +134,7 @@ advice_of version Version = Some (judged_text version)
 advice_of version OldVersion = Some (codes "Versions before 1.0.0 are judged in part; write the metadata anew.")
 advice_of version NewVersion = Some (judged_text version)
 advice_of version ColumnUndeclared = Some (codes "Readers of GeoParquet do not see the column.")
-advice_of version Encoding = Some (codes "The name has no geoarrow. before it.")
-advice_of version TypesVersion = Some (codes "Types with measures come with version 2.")
-advice_of version Crs = Some (codes "projinfo -o PROJJSON CODE prints one, where CODE is as EPSG:4326.")
-advice_of version Orientation = Some (codes "Leave it out if rings go either way.")
-advice_of version Epoch = Some (codes "A number has no quotes.")
-advice_of version BboxOrder = Some (codes "Only a box of a geographic CRS has an xmin above its xmax, where it crosses the antimeridian.")
-advice_of version CoveringName = Some (codes "Where bounds are exchanged, filters by this covering drop rows.")
-advice_of version CoveringAbsent = Some (codes "Add \"covering\":{\"bbox\":{\"xmin\":[NAME,\"xmin\"],\"ymin\":[NAME,\"ymin\"],\"xmax\":[NAME,\"xmax\"],\"ymax\":[NAME,\"ymax\"]}}, where NAME is the name found.")
-advice_of version CrsContradicts = Some (codes "That of the element counts first, then that of geo, then that of the field; a default counts last.")
-advice_of version EdgesContradict = Some (codes "Those of the element count first, then those of geo, then those of the field; a default counts last.")
-advice_of version _ = None
+advice_of version code = member_advice code
 
 -- the names that are expected where a code is found, each as JSON
 abbrev pub encoding_names : GeoVersion → List Text

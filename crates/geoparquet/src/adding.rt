@@ -4,11 +4,12 @@ ghost use Rattle.json.specs.Value.{value_view};
 ghost use Rattle.arrow_values.specs.Texts.{text_of};
 ghost use Rattle.value_tokens.specs.Values.{IsReadable};
 ghost use Rattle.geoparquet.specs.Findings.{finding};
-ghost use Rattle.geoparquet.specs.Rules.{found_at, part_place};
+ghost use Rattle.geoparquet.specs.Rules.{found_at, found_in, part_place};
 
 use crate::code::GeoCode;
+use crate::fact_sources::FactSource;
 use crate::finding::GeoFinding;
-use crate::place::{finding_at, part_place};
+use crate::place::{finding_at, finding_in, part_place};
 use json::Value;
 use std::alloc::{AllocError, Global};
 
@@ -28,6 +29,24 @@ pub(crate) fn add_at(
 {
     let place = String::from_str(alloc, place)?;
     findings.push(finding_at(alloc, code, column, place, found, wanted)?)?;
+    Ok(())
+}
+
+/// Adds a finding of a column in what its element or its field says. Errs only when out of memory.
+pub(crate) fn add_in(
+    alloc: Global,
+    findings: &mut Vec<GeoFinding>,
+    source: FactSource,
+    code: GeoCode,
+    key: &str,
+    found: Option<&Value<'_>>,
+    wanted: Option<&str>,
+) -> Result<(), AllocError>
+    requires { IfSome found (λ v. IsReadable (value_view v.now)) }
+    ensures { OnOk result (map finding findings.new.items ≡ map finding findings.old.items
+        ++ found_in source code key.now (option_map (λ v. value_view v.now) found.entry) (text_of wanted.entry) ∷ []) }
+{
+    findings.push(finding_in(alloc, source, code, key, found, wanted)?)?;
     Ok(())
 }
 

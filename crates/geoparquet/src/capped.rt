@@ -16,6 +16,7 @@ fn standing_for(it: GeoFinding, more: usize) -> GeoFinding
     let GeoFinding {
         code,
         column,
+        source,
         pointer,
         found,
         wanted,
@@ -24,6 +25,7 @@ fn standing_for(it: GeoFinding, more: usize) -> GeoFinding
     GeoFinding {
         code,
         column,
+        source,
         pointer,
         found,
         wanted,

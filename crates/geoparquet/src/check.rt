@@ -20,6 +20,7 @@ use crate::adding::add_at;
 use crate::code::GeoCode;
 use crate::column::{add_member, add_own, is_object};
 use crate::covering_absent::first_box;
+use crate::fact_sources::FactSource;
 use crate::finding::{GeoFinding, GeoReport, Version};
 use crate::ordered::{ByKey, are_some, has_member, members_in};
 use crate::repeated_keys::add_repeated_keys;
@@ -98,6 +99,7 @@ fn not_json_report(alloc: Global, text: &str, all: &[Sourced<'_>]) -> Result<Geo
     let found = GeoFinding {
         code: GeoCode::NotJson,
         column: None,
+        source: FactSource::Geo,
         pointer: String::new(alloc),
         found: Some(shown(alloc, text)?),
         wanted: None,

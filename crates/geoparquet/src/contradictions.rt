@@ -20,7 +20,7 @@ use crate::finding::{GeoFinding, Version};
 use crate::layout::{Layout, is_laid_out, layout_by, layout_text};
 use crate::members::{encoding_of, is_edges, is_edges_value};
 use crate::pairs::add_texts;
-use crate::place::{item_finding, part_place};
+use crate::place::{item_finding, part_place, told_at};
 use crate::types::{type_of, type_text, types_in};
 use crate::values::geo_value;
 use arrow_columns::SchemaColumn;
@@ -67,14 +67,9 @@ fn layout_finding(
 ) -> Result<GeoFinding, AllocError>
     ensures { IfOk result (λ made. finding made ≡ layout_finding key.now (string_bytes found) wanted.now) }
 {
-    Ok(GeoFinding {
-        code: GeoCode::Layout,
-        column: Some(String::from_str(alloc, key)?),
-        pointer: part_place(alloc, key, "encoding")?,
-        found: Some(found),
-        wanted: Some(String::from_str(alloc, wanted)?),
-        more: 0,
-    })
+    let place = part_place(alloc, key, "encoding")?;
+    let code = GeoCode::Layout;
+    told_at(alloc, code, Some(key), place, Some(found), Some(wanted))
 }
 
 /// Adds what is found where a column has another layout than that of an encoding. Errs only when out
@@ -228,13 +223,20 @@ pub(crate) fn add_types_contradict(
     add_capped(findings, found)
 }
 
-/// Returns the encoding that an extension name says.
-pub(crate) fn own_encoding(name: &str) -> Option<&'static str>
+/// Returns the encoding that an extension name says, as `WKB` or `multipoint` (docs/FORMAT.md, 5):
+/// one of the eleven names of GeoArrow, or an old one.
+///
+/// ```rust
+/// assert_eq!(rt; own_encoding("geoarrow.multipoint"), Some("multipoint"));
+/// assert_eq!(rt; own_encoding("ogc.wkb"), Some("WKB"));
+/// assert_eq!(rt; own_encoding("multipoint"), None);
+/// ```
+pub fn own_encoding(name: &str) -> Option<&'static str>
     ensures { text_of result ≡ own_encoding name.now }
 {
     match name {
-        "geoarrow.wkb" => Some("WKB"),
-        "geoarrow.wkt" => Some("WKT"),
+        "geoarrow.wkb" | "ogc.wkb" => Some("WKB"),
+        "geoarrow.wkt" | "ogc.wkt" => Some("WKT"),
         "geoarrow.point" => Some("point"),
         "geoarrow.linestring" => Some("linestring"),
         "geoarrow.polygon" => Some("polygon"),
@@ -244,8 +246,6 @@ pub(crate) fn own_encoding(name: &str) -> Option<&'static str>
         "geoarrow.geometrycollection" => Some("geometrycollection"),
         "geoarrow.geometry" => Some("geometry"),
         "geoarrow.box" => Some("box"),
-        "ogc.wkb" => Some("WKB"),
-        "ogc.wkt" => Some("WKT"),
         _ => None,
     }
 }

@@ -1,31 +1,30 @@
 //! The CRS and the edges by which a column is judged.
-ghost use Rattle.std.specs.Prelude.{◌≡◌, ◌++◌, IfOk, OnOk, codes, map, option_map};
+ghost use Rattle.std.specs.Prelude.{◌≡◌, [], ◌∷◌, ◌++◌, IfOk, OnOk, codes, map, option_map};
 ghost use Rattle.json.specs.Find.{get};
 ghost use Rattle.json.specs.Value.{value_view};
-ghost use Rattle.value_tokens.specs.Values.{IsReadable};
 ghost use Rattle.arrow_values.specs.Texts.{text_of};
 ghost use Rattle.arrow_columns.specs.Column.{column_tree};
 ghost use Rattle.crs_identity.specs.Verdicts.{claim};
 ghost use Rattle.geoparquet.specs.Findings.{finding};
 ghost use Rattle.geoparquet.specs.CrsClaims.{own_crs_in, said_crs};
-ghost use Rattle.geoparquet.specs.Counting.{counting, crs_counting, crs_that_counts, is_projected_class, is_projected, is_asked, is_paired_by, is_crs_paired, are_planar, crs_alone, edges_on_projected_findings, own_on_projected_findings};
+ghost use Rattle.geoparquet.specs.Counting.{counting, crs_counting, crs_that_counts, is_projected_class, is_projected, is_asked, is_paired_by, is_crs_paired, crs_alone, projects, member_edges_finding, own_edges_finding, edges_finding, on_projected_findings, edges_on_projected_findings, own_on_projected_findings};
 ghost use Rattle.geoparquet.specs.Identifiers.{default_identifier};
 ghost use Rattle.geoparquet.specs.Sources.{element_view};
 ghost use Rattle.json.specs.Json.{string};
 
-use crate::adding::{add_at, add_part};
+use crate::adding::{add_in, add_part};
 use crate::code::GeoCode;
 use crate::contradictions::{element_metadata, own_metadata};
 use crate::crs_claims::{DEFAULT_CRS, element_crs, element_json, field_json, own_crs_in, said_crs};
+use crate::fact_sources::FactSource;
 use crate::finding::{GeoFinding, Version};
-use crate::text_facts::are_planar_in;
+use crate::text_facts::edges_fact_in;
 use crate::version::is_judged;
 use arrow_columns::SchemaColumn;
 use crs_identity::{Claim, Class, class_of, has_paired_identifier};
 use json::{Scratch, Value};
 use parquet_columns::RootElement;
 use std::alloc::{AllocError, Global};
-use value_tokens::member_of;
 
 /// Whether a class is that of coordinates in a plane.
 fn is_projected_class(class: Option<Class>) -> bool
@@ -224,50 +223,6 @@ pub(crate) fn counts_paired(
     )
 }
 
-/// Returns whether the edges that count are planar. Errs only when out of memory.
-fn are_planar(
-    alloc: Global,
-    version: Version,
-    column: Option<&SchemaColumn>,
-    element: Option<&RootElement>,
-    member: Option<&Value<'_>>,
-) -> Result<bool, AllocError>
-    ensures { IfOk result (λ are. are ≡ are_planar version (option_map (λ c. column_tree c.now) column.entry) (option_map (λ e. element_view e.now) element.entry) (option_map (λ v. value_view v.now) member.entry)) }
-{
-    let metadata = element_metadata(alloc, element, column)?;
-    let own = own_metadata(alloc, column)?;
-    Ok(are_planar_in(version, member, element, &metadata, &own))
-}
-
-/// Adds what is found where the edges that count are not planar, and the CRS that counts is projected
-/// (docs/FORMAT.md, 5). Errs only when out of memory.
-pub(crate) fn add_edges_on_projected(
-    alloc: Global,
-    findings: &mut Vec<GeoFinding>,
-    version: Version,
-    key: &str,
-    column: Option<&SchemaColumn>,
-    element: Option<&RootElement>,
-    member: &Value<'_>,
-) -> Result<(), AllocError>
-    requires { IsReadable (value_view member.now) }
-    ensures { OnOk result (map finding findings.new.items ≡ map finding findings.old.items
-        ++ edges_on_projected_findings version key.now (option_map (λ c. column_tree c.now) column.entry) (option_map (λ e. element_view e.now) element.entry) (value_view member.now)) }
-{
-    if !is_judged(version) {
-        return Ok(());
-    }
-    if are_planar(alloc, version, column, element, Some(member))? {
-        return Ok(());
-    }
-    if !counts_projected(alloc, version, column, element, member)? {
-        return Ok(());
-    }
-    let code = GeoCode::EdgesOnProjected;
-    let found = member_of(member, "edges");
-    add_part(alloc, findings, code, key, "edges", found, None)
-}
-
 /// Returns whether the CRS of a column that has no member is projected. Errs only when out of memory.
 fn is_projected_alone(
     alloc: Global,
@@ -284,6 +239,117 @@ fn is_projected_alone(
     is_asked_beside(alloc, asked, element, metadata.as_ref(), own.as_ref(), None)
 }
 
+/// Returns whether the CRS that counts of a column with a member or without is projected. Errs only
+/// when out of memory.
+fn projects(
+    alloc: Global,
+    version: Version,
+    column: Option<&SchemaColumn>,
+    element: Option<&RootElement>,
+    member: Option<&Value<'_>>,
+) -> Result<bool, AllocError>
+    ensures { IfOk result (λ is. is ≡ projects version (option_map (λ c. column_tree c.now) column.entry) (option_map (λ e. element_view e.now) element.entry) (option_map (λ v. value_view v.now) member.entry)) }
+{
+    match member {
+        Some(member) => counts_projected(alloc, version, column, element, member),
+        None => is_projected_alone(alloc, column, element),
+    }
+}
+
+/// Adds the finding of the edges of a member. Errs only when out of memory.
+fn add_member_edges(
+    alloc: Global,
+    findings: &mut Vec<GeoFinding>,
+    key: &str,
+    edges: &str,
+) -> Result<(), AllocError>
+    ensures { OnOk result (map finding findings.new.items ≡ map finding findings.old.items ++ member_edges_finding key.now edges.now ∷ []) }
+{
+    let found = Value::String(edges);
+    let code = GeoCode::EdgesOnProjected;
+    add_part(alloc, findings, code, key, "edges", Some(&found), None)
+}
+
+/// Adds the finding of the edges of an element or a field. Errs only when out of memory.
+fn add_own_edges(
+    alloc: Global,
+    findings: &mut Vec<GeoFinding>,
+    source: FactSource,
+    key: &str,
+    edges: &str,
+) -> Result<(), AllocError>
+    ensures { OnOk result (map finding findings.new.items ≡ map finding findings.old.items ++ own_edges_finding source key.now edges.now ∷ []) }
+{
+    let found = Value::String(edges);
+    let code = GeoCode::EdgesOnProjected;
+    add_in(alloc, findings, source, code, key, Some(&found), None)
+}
+
+/// Adds the finding of edges, by their source. Errs only when out of memory.
+fn add_edges_from(
+    alloc: Global,
+    findings: &mut Vec<GeoFinding>,
+    key: &str,
+    from: FactSource,
+    edges: &str,
+) -> Result<(), AllocError>
+    ensures { OnOk result (map finding findings.new.items ≡ map finding findings.old.items ++ edges_finding key.now from edges.now ∷ []) }
+{
+    match from {
+        FactSource::Geo => add_member_edges(alloc, findings, key, edges),
+        FactSource::Element => add_own_edges(alloc, findings, FactSource::Element, key, edges),
+        FactSource::Field => add_own_edges(alloc, findings, FactSource::Field, key, edges),
+    }
+}
+
+/// Adds what is found where the edges that count of a column with a member or without are not planar,
+/// and the CRS that counts is projected. Errs only when out of memory.
+fn add_on_projected(
+    alloc: Global,
+    findings: &mut Vec<GeoFinding>,
+    version: Version,
+    key: &str,
+    column: Option<&SchemaColumn>,
+    element: Option<&RootElement>,
+    member: Option<&Value<'_>>,
+) -> Result<(), AllocError>
+    ensures { OnOk result (map finding findings.new.items ≡ map finding findings.old.items
+        ++ on_projected_findings version key.now (option_map (λ c. column_tree c.now) column.entry) (option_map (λ e. element_view e.now) element.entry) (option_map (λ v. value_view v.now) member.entry)) }
+{
+    let metadata = element_metadata(alloc, element, column)?;
+    let own = own_metadata(alloc, column)?;
+    let Some(fact) = edges_fact_in(alloc, version, member, element, &metadata, &own)? else {
+        return Ok(());
+    };
+    if fact.edges.as_str() == "planar" {
+        return Ok(());
+    }
+    if !projects(alloc, version, column, element, member)? {
+        return Ok(());
+    }
+    add_edges_from(alloc, findings, key, fact.from, fact.edges.as_str())
+}
+
+/// Adds what is found where the edges that count are not planar, and the CRS that counts is projected
+/// (docs/FORMAT.md, 5). Errs only when out of memory.
+pub(crate) fn add_edges_on_projected(
+    alloc: Global,
+    findings: &mut Vec<GeoFinding>,
+    version: Version,
+    key: &str,
+    column: Option<&SchemaColumn>,
+    element: Option<&RootElement>,
+    member: &Value<'_>,
+) -> Result<(), AllocError>
+    ensures { OnOk result (map finding findings.new.items ≡ map finding findings.old.items
+        ++ edges_on_projected_findings version key.now (option_map (λ c. column_tree c.now) column.entry) (option_map (λ e. element_view e.now) element.entry) (value_view member.now)) }
+{
+    if !is_judged(version) {
+        return Ok(());
+    }
+    add_on_projected(alloc, findings, version, key, column, element, Some(member))
+}
+
 /// Adds what is found where the edges of a column that has no member are not planar, and its CRS is
 /// projected (docs/FORMAT.md, 5). Errs only when out of memory.
 pub(crate) fn add_own_on_projected(
@@ -296,12 +362,5 @@ pub(crate) fn add_own_on_projected(
     ensures { OnOk result (map finding findings.new.items ≡ map finding findings.old.items
         ++ own_on_projected_findings key.now (option_map (λ c. column_tree c.now) column.entry) (option_map (λ e. element_view e.now) element.entry)) }
 {
-    if are_planar(alloc, Version::V1_1, column, element, None)? {
-        return Ok(());
-    }
-    if !is_projected_alone(alloc, column, element)? {
-        return Ok(());
-    }
-    let code = GeoCode::EdgesOnProjected;
-    add_at(alloc, findings, code, Some(key), "", None, None)
+    add_on_projected(alloc, findings, Version::V1_1, key, column, element, None)
 }

@@ -1,22 +1,24 @@
 //! What is found of the covering of a column.
-ghost use Rattle.std.specs.Prelude.{◌≡◌, ◌++◌, IfSome, OnOk, Some, codes, is_some, map, flat_map, option_map};
+ghost use Rattle.std.specs.Prelude.{◌≡◌, ◌++◌, IfOk, IfSome, OnOk, Some, codes, is_some, map, flat_map, option_map, string_bytes};
 ghost use Rattle.json.specs.Find.{at};
 ghost use Rattle.json.specs.Value.{value_view};
 ghost use Rattle.value_tokens.specs.Values.{IsReadable, is_object};
+ghost use Rattle.arrow_columns.specs.Below.{ref_tree};
 ghost use Rattle.arrow_columns.specs.Column.{column_tree};
-ghost use Rattle.geoparquet.specs.Findings.{finding};
+ghost use Rattle.arrow_columns.specs.Notation.{type_text};
+ghost use Rattle.geoparquet.specs.Findings.{finding, shown};
 ghost use Rattle.geoparquet.specs.declared.code.GeoCode.{GeoCode};
-ghost use Rattle.geoparquet.specs.Coverings.{bound_findings, is_named, second_of, name_findings, path_at, leads, is_fitting, first_astray, first_unfitting, finding_at_bound, finding_of_first, shape_findings, fit_findings, group_findings, first_path_findings, have_paths, all_findings, bbox_findings, found_bbox_findings, found_covering_findings, covering_findings, bound_tree, path_tree, group_tree, IsBoundRead, AreBoundsRead};
+ghost use Rattle.geoparquet.specs.Coverings.{bound_findings, is_named, second_of, name_findings, path_at, leads, is_fitting, first_astray, first_unfitting, finding_at_bound, finding_of_first, shape_findings, type_findings, fit_findings, group_findings, first_path_findings, have_paths, all_findings, bbox_findings, found_bbox_findings, found_covering_findings, covering_findings, bound_tree, path_tree, group_tree, IsBoundRead, AreBoundsRead};
 
 use crate::adding::{add_at, add_part};
 use crate::bounds::{Bound, Path, bounds_of, path_at};
 use crate::code::GeoCode;
 use crate::finding::{GeoFinding, Version};
 use crate::group::{Group, fits, group_of, is_shaped, is_single, type_at};
-use crate::place::part_place;
+use crate::place::{part_place, told_at};
 use crate::version::is_judged;
-use arrow_columns::{ColumnNames, SchemaColumn};
-use column_check::{item_place, member_place};
+use arrow_columns::{ColumnNames, SchemaColumn, TypeRef};
+use column_check::{item_place, member_place, shown};
 use json::Value;
 use std::alloc::{AllocError, Global};
 use value_tokens::member_of;
@@ -276,6 +278,35 @@ fn add_shape(
     add_of_first(alloc, findings, GeoCode::CoveringShape, spot, bounds)
 }
 
+/// The type to which a path leads, as a finding shows it. Errs only when out of memory.
+fn type_shown(alloc: Global, data_type: Option<TypeRef<'_>>) -> Result<Option<String>, AllocError>
+    ensures { IfOk result (λ text. option_map string_bytes text ≡ option_map (λ t. shown (type_text t)) (option_map ref_tree data_type.entry)) }
+{
+    let Some(data_type) = data_type else {
+        return Ok(None);
+    };
+    let text = data_type.notation(alloc)?;
+    Ok(Some(shown(alloc, text.as_str())?))
+}
+
+/// Adds what is found of the type to which the path of a bound leads. Errs only when out of memory.
+fn add_type(
+    alloc: Global,
+    findings: &mut Vec<GeoFinding>,
+    spot: Spot<'_>,
+    group: Option<Group<'_>>,
+    bound: Bound<'_, '_>,
+) -> Result<(), AllocError>
+    ensures { OnOk result (map finding findings.new.items ≡ map finding findings.old.items
+        ++ type_findings spot.entry.key.now spot.entry.place.now (option_map group_tree group.entry) (Some (bound_tree bound.entry))) }
+{
+    let place = member_place(alloc, spot.place, bound.name)?;
+    let found = type_shown(alloc, type_at(group, path_at(bound)))?;
+    let code = GeoCode::CoveringType;
+    findings.push(told_at(alloc, code, Some(spot.key), place, found, None)?)?;
+    Ok(())
+}
+
 /// Adds what is found of the types to which the paths lead, and else of the shape of their group.
 /// Errs only when out of memory.
 fn add_fit(
@@ -292,7 +323,7 @@ fn add_fit(
         ++ fit_findings spot.entry.key.now spot.entry.place.now (option_map (λ c. column_tree c.now) column.entry) (option_map group_tree group.entry) single (map bound_tree bounds.now)) }
 {
     match first_unfitting(group, single, bounds) {
-        Some(bound) => add_at_bound(alloc, findings, GeoCode::CoveringType, spot, bound),
+        Some(bound) => add_type(alloc, findings, spot, group, bound),
         None => add_shape(alloc, findings, spot, column, group, bounds),
     }
 }

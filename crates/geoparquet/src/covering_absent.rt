@@ -2,21 +2,19 @@
 ghost use Rattle.std.specs.Prelude.{◌≡◌, ◌++◌, OnOk, map, option_map};
 ghost use Rattle.std.specs.List.{list_all};
 ghost use Rattle.json.specs.Value.{value_view};
-ghost use Rattle.arrow_values.specs.View.{field_trees};
 ghost use Rattle.arrow_values.specs.Texts.{text_of};
 ghost use Rattle.arrow_columns.specs.Column.{column_tree};
-ghost use Rattle.geoparquet.specs.Coverings.{child_of, fits};
+ghost use Rattle.geoparquet.specs.Coverings.{child_of, children_list, fits};
 ghost use Rattle.geoparquet.specs.Findings.{finding};
 ghost use Rattle.geoparquet.specs.CoveringAbsent.{flat_names, high_names, have_names, are_floats, is_box, is_box_column, first_box, absent_findings, absent_where, lacks_covering};
 
 use crate::adding::add_at;
 use crate::code::GeoCode;
 use crate::finding::{GeoFinding, Version};
-use crate::group::{child_of, children_in, fits};
+use crate::group::{Children, child_of, children_in, fits};
 use crate::place::column_place;
 use crate::version::is_judged;
 use arrow_columns::SchemaColumn;
-use arrow_values::Field;
 use json::Value;
 use std::alloc::{AllocError, Global};
 
@@ -35,8 +33,8 @@ fn high_names() -> &'static [&'static str]
 }
 
 /// Whether a child of floats stands under each name.
-fn are_there(names: &[&str], single: bool, children: &[Field]) -> bool
-    ensures { result ≡ list_all (λ name. fits single (child_of name (field_trees children.now))) (map (λ name. name.now) names.now) }
+fn are_there(names: &[&str], single: bool, children: Children<'_>) -> bool
+    ensures { result ≡ list_all (λ name. fits single (child_of name (children_list children.entry))) (map (λ name. name.now) names.now) }
 {
     match names {
         [first, rest @ ..] => {
@@ -48,22 +46,22 @@ fn are_there(names: &[&str], single: bool, children: &[Field]) -> bool
 
 /// Whether children are floats of those names, each once, and no others.
 #[tactic(auto, using(crate::proofs::Counted::same_counts))]
-fn have_names(names: &[&str], single: bool, children: &[Field]) -> bool
-    ensures { result ≡ have_names (map (λ name. name.now) names.now) single (field_trees children.now) }
+fn have_names(names: &[&str], single: bool, children: Children<'_>) -> bool
+    ensures { result ≡ have_names (map (λ name. name.now) names.now) single (children_list children.entry) }
 {
     children.len() == names.len() && are_there(names, single, children)
 }
 
 /// Whether children are of those names, all of single precision or all of double.
-fn are_floats(names: &[&str], children: &[Field]) -> bool
-    ensures { result ≡ are_floats (map (λ name. name.now) names.now) (field_trees children.now) }
+fn are_floats(names: &[&str], children: Children<'_>) -> bool
+    ensures { result ≡ are_floats (map (λ name. name.now) names.now) (children_list children.entry) }
 {
     have_names(names, true, children) || have_names(names, false, children)
 }
 
 /// Whether there are children, and they are the bounds of a box.
-fn is_box(children: Option<&[Field]>) -> bool
-    ensures { result ≡ is_box (option_map (λ fs. field_trees fs.now) children.entry) }
+fn is_box(children: Option<Children<'_>>) -> bool
+    ensures { result ≡ is_box (option_map children_list children.entry) }
 {
     match children {
         Some(children) => {

@@ -1,6 +1,7 @@
 //! Findings: which rule is not kept, where, and what stands there.
 
 use crate::code::GeoCode;
+use crate::fact_sources::FactSource;
 
 /// The version by whose rules metadata are judged (docs/FORMAT.md, 5).
 #[derive(Clone, Copy, Debug, PartialEq, Eq)]
@@ -23,7 +24,11 @@ pub struct GeoFinding {
     /// The name of the column: the key of `columns`, or the name of a column that is none; none
     /// where the finding is of all the metadata.
     pub column: Option<String>,
-    /// The place in the metadata, as a JSON pointer (RFC 6901); empty for the whole.
+    /// The source that it is found in: the metadata, or what the field or the element of the column
+    /// says, where those have no place for it.
+    pub source: FactSource,
+    /// The place in the metadata, as a JSON pointer (RFC 6901); empty for the whole, and in another
+    /// source.
     pub pointer: String,
     /// What stands there, as JSON without blanks, at most 120 characters of it and `..` behind them;
     /// none where nothing stands there.

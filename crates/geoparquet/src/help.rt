@@ -1,7 +1,8 @@
 //! What helps where a code is found.
 ghost use Rattle.std.specs.Prelude.{◌≡◌, IfOk, map, option_map, string_bytes};
 ghost use Rattle.arrow_values.specs.Texts.{text_of};
-ghost use Rattle.geoparquet.specs.Words.{judged_text, advice_of, names_of};
+ghost use Rattle.geoparquet.specs.Words.{judged_text, advice_of, member_advice};
+ghost use Rattle.geoparquet.specs.Words.{encoding_names, type_names, edges_names, crs_names, names_of};
 ghost use Rattle.geoparquet.specs.Words.{meant, helping, near_name, help_text};
 
 use crate::code::GeoCode;
@@ -43,6 +44,15 @@ impl GeoCode {
             ),
             Self::NewVersion => Some(judged_text(version)),
             Self::ColumnUndeclared => Some("Readers of GeoParquet do not see the column."),
+            _ => self.member_advice(),
+        }
+    }
+
+    /// What helps where the code is found of a member of `columns`.
+    fn member_advice(self) -> Option<&'static str>
+        ensures { text_of result ≡ member_advice self }
+    {
+        match self {
             Self::Encoding => Some("The name has no geoarrow. before it."),
             Self::TypesVersion => Some("Types with measures come with version 2."),
             Self::Crs => Some("projinfo -o PROJJSON CODE prints one, where CODE is as EPSG:4326."),
@@ -60,16 +70,14 @@ impl GeoCode {
                  \"ymin\":[NAME,\"ymin\"],\"xmax\":[NAME,\"xmax\"],\
                  \"ymax\":[NAME,\"ymax\"]}}, where NAME is the name found.",
             ),
-            Self::CrsContradicts => {
-                Some(
-                    "That of the element counts first, then that of geo, then that of the field; a default counts last.",
-                )
-            }
-            Self::EdgesContradict => {
-                Some(
-                    "Those of the element count first, then those of geo, then those of the field; a default counts last.",
-                )
-            }
+            Self::CrsContradicts => Some(
+                "That of the element counts first, then that of geo, then that of the field; a \
+                 default counts last.",
+            ),
+            Self::EdgesContradict => Some(
+                "Those of the element count first, then those of geo, then those of the field; a \
+                 default counts last.",
+            ),
             _ => None,
         }
     }
@@ -78,57 +86,89 @@ impl GeoCode {
     fn names(self, version: Version) -> &'static [&'static str]
         ensures { map (λ name. name.now) result.now ≡ names_of version self }
     {
-        match (self, version) {
-            (Self::Encoding, Version::Old | Version::V1_0) => &["\"WKB\""],
-            (Self::Encoding, _) => &[
-                "\"WKB\"",
-                "\"point\"",
-                "\"linestring\"",
-                "\"polygon\"",
-                "\"multipoint\"",
-                "\"multilinestring\"",
-                "\"multipolygon\"",
-            ],
-            (Self::Types, _) => &[
-                "\"Point\"",
-                "\"LineString\"",
-                "\"Polygon\"",
-                "\"MultiPoint\"",
-                "\"MultiLineString\"",
-                "\"MultiPolygon\"",
-                "\"GeometryCollection\"",
-                "\"Point Z\"",
-                "\"LineString Z\"",
-                "\"Polygon Z\"",
-                "\"MultiPoint Z\"",
-                "\"MultiLineString Z\"",
-                "\"MultiPolygon Z\"",
-                "\"GeometryCollection Z\"",
-            ],
-            (Self::Edges, Version::V2) => &[
-                "\"planar\"",
-                "\"spherical\"",
-                "\"vincenty\"",
-                "\"thomas\"",
-                "\"andoyer\"",
-                "\"karney\"",
-            ],
-            (Self::Edges, _) => &["\"planar\"", "\"spherical\""],
-            (Self::Orientation, _) => &["\"counterclockwise\""],
-            (Self::CrsMalformed, _) => &[
-                "\"GeographicCRS\"",
-                "\"ProjectedCRS\"",
-                "\"CompoundCRS\"",
-                "\"BoundCRS\"",
-                "\"GeodeticCRS\"",
-                "\"VerticalCRS\"",
-                "\"EngineeringCRS\"",
-                "\"ParametricCRS\"",
-                "\"TemporalCRS\"",
-            ],
+        match self {
+            Self::Encoding => encoding_names(version),
+            Self::Types => type_names(),
+            Self::Edges => edges_names(version),
+            Self::Orientation => &["\"counterclockwise\""],
+            Self::CrsMalformed => crs_names(),
             _ => &[],
         }
     }
+}
+
+/// The names of encodings of a version.
+fn encoding_names(version: Version) -> &'static [&'static str]
+    ensures { map (λ name. name.now) result.now ≡ encoding_names version }
+{
+    match version {
+        Version::Old | Version::V1_0 => &["\"WKB\""],
+        _ => &[
+            "\"WKB\"",
+            "\"point\"",
+            "\"linestring\"",
+            "\"polygon\"",
+            "\"multipoint\"",
+            "\"multilinestring\"",
+            "\"multipolygon\"",
+        ],
+    }
+}
+
+/// The names of types, alone and with z.
+fn type_names() -> &'static [&'static str]
+    ensures { map (λ name. name.now) result.now ≡ type_names }
+{
+    &[
+        "\"Point\"",
+        "\"LineString\"",
+        "\"Polygon\"",
+        "\"MultiPoint\"",
+        "\"MultiLineString\"",
+        "\"MultiPolygon\"",
+        "\"GeometryCollection\"",
+        "\"Point Z\"",
+        "\"LineString Z\"",
+        "\"Polygon Z\"",
+        "\"MultiPoint Z\"",
+        "\"MultiLineString Z\"",
+        "\"MultiPolygon Z\"",
+        "\"GeometryCollection Z\"",
+    ]
+}
+
+/// The names of edges of a version.
+fn edges_names(version: Version) -> &'static [&'static str]
+    ensures { map (λ name. name.now) result.now ≡ edges_names version }
+{
+    match version {
+        Version::V2 => &[
+            "\"planar\"",
+            "\"spherical\"",
+            "\"vincenty\"",
+            "\"thomas\"",
+            "\"andoyer\"",
+            "\"karney\"",
+        ],
+        _ => &["\"planar\"", "\"spherical\""],
+    }
+}
+
+/// The names of types of a CRS.
+fn crs_names() -> &'static [&'static str]
+    ensures { map (λ name. name.now) result.now ≡ crs_names }
+{
+    &[
+        "\"GeographicCRS\"",
+        "\"ProjectedCRS\"",
+        "\"CompoundCRS\"",
+        "\"BoundCRS\"",
+        "\"GeodeticCRS\"",
+        "\"VerticalCRS\"",
+        "\"EngineeringCRS\"",
+        "\"ParametricCRS\"",
+        "\"TemporalCRS\"",
+    ]
 }
 
 impl GeoFinding {

@@ -5,11 +5,11 @@ ghost use Rattle.json.specs.Value.{value_view};
 ghost use Rattle.arrow_columns.specs.Column.{column_tree};
 ghost use Rattle.crs_identity.specs.Forms.{json_in};
 ghost use Rattle.geoparquet.specs.Extensions.{IsJson, IsRead};
-ghost use Rattle.geoparquet.specs.Facts.{facts_behind, facts_of, facts_view, geo_json};
+ghost use Rattle.geoparquet.specs.Facts.{facts_behind, facts_of, facts_view};
 ghost use Rattle.geoparquet.specs.Findings.{finding};
-ghost use Rattle.geoparquet.specs.GeoColumns.{AreColumnsBy, AreGeoColumns, AreValueColumns};
+ghost use Rattle.geoparquet.specs.GeoColumns.{AreColumnsBy, AreGeoColumns};
 ghost use Rattle.geoparquet.specs.GeoFindings.{alone_findings, unread_findings, AreGeoFindings, AreTextFindings, AreValueFindings};
-ghost use Rattle.geoparquet.specs.Sources.{element_view, source, value, with_elements};
+ghost use Rattle.geoparquet.specs.Sources.{element_view, geo_json, source, value, with_elements};
 ghost use Rattle.geoparquet.specs.declared.finding.Version.{Version};
 
 use crate::check::{report_of, unread_report};
@@ -49,13 +49,13 @@ pub struct GeoAnswer {
 /// that of the member, else that of the element. The first column of a name has its member of
 /// `columns`. A value that is no JSON counts as none.
 ///
-/// A column that has no extension name, that is the first of its name, and has by
+/// A column that has no extension name, that is the first of its name, and that has by
 /// [`encoded_as`](crate::encoded_as) the extension name of the encoding that its member of
-/// `columns` says, has that name, and as its extension metadata the CRS and the edges of that
-/// member (GeoParquet 1.1, "Column metadata"; docs/FORMAT.md, 5.2): a CRS that is absent is
-/// `OGC:CRS84`, and PROJJSON keeps its tokens, so each number stays as it is written, and each key
-/// in its place. All else, every other column and the order are as they were. What is no JSON
-/// object changes nothing.
+/// `columns` says, has that name, unless the encoding is none of the version or `GeoLayout` is
+/// found of it; and as its extension metadata the CRS and the edges of that member (GeoParquet 1.1,
+/// "Column metadata"; docs/FORMAT.md, 5.2): a CRS that is absent is `OGC:CRS84`, and PROJJSON keeps
+/// its tokens, so each number stays as it is written, and each key in its place. All else, every
+/// other column and the order are as they were. What is no JSON object changes nothing.
 ///
 /// Takes time that grows with the length of the value, with what the columns and the elements have,
 /// and with the number of columns, times the logarithm of the number of members of `columns`; with
@@ -89,7 +89,7 @@ pub fn inspect_geo(
 ) -> Result<GeoAnswer, AllocError>
     ensures findings { IfOk result (λ answer. AreGeoFindings (source geo.entry) (map column_tree columns.items) (map element_view elements.now) answer.report.version (map finding answer.report.findings.items)) }
     ensures facts { IfOk result (λ answer. map facts_view answer.facts.items ≡ facts_of (source geo.entry) (map column_tree columns.items) (map element_view elements.now)) }
-    ensures columns { IfOk result (λ answer. AreColumnsBy (source geo.entry) (map column_tree columns.items) (map column_tree answer.columns.items)) }
+    ensures columns { IfOk result (λ answer. AreColumnsBy (source geo.entry) (map column_tree columns.items) (map element_view elements.now) (map column_tree answer.columns.items)) }
 {
     match geo {
         GeoSource::Unasked => unread_answer(alloc, Unread::Unasked, columns, elements),
@@ -109,7 +109,7 @@ fn unread_answer(
     ensures findings { IfOk result (λ answer. map finding answer.report.findings.items ≡ unread_findings unread.entry (with_elements (map column_tree columns.items) (map element_view elements.now))
         ++ alone_findings [] (with_elements (map column_tree columns.items) (map element_view elements.now))) }
     ensures facts { IfOk result (λ answer. map facts_view answer.facts.items ≡ facts_behind null [] (with_elements (map column_tree columns.items) (map element_view elements.now))) }
-    ensures columns { IfOk result (λ answer. map column_tree answer.columns.items ≡ map column_tree columns.items) }
+    ensures columns { IfOk result (λ answer. AreGeoColumns null [] (with_elements (map column_tree columns.items) (map element_view elements.now)) (map column_tree answer.columns.items)) }
 {
     let all = with_elements(alloc, columns.as_slice(), elements)?;
     let report = unread_report(alloc, unread, all.as_slice())?;
@@ -131,7 +131,7 @@ fn value_answer(
 ) -> Result<GeoAnswer, AllocError>
     ensures findings { IfOk result (λ answer. AreValueFindings bytes.now (map column_tree columns.items) (with_elements (map column_tree columns.items) (map element_view elements.now)) answer.report.version (map finding answer.report.findings.items)) }
     ensures facts { IfOk result (λ answer. map facts_view answer.facts.items ≡ facts_behind (geo_json (value bytes.now)) [] (with_elements (map column_tree columns.items) (map element_view elements.now))) }
-    ensures columns { IfOk result (λ answer. AreValueColumns bytes.now (map column_tree columns.items) (map column_tree answer.columns.items)) }
+    ensures columns { IfOk result (λ answer. AreGeoColumns (geo_json (value bytes.now)) [] (with_elements (map column_tree columns.items) (map element_view elements.now)) (map column_tree answer.columns.items)) }
 {
     match str::from_utf8(bytes) {
         Ok(geo) => text_answer(alloc, geo, columns, elements),
@@ -148,7 +148,7 @@ fn text_answer(
 ) -> Result<GeoAnswer, AllocError>
     ensures findings { IfOk result (λ answer. AreTextFindings geo.now (map column_tree columns.items) (with_elements (map column_tree columns.items) (map element_view elements.now)) answer.report.version (map finding answer.report.findings.items)) }
     ensures facts { IfOk result (λ answer. map facts_view answer.facts.items ≡ facts_behind (unwrap_or (json_in geo.now) null) [] (with_elements (map column_tree columns.items) (map element_view elements.now))) }
-    ensures columns { IfOk result (λ answer. AreGeoColumns geo.now (map column_tree columns.items) (map column_tree answer.columns.items)) }
+    ensures columns { IfOk result (λ answer. AreGeoColumns (unwrap_or (json_in geo.now) null) [] (with_elements (map column_tree columns.items) (map element_view elements.now)) (map column_tree answer.columns.items)) }
 {
     let mut scratch = Scratch::new(alloc);
     match read_json(alloc, geo, &mut scratch) {
@@ -156,6 +156,26 @@ fn text_answer(
         Err(Refusal::Text) => unread_answer(alloc, Unread::NoJson(geo), columns, elements),
         Err(Refusal::Memory) => Err(AllocError),
     }
+}
+
+/// What is found of the JSON value that a text is, and the facts of columns. Errs only when out of
+/// memory.
+fn json_said(
+    alloc: Global,
+    geo: &str,
+    json: &Value<'_>,
+    columns: &[SchemaColumn],
+    elements: &[RootElement],
+) -> Result<(GeoReport, Vec<ColumnFacts>), AllocError>
+    requires is { IsJson geo.now (value_view json.now) }
+    requires read { IsRead (value_view json.now) }
+    ensures findings { IfOk result (λ said. AreTextFindings geo.now (map column_tree columns.now) (with_elements (map column_tree columns.now) (map element_view elements.now)) said.0.version (map finding said.0.findings.items)) }
+    ensures facts { IfOk result (λ said. map facts_view said.1.items ≡ facts_behind (value_view json.now) [] (with_elements (map column_tree columns.now) (map element_view elements.now))) }
+{
+    let all = with_elements(alloc, columns, elements)?;
+    let report = report_of(alloc, geo, json, columns, all.as_slice())?;
+    let facts = facts_by(alloc, json, all.as_slice())?;
+    Ok((report, facts))
 }
 
 /// Returns what the JSON value that a text is says. Errs only when out of memory.
@@ -170,13 +190,10 @@ fn json_answer(
     requires read { IsRead (value_view json.now) }
     ensures findings { IfOk result (λ answer. AreTextFindings geo.now (map column_tree columns.items) (with_elements (map column_tree columns.items) (map element_view elements.now)) answer.report.version (map finding answer.report.findings.items)) }
     ensures facts { IfOk result (λ answer. map facts_view answer.facts.items ≡ facts_behind (value_view json.now) [] (with_elements (map column_tree columns.items) (map element_view elements.now))) }
-    ensures columns { IfOk result (λ answer. AreGeoColumns geo.now (map column_tree columns.items) (map column_tree answer.columns.items)) }
+    ensures columns { IfOk result (λ answer. AreGeoColumns (value_view json.now) [] (with_elements (map column_tree columns.items) (map element_view elements.now)) (map column_tree answer.columns.items)) }
 {
-    let all = with_elements(alloc, columns.as_slice(), elements)?;
-    let report = report_of(alloc, geo, json, columns.as_slice(), all.as_slice())?;
-    let facts = facts_by(alloc, json, all.as_slice())?;
-    drop(all);
-    let columns = geo_columns(alloc, geo, json, columns)?;
+    let (report, facts) = json_said(alloc, geo, json, columns.as_slice(), elements)?;
+    let columns = geo_columns(alloc, json, columns, elements)?;
     Ok(GeoAnswer {
         report,
         facts,

@@ -52,6 +52,7 @@ mod words;
 
 pub use code::GeoCode;
 pub use column_check::Severity;
+pub use contradictions::own_encoding;
 pub use crs_facts::CrsFact;
 pub use encoding::encoded_as;
 pub use equality_laws::geo_code_equality_is_exact;

@@ -6,8 +6,9 @@ ghost use Rattle.arrow_values.specs.Texts.{text_of};
 ghost use Rattle.geoparquet.specs.Findings.{finding};
 ghost use Rattle.geoparquet.specs.Pairs.{first_pair, differ, texts_pair, of_element, of_field, pair_findings, text_findings};
 
-use crate::adding::{add_at, add_part};
+use crate::adding::{add_in, add_part};
 use crate::code::GeoCode;
+use crate::fact_sources::FactSource;
 use crate::finding::GeoFinding;
 use json::Value;
 use std::alloc::{AllocError, Global};
@@ -110,15 +111,8 @@ pub(crate) fn add_pair(
         }
         Pair::ElementField => {
             let wanted = of_element(alloc, element)?;
-            add_at(
-                alloc,
-                findings,
-                code,
-                Some(key),
-                "",
-                field,
-                wanted.as_deref(),
-            )
+            let wanted = wanted.as_deref();
+            add_in(alloc, findings, FactSource::Field, code, key, field, wanted)
         }
         Pair::FieldGeo => {
             let wanted = of_field(alloc, own)?;

@@ -4,9 +4,10 @@ ghost use Rattle.json.specs.Value.{value_view};
 ghost use Rattle.arrow_values.specs.Texts.{text_of};
 ghost use Rattle.value_tokens.specs.Values.{IsReadable};
 ghost use Rattle.geoparquet.specs.Findings.{finding, shown_value};
-ghost use Rattle.geoparquet.specs.Rules.{column_place, part_place, found_at, part_finding, item_finding, unless};
+ghost use Rattle.geoparquet.specs.Rules.{column_place, part_place, found_at, found_in, told_at, part_finding, item_finding, unless};
 
 use crate::code::GeoCode;
+use crate::fact_sources::FactSource;
 use crate::finding::GeoFinding;
 use column_check::{item_place, member_place, shown_value};
 use json::Value;
@@ -62,13 +63,55 @@ pub(crate) fn finding_at(
     requires { IfSome found (λ v. IsReadable (value_view v.now)) }
     ensures { IfOk result (λ made. finding made ≡ found_at code (text_of column.entry) (string_bytes place) (option_map (λ v. value_view v.now) found.entry) (text_of wanted.entry)) }
 {
+    let found = found_text(alloc, found)?;
+    told_at(alloc, code, column, place, found, wanted)
+}
+
+/// Returns a finding: of a column, or of all the metadata; at a place, as what is found there is
+/// shown; and what the rule wants there. Errs only when out of memory.
+pub(crate) fn told_at(
+    alloc: Global,
+    code: GeoCode,
+    column: Option<&str>,
+    place: String,
+    found: Option<String>,
+    wanted: Option<&str>,
+) -> Result<GeoFinding, AllocError>
+    ensures { IfOk result (λ made. finding made ≡ told_at code (text_of column.entry) (string_bytes place) (option_map string_bytes found) (text_of wanted.entry)) }
+{
     let column = copied(alloc, column)?;
+    let wanted = copied(alloc, wanted)?;
+    Ok(GeoFinding {
+        code,
+        column,
+        source: FactSource::Geo,
+        pointer: place,
+        found,
+        wanted,
+        more: 0,
+    })
+}
+
+/// Returns a finding of a column in what its element or its field says. Errs only when out of memory.
+pub(crate) fn finding_in(
+    alloc: Global,
+    source: FactSource,
+    code: GeoCode,
+    key: &str,
+    found: Option<&Value<'_>>,
+    wanted: Option<&str>,
+) -> Result<GeoFinding, AllocError>
+    requires { IfSome found (λ v. IsReadable (value_view v.now)) }
+    ensures { IfOk result (λ made. finding made ≡ found_in source code key.now (option_map (λ v. value_view v.now) found.entry) (text_of wanted.entry)) }
+{
+    let column = Some(String::from_str(alloc, key)?);
     let found = found_text(alloc, found)?;
     let wanted = copied(alloc, wanted)?;
     Ok(GeoFinding {
         code,
         column,
-        pointer: place,
+        source,
+        pointer: String::new(alloc),
         found,
         wanted,
         more: 0,

@@ -9,6 +9,7 @@ ghost use Rattle.geoparquet.specs.Ordered.{ordered_members};
 ghost use Rattle.geoparquet.specs.RepeatedKeys.{step_text, pointer, column_on, values_at, repeated_finding, several, key_findings, own_findings, repeated_in, repeated_in_items, repeated_in_members, repeated_findings, AreTold, step_view, steps_on, held, values_of, values_in, value_at, left_at, AreDistinct, has_key};
 
 use crate::code::GeoCode;
+use crate::fact_sources::FactSource;
 use crate::finding::GeoFinding;
 use crate::ordered::ordered_members;
 use crate::place::copied;
@@ -296,6 +297,7 @@ fn repeated_finding(
     Ok(GeoFinding {
         code: GeoCode::RepeatedKey,
         column,
+        source: FactSource::Geo,
         pointer,
         found: Some(found),
         wanted: None,

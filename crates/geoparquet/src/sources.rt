@@ -1,6 +1,7 @@
 //! Columns, each with what its element says.
 ghost use Rattle.std.specs.Prelude.{◌≡◌, [], ◌∷◌, ◌++◌, IfOk, List, OnOk, map, option_map};
-ghost use Rattle.arrow_columns.specs.Column.{ColumnTree, column_tree};
+ghost use Rattle.arrow_columns.specs.Column.{column_tree};
+ghost use Rattle.arrow_columns.specs.Types.{ColumnTree};
 ghost use Rattle.geoparquet.specs.Sources.{element_view, with_elements, element_named, sourced, AreElements};
 ghost use Rattle.geoparquet.specs.declared.sources.Sourced.{Sourced};
 
@@ -30,27 +31,15 @@ pub(crate) struct Sources<'c> {
     pub(crate) named: ByName<'c>,
 }
 
-/// Adds a column, with the first of what the elements say, if one is left; and returns what the
-/// others say. Errs only when out of memory.
-fn push_source<'c>(
-    made: &mut Vec<Sourced<'c>>,
-    column: &'c SchemaColumn,
-    elements: &'c [RootElement],
-) -> Result<&'c [RootElement], AllocError>
-    ensures { IfOk result (λ rest. (cs : List ColumnTree) → map sourced made.new.items ++ with_elements cs (map element_view rest.now)
-        ≡ map sourced made.old.items ++ with_elements (column_tree column.now ∷ cs) (map element_view elements.now)) }
+/// Returns the first of what the elements say, if one is left, which is that of the next column; and
+/// what the others say.
+pub(crate) fn next_element(elements: &[RootElement]) -> (Option<&RootElement>, &[RootElement])
+    ensures { (c : ColumnTree) (cs : List ColumnTree) → with_elements (c ∷ cs) (map element_view elements.now)
+        ≡ (c, option_map (λ e. element_view e.now) result.0) ∷ with_elements cs (map element_view result.1.now) }
 {
     match elements {
-        [element, rest @ ..] => {
-            let element = Some(element);
-            made.push(Sourced { column, element })?;
-            Ok(rest)
-        }
-        [] => {
-            let element = None;
-            made.push(Sourced { column, element })?;
-            Ok(elements)
-        }
+        [element, rest @ ..] => (Some(element), rest),
+        [] => (None, elements),
     }
 }
 
@@ -66,8 +55,10 @@ pub(crate) fn with_elements<'c>(
     let mut left = columns;
     let mut said = elements;
     'columns: while let [column, rest @ ..] = left {
-        said = push_source(&mut made, column, said)?;
+        let (element, others) = next_element(said);
+        made.push(Sourced { column, element })?;
         left = rest;
+        said = others;
     }
     Ok(made)
 }

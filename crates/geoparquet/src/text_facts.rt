@@ -6,9 +6,8 @@ ghost use Rattle.serde_json.specs.View.{view};
 ghost use Rattle.value_tokens.specs.Values.{IsReadable};
 ghost use Rattle.arrow_values.specs.Texts.{text_of};
 ghost use Rattle.arrow_columns.specs.Column.{column_tree};
-ghost use Rattle.geoparquet.specs.Counting.{is_planar};
 ghost use Rattle.geoparquet.specs.FactSources.{source_counting};
-ghost use Rattle.geoparquet.specs.Facts.{are_absent, edges_counting, edges_defaults, edges_fact, edges_fact_in, edges_from, edges_view, encoding_fact, encoding_from, has_no_edges, has_other_layout, is_default_if, layout_contradicts, member_edges, member_encoding};
+ghost use Rattle.geoparquet.specs.Facts.{are_absent, edges_defaults, edges_fact, edges_fact_in, edges_from, edges_view, encoding_fact, encoding_from, has_no_edges, has_other_layout, is_default_if, layout_contradicts, member_edges, member_encoding};
 ghost use Rattle.geoparquet.specs.Sources.{element_view};
 
 use crate::contradictions::{
@@ -106,7 +105,7 @@ fn edges_from(
 
 /// Returns the edges that count, by the extension metadata of the element and of the field. Errs only
 /// when out of memory.
-fn edges_fact_in(
+pub(crate) fn edges_fact_in(
     alloc: Global,
     version: Version,
     member: Option<&Value<'_>>,
@@ -141,36 +140,6 @@ fn edges_source(
         is_default_if(has_no_edges(member), geo),
         is_default_if(are_absent(own.get("edges")), field),
     )
-}
-
-/// Whether edges are planar, as they are where none are said.
-fn is_planar(edges: Option<&str>) -> bool
-    ensures { result ≡ is_planar (text_of edges.entry) }
-{
-    match edges {
-        Some(text) => text == "planar",
-        None => true,
-    }
-}
-
-/// Returns whether the edges that count are planar, by the extension metadata of the element and of
-/// the field.
-pub(crate) fn are_planar_in(
-    version: Version,
-    member: Option<&Value<'_>>,
-    claim: Option<&RootElement>,
-    metadata: &serde_json::Value,
-    own: &serde_json::Value,
-) -> bool
-    ensures { result ≡ is_planar (edges_counting version (option_map (λ v. value_view v.now) member.entry) (option_map (λ e. element_view e.now) claim.entry) (view metadata.now) (view own.now)) }
-{
-    let element = element_edges(claim, metadata);
-    let geo = member_edges(version, member);
-    let field = field_edges(claim, own);
-    match edges_source(member, claim, own, element, geo, field) {
-        Some(from) => is_planar(text_from(from, element, geo, field)),
-        None => true,
-    }
 }
 
 /// Returns the edges of a column that count, by its member, if there is one, and what its element

@@ -36,9 +36,10 @@ fn column_line(alloc: Global, column: SchemaColumn) -> Result<String, AllocError
             let field = Field::from_parts(name, data_type, nullable, metadata);
             field_line(alloc, &field)
         }
-        AnyType::Other(text) => {
+        AnyType::Other(other) => {
             let field = Field::from_parts(name, DataType::Null, nullable, metadata);
             let line = field_line(alloc, &field)?;
+            let text = other.notation;
             format!(in alloc; "{line} {text}")
         }
     }

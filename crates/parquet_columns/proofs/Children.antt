@@ -5,54 +5,57 @@ use Rattle.std.proofs.lemmas.Option.{slice_get_past, slice_get_read}
 use Rattle.std.specs.List.{slice_get}
 use Rattle.std.specs.Slice.{IsItemAt}
 use Rattle.std.specs.Borrow.{Bor}
-use Rattle.arrow_columns.specs.Column.{ColumnTree, column_tree}
+use Rattle.arrow_columns.specs.Column.{column_tree}
+use Rattle.arrow_columns.specs.Types.{ColumnTree}
 use Rattle.arrow_columns.specs.declared.column.SchemaColumn.{SchemaColumn}
 use Rattle.parquet_footer.specs.declared.element.SchemaElement.{SchemaElement}
 use Rattle.parquet_footer.specs.Element.{Element, element}
 use Rattle.parquet_footer.specs.Footer.{Pairing}
 use Rattle.parquet_columns.specs.declared.claim.ElementClaim.{ElementClaim}
-use Rattle.parquet_columns.specs.Geometry.{count_of, children_in, marked, marked_columns}
+use Rattle.parquet_columns.specs.Geometry.{count_of, children_by, marked, marked_columns}
 use Rattle.parquet_columns.specs.Claims.{claim, claim_of, claims}
 
-child_first : (e : Element) (es : List Element) → children_in 0 (e ∷ es) ≡ e ∷ children_in (count_of e) es
-unfolding children_in
-child_first e es = refl
+child_first : {A : Type 0} (f : Element → List Element → A) (e : Element) (es : List Element) → children_by f 0 (e ∷ es) ≡ f e es ∷ children_by f (count_of e) es
+unfolding children_by
+child_first f e es = refl
 
-child_passed : (below : ℕ) (e : Element) (es : List Element) → 0 < below → children_in below (e ∷ es) ≡ children_in (below - 1 + count_of e) es
-unfolding children_in
-child_passed zero e es some = absurd (omega arith)
-child_passed (suc below) e es some = ap (λ n. children_in (n + count_of e) es) (omega arith)
+child_passed : {A : Type 0} (f : Element → List Element → A) (below : ℕ) (e : Element) (es : List Element) → 0 < below → children_by f below (e ∷ es) ≡ children_by f (below - 1 + count_of e) es
+unfolding children_by
+child_passed f zero e es some = absurd (omega arith)
+child_passed f (suc below) e es some = ap (λ n. children_by f (n + count_of e) es) (omega arith)
 
-none_left : (below : ℕ) → children_in below [] ≡ []
-unfolding children_in
-none_left below = refl
+none_left : {A : Type 0} (f : Element → List Element → A) (below : ℕ) → children_by f below [] ≡ []
+unfolding children_by
+none_left f below = refl
 
-module _ (es : List SchemaElement) (i : ℕ) (found : List SchemaElement) (below : ℕ)
-    (so_far : map element found ++ children_in below (map element (drop i es)) ≡ children_in 0 (map element es)) where
-  next_is : (e : SchemaElement) → i < length es → e ≡ get_or es i e → map element found ++ children_in below (element e ∷ map element (drop (i + 1) es)) ≡ children_in 0 (map element es)
+-- what is made of the children so far, before what is made of those that are still to come
+module _ {A X : Type 0} (f : Element → List Element → A) (view : X → A) (es : List SchemaElement) (i : ℕ) (made : List X) (below : ℕ)
+    (so_far : map view made ++ children_by f below (map element (drop i es)) ≡ children_by f 0 (map element es)) where
+  next_is : (e : SchemaElement) → i < length es → e ≡ get_or es i e → map view made ++ children_by f below (element e ∷ map element (drop (i + 1) es)) ≡ children_by f 0 (map element es)
   next_is e lt is =
-      ap (λ (x : SchemaElement). map element found ++ children_in below (element x ∷ map element (drop (i + 1) es))) is
-      ∙ sym (at_drop_more (λ ys. map element found ++ children_in below (map element ys)) es i e lt) ∙ so_far
+      ap (λ (x : SchemaElement). map view made ++ children_by f below (element x ∷ map element (drop (i + 1) es))) is
+      ∙ sym (at_drop_more (λ ys. map view made ++ children_by f below (map element ys)) es i e lt) ∙ so_far
 
-  pub takes : (e : SchemaElement) (after : List SchemaElement) (next : ℕ) → after ≡ found ++ e ∷ [] → next ≡ count_of (element e) → below ≡ 0 → i < length es → e ≡ get_or es i e
-      → map element after ++ children_in next (map element (drop (i + 1) es)) ≡ children_in 0 (map element es)
-  takes e after next taken count none lt is =
+  pub takes : (e : SchemaElement) (x : X) (after : List X) (next : ℕ) → after ≡ made ++ x ∷ [] → view x ≡ f (element e) (map element (drop (i + 1) es)) → next ≡ count_of (element e)
+      → below ≡ 0 → i < length es → e ≡ get_or es i e → map view after ++ children_by f next (map element (drop (i + 1) es)) ≡ children_by f 0 (map element es)
+  takes e x after next taken same count none lt is =
       let rest = map element (drop (i + 1) es) in
-      let behind = children_in (count_of (element e)) rest in
-      ap (λ xs. map element xs ++ children_in next rest) taken ∙ ap (λ n. map element (found ++ e ∷ []) ++ children_in n rest) count
-      ∙ ap (λ xs. xs ++ behind) (map-append element found (e ∷ [])) ∙ append_assoc (map element found) (element e ∷ []) behind
-      ∙ ap (λ xs. map element found ++ xs) (sym (child_first (element e) rest)) ∙ ap (λ n. map element found ++ children_in n (element e ∷ rest)) (sym none) ∙ next_is e lt is
+      let behind = children_by f (count_of (element e)) rest in
+      ap (λ xs. map view xs ++ children_by f next rest) taken ∙ ap (λ n. map view (made ++ x ∷ []) ++ children_by f n rest) count
+      ∙ ap (λ xs. xs ++ behind) (map-append view made (x ∷ [])) ∙ append_assoc (map view made) (view x ∷ []) behind
+      ∙ ap (λ y. map view made ++ y ∷ behind) same
+      ∙ ap (λ xs. map view made ++ xs) (sym (child_first f (element e) rest)) ∙ ap (λ n. map view made ++ children_by f n (element e ∷ rest)) (sym none) ∙ next_is e lt is
 
-  pub passes : (e : SchemaElement) (after : List SchemaElement) (next : ℕ) → after ≡ found → next ≡ below - 1 + count_of (element e) → 0 < below → i < length es → e ≡ get_or es i e
-      → map element after ++ children_in next (map element (drop (i + 1) es)) ≡ children_in 0 (map element es)
+  pub passes : (e : SchemaElement) (after : List X) (next : ℕ) → after ≡ made → next ≡ below - 1 + count_of (element e) → 0 < below → i < length es → e ≡ get_or es i e
+      → map view after ++ children_by f next (map element (drop (i + 1) es)) ≡ children_by f 0 (map element es)
   passes e after next same count some lt is =
       let rest = map element (drop (i + 1) es) in
-      ap (λ xs. map element xs ++ children_in next rest) same ∙ ap (λ n. map element found ++ children_in n rest) count
-      ∙ ap (λ xs. map element found ++ xs) (sym (child_passed below (element e) rest some)) ∙ next_is e lt is
+      ap (λ xs. map view xs ++ children_by f next rest) same ∙ ap (λ n. map view made ++ children_by f n rest) count
+      ∙ ap (λ xs. map view made ++ xs) (sym (child_passed f below (element e) rest some)) ∙ next_is e lt is
 
-  pub all_found : length es ≤ i → map element found ≡ children_in 0 (map element es)
+  pub all_found : length es ≤ i → map view made ≡ children_by f 0 (map element es)
   all_found past =
-      sym (append-nil (map element found)) ∙ ap (λ xs. map element found ++ xs) (sym (none_left below)) ∙ ap (λ ys. map element found ++ children_in below (map element ys)) (sym (drop_all i es past)) ∙ so_far
+      sym (append-nil (map view made)) ∙ ap (λ xs. map view made ++ xs) (sym (none_left f below)) ∙ ap (λ ys. map view made ++ children_by f below (map element ys)) (sym (drop_all i es past)) ∙ so_far
 
 -- an element at a place, whatever stands in for one past the end
 pub same_item : (es : List SchemaElement) (i : ℕ) (d : SchemaElement) → i < length es → get_or es i d ≡ get_or es i (get_or es i d)

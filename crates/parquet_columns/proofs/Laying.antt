@@ -1,4 +1,4 @@
--- Elements one after another: whether they are stored as their types ask, and the layouts of those that are children of the root.
+-- Elements one after another: whether they are stored as their types ask; and their layouts.
 use Rattle.std.proofs.Common.{◌≡◌, ℕ, zero, suc, ◌+◌, ◌-◌, ◌<◌, ◌≤◌, true, false, ◌&&◌, List, [], ◌∷◌, ◌++◌, length, map, drop, get_or, refl, sym, ap, ◌∙◌, append_assoc, arith}
 use Rattle.std.proofs.lemmas.List.{at_drop_more, drop_all, append-nil, map-append}
 use Rattle.parquet_footer.specs.declared.element.SchemaElement.{SchemaElement}
@@ -45,49 +45,9 @@ module _ (es : List SchemaElement) (i left : ℕ) (so_far : are_stored left (map
       let rest = map element (drop (i + 1) es) in
       ap (λ n. are_stored n rest) count ∙ sym (next_stored left (element e) rest some ∙ ap (λ b. b && are_stored (left - 1 + count_of (element e)) rest) true_is) ∙ stored_next e lt is
 
-no_child : (below : ℕ) → layouts_in below [] ≡ []
-unfolding layouts_in
-no_child below = refl
-
-next_child : (e : Element) (es : List Element) → layouts_in 0 (e ∷ es) ≡ layout_of (e ∷ es) ∷ layouts_in (count_of e) es
-unfolding layouts_in
-next_child e es = refl
-
-next_below : (below : ℕ) (e : Element) (es : List Element) → 0 < below → layouts_in below (e ∷ es) ≡ layouts_in (below - 1 + count_of e) es
-unfolding layouts_in
-next_below zero e es some = absurd (omega arith)
-next_below (suc below) e es some = ap (λ n. layouts_in (n + count_of e) es) (omega arith)
-
-module _ (es : List SchemaElement) (i : ℕ) (made : List ElementLayout) (below : ℕ)
-    (so_far : map layout made ++ layouts_in below (map element (drop i es)) ≡ layouts_in 0 (map element es)) where
-  laid_next : (e : SchemaElement) → i < length es → e ≡ get_or es i e → map layout made ++ layouts_in below (element e ∷ map element (drop (i + 1) es)) ≡ layouts_in 0 (map element es)
-  laid_next e lt is =
-      ap (λ (x : SchemaElement). map layout made ++ layouts_in below (element x ∷ map element (drop (i + 1) es))) is
-      ∙ sym (at_drop_more (λ ys. map layout made ++ layouts_in below (map element ys)) es i e lt) ∙ so_far
-
-  from_here : (e : SchemaElement) → i < length es → e ≡ get_or es i e → layout_of (map element (drop i es)) ≡ layout_of (element e ∷ map element (drop (i + 1) es))
-  from_here e lt is = at_drop_more (λ ys. layout_of (map element ys)) es i e lt ∙ sym (ap (λ (x : SchemaElement). layout_of (element x ∷ map element (drop (i + 1) es))) is)
-
-  pub laid_one : (e : SchemaElement) (l : ElementLayout) (after : List ElementLayout) (next : ℕ) → after ≡ made ++ l ∷ [] → layout l ≡ layout_of (map element (drop i es)) → next ≡ count_of (element e)
-      → below ≡ 0 → i < length es → e ≡ get_or es i e → map layout after ++ layouts_in next (map element (drop (i + 1) es)) ≡ layouts_in 0 (map element es)
-  laid_one e l after next taken laid count none lt is =
-      let rest = map element (drop (i + 1) es) in
-      let behind = layouts_in (count_of (element e)) rest in
-      ap (λ xs. map layout xs ++ layouts_in next rest) taken ∙ ap (λ n. map layout (made ++ l ∷ []) ++ layouts_in n rest) count
-      ∙ ap (λ xs. xs ++ behind) (map-append layout made (l ∷ [])) ∙ append_assoc (map layout made) (layout l ∷ []) behind
-      ∙ ap (λ x. map layout made ++ x ∷ behind) (laid ∙ from_here e lt is)
-      ∙ ap (λ xs. map layout made ++ xs) (sym (next_child (element e) rest)) ∙ ap (λ n. map layout made ++ layouts_in n (element e ∷ rest)) (sym none) ∙ laid_next e lt is
-
-  pub laid_below : (e : SchemaElement) (after : List ElementLayout) (next : ℕ) → after ≡ made → next ≡ below - 1 + count_of (element e) → 0 < below → i < length es → e ≡ get_or es i e
-      → map layout after ++ layouts_in next (map element (drop (i + 1) es)) ≡ layouts_in 0 (map element es)
-  laid_below e after next same count some lt is =
-      let rest = map element (drop (i + 1) es) in
-      ap (λ xs. map layout xs ++ layouts_in next rest) same ∙ ap (λ n. map layout made ++ layouts_in n rest) count
-      ∙ ap (λ xs. map layout made ++ xs) (sym (next_below below (element e) rest some)) ∙ laid_next e lt is
-
-  pub laid_all : length es ≤ i → map layout made ≡ layouts_in 0 (map element es)
-  laid_all past =
-      sym (append-nil (map layout made)) ∙ ap (λ xs. map layout made ++ xs) (sym (no_child below)) ∙ ap (λ ys. map layout made ++ layouts_in below (map element ys)) (sym (drop_all i es past)) ∙ so_far
+-- the layout of an element, with what stands behind it
+pub from_here : (es : List SchemaElement) (i : ℕ) (e : SchemaElement) → i < length es → e ≡ get_or es i e → layout_of (map element (drop i es)) ≡ layout_of (element e ∷ map element (drop (i + 1) es))
+from_here es i e lt is = at_drop_more (λ ys. layout_of (map element ys)) es i e lt ∙ sym (ap (λ (x : SchemaElement). layout_of (element x ∷ map element (drop (i + 1) es))) is)
 
 pub no_more_lists : (more lists : ℕ) (e : Element) (es : List Element) → more ≡ 0 → below_lists more lists e es ≡ coordinate lists e es
 no_more_lists more lists e es none = ap (λ n. below_lists n lists e es) none

@@ -1,7 +1,7 @@
 -- The type of a leaf, by the first of its parts that there is.
 use Rattle.std.proofs.Common.{◌≡◌, ℕ, ℤ, Option, Some, None, option_map, true, false, refl}
 use Rattle.arrow_values.specs.Tree.{Text, Tree, Plain, plain, null}
-use Rattle.arrow_columns.specs.Column.{known, other}
+use Rattle.arrow_columns.specs.Types.{known, leaf}
 use Rattle.parquet_footer.specs.declared.element.PhysicalType.{PhysicalType}
 use Rattle.parquet_columns.specs.declared.meaning.Meaning.{Meaning}
 use Rattle.parquet_columns.specs.Leaf.{clock_text, decimal_text, plain_of, fixed_type, is_null, first_type, leaf_type}
@@ -20,12 +20,12 @@ module _ (physical : PhysicalType) (m : Meaning) (length : ℤ) where
   all_null digits is = rw is refl
 
   module _ (some : is_null m ≡ false) where
-    pub a_clock : (digits : Option (ℕ × ℕ)) (text : Text) → clock_text physical m ≡ Some text → leaf_type physical m length digits ≡ other text
+    pub a_clock : (digits : Option (ℕ × ℕ)) (text : Text) → clock_text physical m ≡ Some text → leaf_type physical m length digits ≡ leaf text
     unfolding leaf_type
     a_clock digits text is = rw (some, is) refl
 
     module _ (no_clock : clock_text physical m ≡ None) where
-      pub a_decimal : (digits : ℕ × ℕ) → leaf_type physical m length (Some digits) ≡ other (decimal_text digits.0 digits.1)
+      pub a_decimal : (digits : ℕ × ℕ) → leaf_type physical m length (Some digits) ≡ leaf (decimal_text digits.0 digits.1)
       unfolding leaf_type
       a_decimal digits = rw (some, no_clock) refl
 

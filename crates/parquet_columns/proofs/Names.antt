@@ -1,7 +1,7 @@
 -- Names that are compared one after the other.
 use Rattle.std.proofs.Common.{◌≡◌, ◌<◌, true, false, List, [], ◌∷◌, length, Some, None, refl, arith}
 use Rattle.std.specs.Str.{bytes_eq}
-use Rattle.arrow_columns.specs.Column.{ColumnTree}
+use Rattle.arrow_columns.specs.Types.{ColumnTree}
 use Rattle.parquet_columns.specs.Findings.{first_other}
 
 pub differ : (c d : ColumnTree) (cs ds : List ColumnTree) → bytes_eq c.name d.name ≡ false → first_other (c ∷ cs) (d ∷ ds) ≡ Some (Some c.name, Some d.name)

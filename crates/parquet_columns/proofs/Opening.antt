@@ -1,12 +1,13 @@
 -- Groups that are left out, counted and entered.
-use Rattle.std.proofs.Common.{◌≡◌, ◌<◌, ◌≤◌, ℕ, zero, suc, ◌+◌, ◌-◌, List, [], ◌∷◌, ◌++◌, length, map, drop, get_or, codes, refl, sym, ap, ◌∙◌, arith}
-use Rattle.std.proofs.lemmas.List.{map-append, at_drop_more, drop_all}
+use Rattle.std.proofs.Common.{◌≡◌, ◌<◌, ◌≤◌, nat_lt, ℕ, zero, suc, ◌+◌, ◌-◌, List, [], ◌∷◌, ◌++◌, length, map, drop, get_or, Option, Some, None, if◌then◌else◌, codes, refl, sym, ap, ◌∙◌, arith}
+use Rattle.std.proofs.lemmas.Bool.{lt-ltb, le-ltb}
+use Rattle.std.proofs.lemmas.List.{map-append, at_drop_more, drop_all, length-map, length-drop}
 use Rattle.std.specs.Str.Lossy.{utf8_lossy}
 use Rattle.arrow_values.specs.Tree.{Text}
 use Rattle.parquet_footer.specs.declared.element.SchemaElement.{SchemaElement}
 use Rattle.parquet_footer.specs.Element.{Element, element}
 use Rattle.parquet_columns.specs.declared.levels.Level as declared
-use Rattle.parquet_columns.specs.Levels.{Level, level, open_with, close, open_of, taken, entered, open_behind, shown_names}
+use Rattle.parquet_columns.specs.Levels.{Level, level, open_with, close, open_of, taken, entered, deep_from, open_behind, shown_names}
 
 -- the innermost group is left out where no child of it is to come, and otherwise stays
 used : (l : Level) (n : ℕ) → n ≡ 0 → open_with n l ≡ []
@@ -67,6 +68,44 @@ module _ (es : List SchemaElement) (i : ℕ) (ls whole : List Level) (so_far : o
 
   pub behind_ends : length es ≤ i → open_of ls ≡ whole
   behind_ends past = sym (behind_none ls) ∙ ap (λ ys. open_behind ls (map element ys)) (sym (drop_all i es past)) ∙ so_far
+
+-- the first element that is too deep
+deep_next : (at : ℕ) (ls : List Level) (e : Element) (es : List Element)
+    → deep_from at ls (e ∷ es) ≡ (if nat_lt 63 (length (open_of ls)) then Some at else deep_from (at + 1) (entered (open_of ls) e) es)
+unfolding deep_from
+deep_next at ls e es = refl
+
+deep_none : (at : ℕ) (ls : List Level) → deep_from at ls [] ≡ None
+unfolding deep_from
+deep_none at ls = refl
+
+module _ (es : List SchemaElement) (i at : ℕ) (ls : List Level) (whole : Option ℕ) (so_far : deep_from at ls (map element (drop i es)) ≡ whole) where
+  chosen : (e : SchemaElement) → i < length es → e ≡ get_or es i e
+      → (if nat_lt 63 (length (open_of ls)) then Some at else deep_from (at + 1) (entered (open_of ls) (element e)) (map element (drop (i + 1) es))) ≡ whole
+  chosen e lt is =
+      let rest = map element (drop (i + 1) es) in
+      sym (deep_next at ls (element e) rest) ∙ ap (λ (x : SchemaElement). deep_from at ls (element x ∷ rest)) is
+      ∙ sym (at_drop_more (λ ys. deep_from at ls (map element ys)) es i e lt) ∙ so_far
+
+  front : (ys : List Element) → 0 < length ys → 63 < length (open_of ls) → deep_from at ls ys ≡ Some at
+  front [] some more = absurd (omega (arith, some))
+  front (y ∷ ys) some more =
+      deep_next at ls y ys ∙ ap (λ b. if b then Some at else deep_from (at + 1) (entered (open_of ls) y) ys) (lt-ltb 63 (length (open_of ls)) more)
+
+  pub deep_here : i < length es → 63 < length (open_of ls) → Some at ≡ whole
+  deep_here lt more =
+      let size : length (map element (drop i es)) ≡ length es - i = length-map (drop i es) element ∙ length-drop i es in
+      sym (front (map element (drop i es)) (omega (arith, size)) more) ∙ so_far
+
+  pub deep_behind : (e : SchemaElement) (now next : List Level) (then_at : ℕ) → i < length es → e ≡ get_or es i e → now ≡ open_of ls → length (open_of ls) ≤ 63 → next ≡ entered now (element e)
+      → then_at ≡ at + 1 → deep_from then_at next (map element (drop (i + 1) es)) ≡ whole
+  deep_behind e now next then_at lt is closed few same place =
+      let rest = map element (drop (i + 1) es) in
+      ap (λ n. deep_from then_at n rest) (same ∙ ap (λ o. entered o (element e)) closed) ∙ ap (λ n. deep_from n (entered (open_of ls) (element e)) rest) place
+      ∙ sym (ap (λ b. if b then Some at else deep_from (at + 1) (entered (open_of ls) (element e)) rest) (le-ltb 63 (length (open_of ls)) few)) ∙ chosen e lt is
+
+  pub deep_ends : length es ≤ i → None ≡ whole
+  deep_ends past = sym (deep_none at ls) ∙ ap (λ ys. deep_from at ls (map element ys)) (sym (drop_all i es past)) ∙ so_far
 
 -- names that are shown one after the other
 pub shown_more : (room left : ℕ) (name : Text) (names : List Text) → left + 1 ≡ room → shown_names room (name ∷ names) ≡ utf8_lossy name ∷ shown_names left names

@@ -8,6 +8,7 @@ use Rattle.parquet_columns.specs.declared.fault.ElementFault.{ElementFault}
 use Rattle.parquet_columns.specs.declared.fault.SchemaRule.TheVariants.{Children, Depth}
 use Rattle.parquet_columns.specs.declared.fault.ColumnsError.{ColumnsError}
 use Rattle.parquet_columns.specs.declared.fault.ColumnsError.TheVariants.{Broken, OutOfMemory}
+use Rattle.parquet_columns.specs.declared.leaf.LeafTypes.{LeafTypes}
 use Rattle.parquet_columns.specs.Fault.{◌>>=◌, Says}
 use Rattle.parquet_columns.specs.Nodes.{NodeTree}
 use Rattle.parquet_columns.specs.Columns.{HeadTree, element_at, head_at, children_of, finished, nodes_by, node_at}
@@ -32,45 +33,45 @@ pub none_is : (xs : List SchemaElement) (at : ℕ) → length xs ≤ at → elem
 none_is xs at past = rw (slice_get-map element xs at, slice_get_past xs at past) refl
 
 -- an element, by what it says and what is below it
-module _ (es : List Element) (at : ℕ) where
-  pub too_deep : (levels : ℕ) → levels ≡ 0 → node_at levels es at ≡ Err (record { rule = Depth; at = at })
+module _ (types : LeafTypes) (es : List Element) (at : ℕ) where
+  pub too_deep : (levels : ℕ) → levels ≡ 0 → node_at types levels es at ≡ Err (record { rule = Depth; at = at })
   unfolding node_at
   too_deep levels none = rw none refl
 
   abbrev rest : ℕ → HeadTree → Result (NodeTree × ℕ) ElementFault
-  rest levels h = nodes_by (node_at levels es) (at + 1) (children_of h.kind) >>= λ below. finished at h below.0 >>= λ n. Ok (n, below.1)
+  rest levels h = nodes_by (node_at types levels es) (at + 1) (children_of h.kind) >>= λ below. finished types at h below.0 >>= λ n. Ok (n, below.1)
 
-  next : (levels : ℕ) → 0 < levels → node_at levels es at ≡ (head_at es at >>= rest (levels - 1))
+  next : (levels : ℕ) → 0 < levels → node_at types levels es at ≡ (head_at es at >>= rest (levels - 1))
   unfolding node_at
   next levels some =
       let k : levels ≡ suc (levels - 1) = omega arith in
-      let here : node_at (suc (levels - 1)) es at ≡ (head_at es at >>= rest (levels - 1)) = refl in
-      ap (λ d. node_at d es at) k ∙ here
+      let here : node_at types (suc (levels - 1)) es at ≡ (head_at es at >>= rest (levels - 1)) = refl in
+      ap (λ d. node_at types d es at) k ∙ here
 
-  pub no_head : (levels : ℕ) (fault : ElementFault) → 0 < levels → head_at es at ≡ Err fault → node_at levels es at ≡ Err fault
+  pub no_head : (levels : ℕ) (fault : ElementFault) → 0 < levels → head_at es at ≡ Err fault → node_at types levels es at ≡ Err fault
   no_head levels fault some e = next levels some ∙ ap (λ r. r >>= rest (levels - 1)) e
 
   module _ (h : HeadTree) (says : head_at es at ≡ Ok h) (levels : ℕ) (some : 0 < levels) (count : ℕ) (many : count ≡ children_of h.kind) where
     abbrev below : Result (List NodeTree × ℕ) ElementFault
-    below = nodes_by (node_at (levels - 1) es) (at + 1) count
+    below = nodes_by (node_at types (levels - 1) es) (at + 1) count
 
     abbrev ends : List NodeTree × ℕ → Result (NodeTree × ℕ) ElementFault
-    ends b = finished at h b.0 >>= λ n. Ok (n, b.1)
+    ends b = finished types at h b.0 >>= λ n. Ok (n, b.1)
 
-    whole : node_at levels es at ≡ (below >>= ends)
-    whole = next levels some ∙ ap (λ r. r >>= rest (levels - 1)) says ∙ ap (λ n. nodes_by (node_at (levels - 1) es) (at + 1) n >>= ends) (sym many)
+    whole : node_at types levels es at ≡ (below >>= ends)
+    whole = next levels some ∙ ap (λ r. r >>= rest (levels - 1)) says ∙ ap (λ n. nodes_by (node_at types (levels - 1) es) (at + 1) n >>= ends) (sym many)
 
-    pub nodes_fail : {X Y : Type 0} (view : X → List NodeTree × ℕ) (over : Y → NodeTree × ℕ) (e : ColumnsError) → Says view below (Err e) → Says over (node_at levels es at) (Err e)
+    pub nodes_fail : {X Y : Type 0} (view : X → List NodeTree × ℕ) (over : Y → NodeTree × ℕ) (e : ColumnsError) → Says view below (Err e) → Says over (node_at types levels es at) (Err e)
     nodes_fail view over e f = subst (λ r. Says over r (Err e)) (sym whole) (first_fails view over below ends e f)
 
     module _ (b : List NodeTree × ℕ) (are : below ≡ Ok b) where
-      then_ends : node_at levels es at ≡ ends b
+      then_ends : node_at types levels es at ≡ ends b
       then_ends = whole ∙ ap (λ r. r >>= ends) are
 
-      pub finish_fails : {X Y : Type 0} (view : X → NodeTree) (over : Y → NodeTree × ℕ) (e : ColumnsError) → Says view (finished at h b.0) (Err e) → Says over (node_at levels es at) (Err e)
-      finish_fails view over e f = subst (λ r. Says over r (Err e)) (sym then_ends) (first_fails view over (finished at h b.0) (λ n. Ok (n, b.1)) e f)
+      pub finish_fails : {X Y : Type 0} (view : X → NodeTree) (over : Y → NodeTree × ℕ) (e : ColumnsError) → Says view (finished types at h b.0) (Err e) → Says over (node_at types levels es at) (Err e)
+      finish_fails view over e f = subst (λ r. Says over r (Err e)) (sym then_ends) (first_fails view over (finished types at h b.0) (λ n. Ok (n, b.1)) e f)
 
-      pub is_node : (n : NodeTree) → finished at h b.0 ≡ Ok n → node_at levels es at ≡ Ok (n, b.1)
+      pub is_node : (n : NodeTree) → finished types at h b.0 ≡ Ok n → node_at types levels es at ≡ Ok (n, b.1)
       is_node n is = then_ends ∙ ap (λ (r : Result NodeTree ElementFault). r >>= λ n. Ok (n, b.1)) is
 
 -- elements that were read before, and those that are still read

@@ -1,7 +1,8 @@
 -- What the geometry types of elements say beside columns (docs/FORMAT.md, 4.6).
 use Rattle.std.specs.Prelude.{ℕ, ◌+◌, Bool, true, false, List, [], ◌∷◌, length, codes, Option, None, Some, is_some, string_bytes, if◌then◌else◌}
 use Rattle.arrow_values.specs.Tree.{Text}
-use Rattle.arrow_columns.specs.Column.{ColumnTree, name_on}
+use Rattle.arrow_columns.specs.Column.{name_on}
+use Rattle.arrow_columns.specs.Types.{ColumnTree}
 use Rattle.geoarrow_meta.specs.declared.edges.Edges.{Edges}
 use Rattle.geoarrow_meta.specs.declared.edges.Edges.TheVariants.{Andoyer, Karney, Spherical, Thomas, Vincenty}
 use Rattle.parquet_footer.specs.Element.{Element}

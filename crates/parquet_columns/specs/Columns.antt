@@ -3,7 +3,8 @@ use Rattle.std.specs.Prelude.{ℕ, zero, suc, ◌+◌, Bool, false, List, [], �
 use Rattle.std.specs.List.{slice_get}
 use Rattle.arrow_values.specs.Tree.{Text}
 use Rattle.std.specs.Str.Lossy.{utf8_lossy}
-use Rattle.arrow_columns.specs.Column.{ColumnTree, column_tree}
+use Rattle.arrow_columns.specs.Column.{column_tree}
+use Rattle.arrow_columns.specs.Types.{ColumnTree}
 use Rattle.parquet_footer.specs.declared.element.PhysicalType.{PhysicalType}
 use Rattle.parquet_footer.specs.declared.element.Repetition.{Repetition}
 use Rattle.parquet_footer.specs.declared.element.PhysicalType.TheVariants.{Unknown as UnknownType}
@@ -20,11 +21,13 @@ use Rattle.parquet_columns.specs.declared.fault.ElementFault.{ElementFault}
 use Rattle.parquet_columns.specs.declared.fault.SchemaRule.TheVariants.{Root, Children, Element as NoElement, Physical as NoType, Repetition as NoRepetition, Depth}
 use Rattle.parquet_columns.specs.Fault.{breaks, ◌>>=◌}
 use Rattle.parquet_columns.specs.Meaning.{meaning_of}
-use Rattle.parquet_columns.specs.Leaf.{length_at, digits_at, leaf_type}
+use Rattle.parquet_columns.specs.declared.leaf.LeafTypes.{LeafTypes}
+use Rattle.parquet_columns.specs.declared.leaf.LeafTypes.TheVariants.{Meant, Stored}
+use Rattle.parquet_columns.specs.Leaf.{length_at, digits_at, type_by}
 use Rattle.parquet_columns.specs.Annotation.{annotation_of}
 use Rattle.parquet_columns.specs.Nodes.{ShapeTree, typed, NodeTree, group_shape, list_shape, map_shape, column_of}
 use Rattle.parquet_columns.specs.Unreadable.{unreadable_column}
-use Rattle.parquet_columns.specs.Places.{Child, children_of_root}
+use Rattle.parquet_columns.specs.Places.{Child, children_from, children_of_root}
 
 -- an element is a leaf, which says how its values are stored, or a group, which says how many children it has
 abbrev pub has_children : Option ℕ → Bool
@@ -69,28 +72,28 @@ head_at es at = do
   repetition ← repetition_at at e.storage.repetition
   Ok (record { element = e; kind = kind; repetition = repetition })
 
--- what an element stands for, by the elements below it
-unfoldable pub leaf_shape : ℕ → PhysicalType → Element → Result ShapeTree ElementFault
-leaf_shape at physical e = do
+-- what an element stands for, by the elements below it, with leaves of those types
+unfoldable pub leaf_shape : LeafTypes → ℕ → PhysicalType → Element → Result ShapeTree ElementFault
+leaf_shape types at physical e = do
   length ← length_at at physical e.storage.type_length
   digits ← digits_at at physical e
-  Ok (typed (leaf_type physical (meaning_of e) length digits))
+  Ok (typed (type_by types physical (meaning_of e) length digits))
 
 abbrev pub group_by : Annotation → ℕ → Text → List NodeTree → Result ShapeTree ElementFault
 group_by Plain at name ns = Ok (group_shape ns)
 group_by ListGroup at name ns = list_shape at name ns
 group_by MapGroup at name ns = map_shape at ns
 
-abbrev pub shape_by : Kind → ℕ → Element → List NodeTree → Result ShapeTree ElementFault
-shape_by (Leaf physical) at e ns = leaf_shape at physical e
-shape_by (Group n) at e ns = group_by (annotation_of e) at e.storage.name.bytes ns
+abbrev pub shape_by : LeafTypes → Kind → ℕ → Element → List NodeTree → Result ShapeTree ElementFault
+shape_by types (Leaf physical) at e ns = leaf_shape types at physical e
+shape_by types (Group n) at e ns = group_by (annotation_of e) at e.storage.name.bytes ns
 
-abbrev pub shape_at : ℕ → HeadTree → List NodeTree → Result ShapeTree ElementFault
-shape_at at h ns = shape_by h.kind at h.element ns
+abbrev pub shape_at : LeafTypes → ℕ → HeadTree → List NodeTree → Result ShapeTree ElementFault
+shape_at types at h ns = shape_by types h.kind at h.element ns
 
-unfoldable pub finished : ℕ → HeadTree → List NodeTree → Result NodeTree ElementFault
-finished at h ns = do
-  shape ← shape_at at h ns
+unfoldable pub finished : LeafTypes → ℕ → HeadTree → List NodeTree → Result NodeTree ElementFault
+finished types at h ns = do
+  shape ← shape_at types at h ns
   Ok (record { name = h.element.storage.name.bytes; repetition = h.repetition; shape = shape })
 
 -- so many elements, each with all that is below it, from an index on; and the index behind them
@@ -102,12 +105,12 @@ nodes_by read at (suc n) = do
   Ok (first.0 ∷ others.0, others.1)
 
 -- the element with that index and all that is below it, no more than so many levels deep; and the index behind it
-unfoldable pub node_at : ℕ → List Element → ℕ → Result (NodeTree × ℕ) ElementFault
-node_at zero es at = breaks Depth at
-node_at (suc levels) es at = do
+unfoldable pub node_at : LeafTypes → ℕ → List Element → ℕ → Result (NodeTree × ℕ) ElementFault
+node_at types zero es at = breaks Depth at
+node_at types (suc levels) es at = do
   h ← head_at es at
-  below ← nodes_by (node_at levels es) (at + 1) (children_of h.kind)
-  n ← finished at h below.0
+  below ← nodes_by (node_at types levels es) (at + 1) (children_of h.kind)
+  n ← finished types at h below.0
   Ok (n, below.1)
 
 abbrev pub root_count : Option ℕ → Result ℕ ElementFault
@@ -140,14 +143,14 @@ abbrev pub read_fault : Child → Result (NodeTree × ℕ) ElementFault → List
 read_fault c (Ok n) = []
 read_fault c (Err fault) = record { column = utf8_lossy c.name; at = c.at; fault = fault } ∷ []
 
-abbrev pub column_at : List Element → Child → ColumnTree
-column_at es c = read_column c.name (node_at 64 es c.at)
+abbrev pub column_at : LeafTypes → List Element → Child → ColumnTree
+column_at types es c = read_column c.name (node_at types 64 es c.at)
 
 abbrev pub faults_at : List Element → Child → List FaultTree
-faults_at es c = read_fault c (node_at 64 es c.at)
+faults_at es c = read_fault c (node_at Meant 64 es c.at)
 
 abbrev pub columns_at : List Element → List Child → ColumnTrees
-columns_at es cs = record { columns = map (column_at es) cs; faults = flat_map (faults_at es) cs }
+columns_at es cs = record { columns = map (column_at Meant es) cs; faults = flat_map (faults_at es) cs }
 
 -- the first element is the root, which says how many columns there are; its children use up the elements
 abbrev pub columns_below : List Element → Option ℕ → List Element → Result ColumnTrees ElementFault
@@ -159,3 +162,8 @@ columns_below all count es = do
 unfoldable pub columns_of : List Element → Result ColumnTrees ElementFault
 columns_of [] = breaks Root 0
 columns_of (root ∷ es) = columns_below (root ∷ es) root.num_children es
+
+-- the columns of the children of the root, with the types that stored fields are compared with
+abbrev pub compared_columns : List Element → List ColumnTree
+compared_columns [] = []
+compared_columns (root ∷ es) = map (column_at Stored (root ∷ es)) (children_from 1 0 es)

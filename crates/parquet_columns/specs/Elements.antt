@@ -9,11 +9,10 @@ use Rattle.parquet_footer.specs.Logical.{Logical, geometry, geography}
 use Rattle.parquet_footer.specs.Element.{Element}
 use Rattle.parquet_footer.specs.Footer.{Pairing}
 use Rattle.parquet_columns.specs.Keys.{text_at}
-use Rattle.parquet_columns.specs.Geometry.{colon_parts, is_repeated}
+use Rattle.parquet_columns.specs.Geometry.{colon_parts, is_geometry_type, is_repeated}
 use Rattle.parquet_columns.specs.Levels.{Level, open_of, entered, column_in, path_in, is_below}
 use Rattle.parquet_columns.specs.Values.{compact_of}
 use Rattle.parquet_columns.specs.Storage.{is_group, storage_of, is_stored, storage_text}
-use Rattle.parquet_columns.specs.Resolved.{is_geometry_type}
 use Rattle.parquet_columns.specs.TypeNames.{type_name, physical_name}
 use Rattle.parquet_columns.specs.declared.annotation.Annotation.{Annotation}
 use Rattle.parquet_columns.specs.declared.annotation.Annotation.TheVariants.{Plain, List as ListGroup, Map as MapGroup}

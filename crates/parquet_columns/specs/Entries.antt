@@ -3,7 +3,7 @@ use Rattle.std.specs.Prelude.{ℕ, Bool, true, ◌&&◌, ◌*◌, nat_le, nat_lt
 use Rattle.std.specs.Str.{bytes_eq}
 use Rattle.arrow_values.specs.Tree.{Text}
 use Rattle.arrow_values.specs.Texts.{name_key, metadata_key}
-use Rattle.arrow_columns.specs.Column.{ColumnTree}
+use Rattle.arrow_columns.specs.Types.{ColumnTree}
 use Rattle.arrow_ipc.specs.Entries.{EntriesTree, entries_of_message}
 use Rattle.arrow_ipc.specs.Schema.{message_in}
 use Rattle.arrow_ipc.specs.declared.fault.IpcFault.{IpcFault}

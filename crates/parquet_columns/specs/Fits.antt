@@ -1,9 +1,10 @@
--- Whether the type of a stored field fits that of an element (docs/FORMAT.md, 4.5).
-use Rattle.std.specs.Prelude.{ℕ, Bool, true, false, ◌&&◌, ◌==◌, nat_eq, codes, Option, Some, None, if◌then◌else◌}
-use Rattle.std.specs.List.{starts_with}
+-- Whether the type of a stored field fits an element (docs/FORMAT.md, 4.5), by the type that the element is compared by.
+use Rattle.std.specs.Prelude.{ℕ, Bool, true, false, ◌&&◌, ◌==◌, Option, Some, None}
 use Rattle.std.specs.Str.{bytes_eq}
 use Rattle.arrow_values.specs.Tree.{Text, null, boolean, int8, int16, int32, int64, uint8, uint16, uint32, uint64, float16, float32, float64, date32, date64, binary, large_binary, binary_view, utf8, large_utf8, utf8_view, Plain, Tree, plain, list, large_list, fixed_size_list, struct, union, FieldTrees, no_fields, field}
-use Rattle.arrow_columns.specs.Column.{TypeTree, known, other}
+use Rattle.arrow_columns.specs.Types.{TypeTree}
+use Rattle.arrow_columns.specs.Outlines.{outline}
+use Rattle.arrow_columns.specs.declared.outline.Outline.TheVariants.{Storage}
 use Rattle.parquet_columns.specs.declared.fits.Sort.{Sort}
 use Rattle.parquet_columns.specs.declared.fits.Sort.TheVariants.{Bytes, Half, Single, Double, List, Struct, Other}
 
@@ -38,24 +39,6 @@ sort_of (large_list n t b m) = List
 sort_of (fixed_size_list n t b m s) = List
 sort_of (struct fs) = Struct
 sort_of (union ms mode) = Other
-
--- a type that is known by its notation, by how that begins
-abbrev pub text_sort : Text → Sort
-text_sort t =
-    if starts_with nat_eq t (codes "struct<") then Struct else
-    if starts_with nat_eq t (codes "list<") then List else
-    if starts_with nat_eq t (codes "large_list<") then List else
-    if starts_with nat_eq t (codes "fixed_size_list<") then List else
-    if starts_with nat_eq t (codes "list_view<") then List else
-    if starts_with nat_eq t (codes "large_list_view<") then List else
-    if starts_with nat_eq t (codes "dictionary<values=binary") then Bytes else
-    if starts_with nat_eq t (codes "dictionary<values=large_binary,") then Bytes else
-    if starts_with nat_eq t (codes "dictionary<values=utf8") then Bytes else
-    if starts_with nat_eq t (codes "dictionary<values=large_utf8,") then Bytes else Other
-
-abbrev pub any_sort : TypeTree → Sort
-any_sort (known t) = sort_of t
-any_sort (other t) = text_sort t
 
 -- sorts are the same where their places in the list are
 abbrev pub place_of : Sort → ℕ
@@ -107,8 +90,6 @@ abbrev mutual
   fields_fit (field n t b m fs) no_fields = false
   fields_fit (field n t b m fs) (field o u c k gs) = bytes_eq n o && fits t u && fields_fit fs gs
 
--- types that are known by their notation alone fit by their sorts
+-- types are compared as Parquet stores them: views of lists are lists, and dictionaries of bytes and texts are their values
 abbrev pub type_fits : TypeTree → TypeTree → Bool
-type_fits (known t) (known s) = fits t s
-type_fits (known t) (other s) = are_same (sort_of t) (text_sort s)
-type_fits (other t) s = are_same (text_sort t) (any_sort s)
+type_fits t s = fits (outline Storage t) (outline Storage s)

@@ -44,3 +44,10 @@ names_in name (Some ms) = names_one name ms
 
 abbrev pub is_named : Text → Option Json → Bool
 is_named name geo = names_in name (option_and_then as_object (option_and_then (get (codes "columns")) geo))
+
+-- the encoding that the member of its name gives a column
+abbrev pub encoding_of : Text → Option Json → Option Text
+encoding_of name geo = option_and_then as_str (option_and_then (get (codes "encoding")) (option_and_then (get name) (option_and_then (get (codes "columns")) geo)))
+
+abbrev pub is_wkb : Text → Option Json → Bool
+is_wkb name geo = is_name (codes "WKB") (encoding_of name geo)

@@ -9,7 +9,8 @@ use Rattle.json.specs.Lex.{tokens}
 use Rattle.json.specs.Print.{print}
 use Rattle.arrow_values.specs.Tree.{Text}
 use Rattle.arrow_values.specs.Texts.{set_extension}
-use Rattle.arrow_columns.specs.Column.{ColumnTree, name_on}
+use Rattle.arrow_columns.specs.Column.{name_on}
+use Rattle.arrow_columns.specs.Types.{ColumnTree}
 use Rattle.crs_identity.specs.FormNames.{form_name}
 use Rattle.crs_identity.specs.Forms.{form_of_value}
 use Rattle.crs_identity.specs.declared.names.FormName.{FormName}
@@ -125,6 +126,11 @@ geometry_type (Some (geometry crs)) = Some (record { crs = crs; edges = None; sa
 geometry_type (Some (geography crs algorithm)) = Some (record { crs = crs; edges = Some (edges_of algorithm); said = edges_said algorithm })
 geometry_type _ = None
 
+abbrev pub is_geometry_type : Option Logical → Bool
+is_geometry_type (Some (geometry crs)) = true
+is_geometry_type (Some (geography crs algorithm)) = true
+is_geometry_type _ = false
+
 -- whether an element is a leaf of BYTE_ARRAY, and not repeated
 abbrev pub is_byte_array : Option PhysicalType → Bool
 is_byte_array (Some ByteArray) = true
@@ -171,14 +177,17 @@ marked_columns pairs es [] = []
 marked_columns pairs [] (c ∷ cs) = marked pairs None c ∷ marked_columns pairs [] cs
 marked_columns pairs (e ∷ es) (c ∷ cs) = marked pairs (Some e) c ∷ marked_columns pairs es cs
 
--- the children of the root: behind each stand the elements below it, of which so many are still to come
+-- the children of the root, each with what stands behind it: first the elements below it, of which so many are still to come
 abbrev pub count_of : Element → ℕ
 count_of e = unwrap_or e.num_children 0
 
-unfoldable pub children_in : ℕ → List Element → List Element
-children_in below [] = []
-children_in zero (e ∷ es) = e ∷ children_in (count_of e) es
-children_in (suc below) (e ∷ es) = children_in (below + count_of e) es
+unfoldable pub children_by : {A : Type 0} → (Element → List Element → A) → ℕ → List Element → List A
+children_by f below [] = []
+children_by f zero (e ∷ es) = f e es ∷ children_by f (count_of e) es
+children_by f (suc below) (e ∷ es) = children_by f (below + count_of e) es
+
+abbrev pub children_in : ℕ → List Element → List Element
+children_in below es = children_by (λ e behind. e) below es
 
 abbrev pub root_children : List Element → List Element
 root_children [] = []

@@ -10,8 +10,7 @@ use Rattle.parquet_columns.specs.declared.annotation.Annotation.{Annotation}
 use Rattle.parquet_columns.specs.declared.annotation.Annotation.TheVariants.{Plain, List as ListGroup, Map as MapGroup}
 use Rattle.parquet_columns.specs.Annotation.{annotation_of}
 use Rattle.parquet_columns.specs.Claims.{Claim, claim}
-use Rattle.parquet_columns.specs.Geometry.{count_of, is_plain_leaf, is_repeated}
-use Rattle.parquet_columns.specs.Resolved.{is_geometry_type}
+use Rattle.parquet_columns.specs.Geometry.{children_by, count_of, is_geometry_type, is_plain_leaf, is_repeated}
 use Rattle.parquet_columns.specs.Storage.{is_group, storage_of, is_stored}
 use Rattle.parquet_columns.specs.TypeNames.{type_name, physical_name}
 use Rattle.parquet_columns.specs.declared.layouts.ElementLayout.{ElementLayout}
@@ -136,10 +135,8 @@ layout_of [] = unjudged
 layout_of (e ∷ es) = if are_stored 1 (e ∷ es) then strict_layout e es else unjudged
 
 -- the layout of each child of the root
-unfoldable pub layouts_in : ℕ → List Element → List Layout
-layouts_in below [] = []
-layouts_in zero (e ∷ es) = layout_of (e ∷ es) ∷ layouts_in (count_of e) es
-layouts_in (suc below) (e ∷ es) = layouts_in (below + count_of e) es
+abbrev pub layouts_in : ℕ → List Element → List Layout
+layouts_in below es = children_by (λ e behind. layout_of (e ∷ behind)) below es
 
 abbrev pub root_layouts : List Element → List Layout
 root_layouts [] = []

@@ -2,7 +2,7 @@
 use Rattle.std.specs.Prelude.{ℕ, ℤ, pos, negsuc, Bool, true, false, ◌&&◌, ◌++◌, codes, Option, Some, None, Result, Ok, nat_lt, nat_le, ◌==◌, if◌then◌else◌}
 use Rattle.std.specs.Fmt.{decimal}
 use Rattle.arrow_values.specs.Tree.{Text, null, boolean, int8, int16, int32, int64, uint8, uint16, uint32, uint64, float16, float32, float64, date32, binary, utf8, Plain, plain}
-use Rattle.arrow_columns.specs.Column.{TypeTree, known, other}
+use Rattle.arrow_columns.specs.Types.{TypeTree, known, leaf}
 use Rattle.arrow_columns.specs.Notation.{sized_text}
 use Rattle.parquet_footer.specs.declared.element.PhysicalType.{PhysicalType}
 use Rattle.parquet_footer.specs.declared.element.PhysicalType.TheVariants.{Boolean, Int32, Int64, Int96, Float, Double, ByteArray, FixedLenByteArray, Unknown}
@@ -10,6 +10,8 @@ use Rattle.parquet_footer.specs.declared.logical.TimeUnit.{TimeUnit}
 use Rattle.parquet_footer.specs.declared.logical.TimeUnit.TheVariants.{Millisecond, Microsecond, Nanosecond}
 use Rattle.parquet_footer.specs.Element.{Element}
 use Rattle.parquet_columns.specs.declared.fault.ElementFault.{ElementFault}
+use Rattle.parquet_columns.specs.declared.leaf.LeafTypes.{LeafTypes}
+use Rattle.parquet_columns.specs.declared.leaf.LeafTypes.TheVariants.{Meant, Stored}
 use Rattle.parquet_columns.specs.declared.fault.SchemaRule.TheVariants.{Length, Digits}
 use Rattle.parquet_columns.specs.declared.meaning.Meaning.{Meaning}
 use Rattle.parquet_columns.specs.declared.meaning.Meaning.TheVariants.{Null, Text as Texts, Decimal, Date, Time, Timestamp, Integer, Half}
@@ -132,7 +134,7 @@ decimal_text precision scale =
 
 -- values of a fixed length
 abbrev pub fixed_type : ℤ → TypeTree
-fixed_type length = other (sized_text (codes "fixed_size_binary") length)
+fixed_type length = leaf (sized_text (codes "fixed_size_binary") length)
 
 abbrev pub is_null : Meaning → Bool
 is_null Null = true
@@ -140,8 +142,8 @@ is_null _ = false
 
 -- the first of these that there is: a time, a decimal, a data type; or values of a fixed length
 abbrev pub first_type : Option Text → Option (ℕ × ℕ) → Option Plain → ℤ → TypeTree
-first_type (Some clock) digits p length = other clock
-first_type None (Some digits) p length = other (decimal_text digits.0 digits.1)
+first_type (Some clock) digits p length = leaf clock
+first_type None (Some digits) p length = leaf (decimal_text digits.0 digits.1)
 first_type None None (Some p) length = known (plain p)
 first_type None None None length = fixed_type length
 
@@ -150,3 +152,14 @@ unfoldable pub leaf_type : PhysicalType → Meaning → ℤ → Option (ℕ × �
 leaf_type physical m length digits =
     if is_null m then known (plain null) else
     first_type (clock_text physical m) digits (plain_of physical m length) length
+
+-- the type that a stored field of the leaf is compared with: of bytes and floats that of their storage, whatever the values mean, but for texts
+abbrev pub stored_type : PhysicalType → Meaning → ℤ → Option (ℕ × ℕ) → TypeTree
+stored_type ByteArray m length digits = known (plain (bytes_of m))
+stored_type Float m length digits = known (plain float32)
+stored_type Double m length digits = known (plain float64)
+stored_type physical m length digits = leaf_type physical m length digits
+
+abbrev pub type_by : LeafTypes → PhysicalType → Meaning → ℤ → Option (ℕ × ℕ) → TypeTree
+type_by Meant physical m length digits = leaf_type physical m length digits
+type_by Stored physical m length digits = stored_type physical m length digits

@@ -1,5 +1,5 @@
 -- The groups that an element of a schema is in, by the elements before it (docs/FORMAT.md, 4.5).
-use Rattle.std.specs.Prelude.{ℕ, zero, suc, ◌-◌, Bool, true, false, List, [], ◌∷◌, ◌++◌, map, codes, Option, option_to_list}
+use Rattle.std.specs.Prelude.{ℕ, zero, suc, ◌-◌, ◌+◌, nat_lt, Bool, true, false, List, [], ◌∷◌, ◌++◌, length, map, codes, Option, None, Some, option_to_list, if◌then◌else◌}
 use Rattle.std.specs.Str.Lossy.{utf8_lossy}
 use Rattle.arrow_values.specs.Tree.{Text}
 use Rattle.parquet_footer.specs.Element.{Element}
@@ -38,6 +38,11 @@ taken (l ∷ m ∷ ms) = l ∷ taken (m ∷ ms)
 
 abbrev pub entered : List Level → Element → List Level
 entered ls e = taken ls ++ level_of e ∷ []
+
+-- the first of the elements behind the root that is more than 64 levels deep, so many groups being open around it, with its place
+unfoldable pub deep_from : ℕ → List Level → List Element → Option ℕ
+deep_from at ls [] = None
+deep_from at ls (e ∷ es) = if nat_lt 63 (length (open_of ls)) then Some at else deep_from (at + 1) (entered (open_of ls) e) es
 
 -- those that are open behind elements
 unfoldable pub open_behind : List Level → List Element → List Level

@@ -17,6 +17,8 @@ pub mod TypeNames
 pub mod Levels
 pub mod Elements
 pub mod Fits
+pub mod Ways
+pub mod Shown
 pub mod Resolved
 pub mod GeoNames
 pub mod Resolutions

@@ -3,9 +3,11 @@ use Rattle.std.specs.Prelude.{ℕ, Bool, true, false, ◌||◌, ◌&&◌, List, 
 use Rattle.std.specs.Str.{bytes_eq}
 use Rattle.std.specs.Str.Lossy.{utf8_lossy}
 use Rattle.arrow_values.specs.Tree.{Text}
-use Rattle.arrow_columns.specs.Column.{TypeTree, other, ColumnTree, type_tree, column_tree}
-use Rattle.arrow_columns.specs.Notation.{nested_text, part_text, type_text}
-use Rattle.arrow_columns.specs.Nested.{list_type, struct_type}
+use Rattle.arrow_columns.specs.Column.{type_tree, column_tree}
+use Rattle.arrow_columns.specs.Types.{TypeTree, ColumnTree}
+use Rattle.arrow_columns.specs.Notation.{nested_text, column_text}
+use Rattle.arrow_columns.specs.Nested.{list_type, nested_type, struct_type}
+use Rattle.arrow_columns.specs.declared.other.Form.TheVariants.{Map}
 use Rattle.arrow_columns.specs.declared.nested.ListForm.TheVariants.{Small}
 use Rattle.parquet_footer.specs.declared.element.Repetition.{Repetition}
 use Rattle.parquet_footer.specs.declared.element.Repetition.TheVariants.{Optional, Repeated}
@@ -97,8 +99,11 @@ is_group (typed t) = false
 is_group (wrapper c) = true
 is_group (group cs) = true
 
+abbrev pub map_by : ColumnTree → TypeTree
+map_by entries = nested_type (nested_text (codes "map") (column_text entries ∷ [])) Map [] (entries ∷ [])
+
 abbrev pub map_type : Text → TypeTree → TypeTree
-map_type name entries = other (nested_text (codes "map") (part_text (utf8_lossy name) (type_text entries) false ∷ []))
+map_type name entries = map_by (plain_column name false entries)
 
 abbrev pub map_of : ℕ → NodeTree → Result ShapeTree ElementFault
 map_of at n = if is_repeated n.repetition && is_group n.shape then Ok (typed (map_type n.name (shape_type n.shape))) else breaks MapRule at

@@ -4,10 +4,11 @@ use Rattle.std.specs.List.{slice_get}
 use Rattle.arrow_values.specs.Tree.{Text}
 use Rattle.parquet_footer.specs.Element.{Element}
 use Rattle.parquet_columns.specs.declared.fault.ElementFault.{ElementFault}
-use Rattle.parquet_columns.specs.declared.fault.SchemaRule.TheVariants.{Children}
+use Rattle.parquet_columns.specs.declared.fault.SchemaRule.TheVariants.{Children, Depth}
 use Rattle.parquet_columns.specs.declared.places.Child as declared
-use Rattle.parquet_columns.specs.Fault.{breaks}
+use Rattle.parquet_columns.specs.Fault.{◌>>=◌, breaks}
 use Rattle.parquet_columns.specs.Geometry.{count_of}
+use Rattle.parquet_columns.specs.Levels.{deep_from}
 
 -- a child of the root: its place, counted from the root, which is 0, and its name
 pub record Child : Type 0 where
@@ -44,5 +45,10 @@ is_whole n missing cs = length cs == n && missing == 0
 abbrev pub counted : ℕ → ℕ → ℕ → List Child → Result (List Child) ElementFault
 counted n end missing cs = if is_whole n missing cs then Ok cs else breaks Children (wrong_at (slice_get cs n) end)
 
+-- and no element is too deep
+abbrev pub within : Option ℕ → List Child → Result (List Child) ElementFault
+within None cs = Ok cs
+within (Some at) cs = breaks Depth at
+
 abbrev pub children_of_root : ℕ → List Element → Result (List Child) ElementFault
-children_of_root n es = counted n (length es + 1) (missing_from 0 es) (children_from 1 0 es)
+children_of_root n es = counted n (length es + 1) (missing_from 0 es) (children_from 1 0 es) >>= within (deep_from 1 [] es)

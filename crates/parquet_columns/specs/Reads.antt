@@ -4,7 +4,8 @@ use Rattle.std.specs.Borrow.{Bor}
 use Rattle.arrow_values.specs.Tree.{Text, Metadata}
 use Rattle.arrow_values.specs.Texts.{text_of, text_at}
 use Rattle.arrow_values.specs.View.{texts_of}
-use Rattle.arrow_columns.specs.Column.{ColumnTree, column_tree}
+use Rattle.arrow_columns.specs.Column.{column_tree}
+use Rattle.arrow_columns.specs.Types.{ColumnTree}
 use Rattle.json.specs.Json.{Json}
 use Rattle.parquet_footer.specs.Spelled.{Spelled}
 use Rattle.parquet_footer.specs.Element.{Element}
@@ -14,7 +15,7 @@ use Rattle.parquet_footer.specs.Tail.{length_at}
 use Rattle.parquet_footer.specs.declared.fault.Fault as footers
 use Rattle.parquet_footer.specs.declared.fault.FooterError.{FooterError}
 use Rattle.parquet_footer.specs.declared.fault.FooterError.TheVariants.{NotParquet, Invalid}
-use Rattle.parquet_columns.specs.Columns.{FaultTree, ColumnTrees, column_trees, columns_of}
+use Rattle.parquet_columns.specs.Columns.{FaultTree, ColumnTrees, column_trees, columns_of, compared_columns}
 use Rattle.parquet_columns.specs.Invalid.{invalid_elements}
 use Rattle.parquet_columns.specs.declared.columns.ElementColumns.{ElementColumns}
 use Rattle.parquet_columns.specs.declared.fault.ElementFault as elements
@@ -25,7 +26,7 @@ use Rattle.parquet_columns.specs.Claims.{claims, made_bytes}
 use Rattle.parquet_columns.specs.Layouts.{RootElement, root_element, root_layouts, joined}
 use Rattle.parquet_columns.specs.Findings.{Finding, finding, of_file, first_other, other_names, unreadable, geo_key, repeated_keys}
 use Rattle.parquet_columns.specs.GeoKeys.{other_geo_findings}
-use Rattle.parquet_columns.specs.Resolved.{Resolution, resolved_from, resolved_columns, resolved_findings, resolved_refuted}
+use Rattle.parquet_columns.specs.Resolved.{Resolution, resolved, resolved_columns, resolved_findings, resolved_refuted}
 use Rattle.parquet_columns.specs.GeoNames.{json_of, geo_text}
 use Rattle.parquet_columns.specs.Elements.{findings_below}
 use Rattle.parquet_columns.specs.declared.code.FileCode.TheVariants.{GeoNotInFooter}
@@ -79,7 +80,7 @@ names_seen p = (text_of p.0, text_of p.1)
 -- the columns of a stored schema, each as far as it fits its element, if their names are those of the elements' columns, with what was found of them before;
 -- else these
 abbrev pub by_names : Option (Option Text × Option Text) → Option Json → List Element → List ColumnTree → List Finding → List ColumnTree → Choice
-by_names None geo es stored found cs = with_found (resolved_from geo 0 es cs stored) found
+by_names None geo es stored found cs = with_found (resolved geo (root_children es) cs (compared_columns es) stored) found
 by_names (Some names) geo es stored found cs = unresolved cs (other_names names ∷ [])
 
 -- the key geo in the metadata of a stored schema, which the footer does not have
@@ -98,7 +99,7 @@ and_found read fs = record { columns = read.columns; findings = read.findings ++
 abbrev pub chosen : Contents → Option Stored → List ColumnTree → Choice
 chosen c None cs = unresolved cs []
 chosen c (Some (Schema s found)) cs = and_found
-    (by_names (first_other (map column_tree s.columns.items) cs) (json_of (geo_text c.key_value_metadata)) (root_children c.schema) (map column_tree s.columns.items) (map finding found.items) cs)
+    (by_names (first_other (map column_tree s.columns.items) cs) (json_of (geo_text c.key_value_metadata)) c.schema (map column_tree s.columns.items) (map finding found.items) cs)
     (geo_beside (texts_of s.metadata.entries) c.key_value_metadata)
 chosen c (Some (Unreadable fault)) cs = unresolved cs (unreadable fault ∷ [])
 

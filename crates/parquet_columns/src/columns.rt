@@ -5,15 +5,16 @@ ghost use Rattle.arrow_columns.specs.Column.{column_tree};
 ghost use Rattle.parquet_footer.specs.Element.{element};
 ghost use Rattle.parquet_columns.specs.Fault.{Says, map_ok};
 ghost use Rattle.parquet_columns.specs.Nodes.{shape_tree, node_tree};
-ghost use Rattle.parquet_columns.specs.Columns.{kind_at, repetition_at, head_tree, head_at, children_of, leaf_shape, shape_at, nodes_by, node_at, fault_tree, column_trees, column_at, faults_at, columns_at, columns_below, columns_of};
-ghost use Rattle.parquet_columns.specs.Places.{child};
+ghost use Rattle.parquet_columns.specs.Columns.{kind_at, repetition_at, head_tree, head_at, children_of, leaf_shape, shape_at, nodes_by, node_at, fault_tree, column_trees, column_at, faults_at, columns_at, columns_below, columns_of, compared_columns};
+ghost use Rattle.parquet_columns.specs.Places.{child, children_from};
+ghost use Rattle.parquet_columns.specs.declared.leaf.LeafTypes.TheVariants.{Meant, Stored};
 
 use crate::annotation::{Annotation, annotation_of};
 use crate::fault::{ColumnsError, ElementFault, SchemaRule};
-use crate::leaf::{digits_at, leaf_type, length_at};
+use crate::leaf::{LeafTypes, digits_at, length_at, type_by};
 use crate::meaning::meaning_of;
 use crate::nodes::{Node, Shape, column_of, group_shape, list_shape, map_shape};
-use crate::places::{Child, children_of_root};
+use crate::places::{Child, children_behind, children_of_root};
 use crate::unreadable::unreadable_column;
 use arrow_columns::SchemaColumn;
 use parquet_footer::{Footer, PhysicalType, Repetition, SchemaElement};
@@ -101,30 +102,32 @@ fn children_of(kind: Kind) -> u32
 #[tactic(auto, unfolding(crate::specs::Columns::leaf_shape))]
 fn leaf_shape(
     alloc: Global,
+    types: LeafTypes,
     at: usize,
     physical: PhysicalType,
     leaf: &SchemaElement<'_>,
 ) -> Result<Shape, ColumnsError>
-    ensures { Says shape_tree (leaf_shape at physical (element leaf.now)) result }
+    ensures { Says shape_tree (leaf_shape types at physical (element leaf.now)) result }
 {
     let length = length_at(at, physical, leaf.storage.type_length)?;
     let digits = digits_at(at, physical, leaf)?;
-    let made = leaf_type(alloc, physical, meaning_of(leaf), length, digits)?;
+    let made = type_by(alloc, types, physical, meaning_of(leaf), length, digits)?;
     Ok(Shape::Typed(made))
 }
 
 /// What an element stands for, by the elements below it.
 fn shape_at(
     alloc: Global,
+    types: LeafTypes,
     at: usize,
     head: &Head<'_, '_>,
     below: Vec<Node<'_>>,
 ) -> Result<Shape, ColumnsError>
-    ensures { Says shape_tree (shape_at at (head_tree head.now) (map node_tree below.entry.items)) result }
+    ensures { Says shape_tree (shape_at types at (head_tree head.now) (map node_tree below.entry.items)) result }
 {
     let element = head.element;
     match head.kind {
-        Kind::Leaf(physical) => leaf_shape(alloc, at, physical, element),
+        Kind::Leaf(physical) => leaf_shape(alloc, types, at, physical, element),
         Kind::Group(_) => match annotation_of(element) {
             Annotation::Plain => Ok(group_shape(alloc, below)?),
             Annotation::List => list_shape(alloc, at, element.storage.name.bytes, below),
@@ -137,19 +140,20 @@ fn shape_at(
 #[cycle(read)]
 fn read_node<'a>(
     alloc: Global,
+    types: LeafTypes,
     elements: &[SchemaElement<'a>],
     at: usize,
     levels: usize,
 ) -> Result<(Node<'a>, usize), ColumnsError>
-    ensures { Says (λ x. (node_tree x.0, x.1)) (node_at levels (map element elements.now) at) result }
+    ensures { Says (λ x. (node_tree x.0, x.1)) (node_at types levels (map element elements.now) at) result }
 {
     if levels == 0 {
         return Err(ColumnsError::Broken(ElementFault::new(SchemaRule::Depth, at)));
     }
     let head = head_at(elements, at)?;
     let count = children_of(head.kind);
-    let (below, next) = read_nodes(alloc, elements, at + 1, count, levels - 1)?;
-    let shape = shape_at(alloc, at, &head, below)?;
+    let (below, next) = read_nodes(alloc, types, elements, at + 1, count, levels - 1)?;
+    let shape = shape_at(alloc, types, at, &head, below)?;
     let element = head.element;
     let node = Node {
         name: element.storage.name.bytes,
@@ -163,17 +167,18 @@ fn read_node<'a>(
 #[cycle(read)]
 fn read_nodes<'a>(
     alloc: Global,
+    types: LeafTypes,
     elements: &[SchemaElement<'a>],
     start: usize,
     count: u32,
     levels: usize,
 ) -> Result<(Vec<Node<'a>>, usize), ColumnsError>
-    ensures { Says (λ x. (map node_tree x.0.items, x.1)) (nodes_by (node_at levels (map element elements.now)) start count) result }
+    ensures { Says (λ x. (map node_tree x.0.items, x.1)) (nodes_by (node_at types levels (map element elements.now)) start count) result }
 {
     let mut found = Vec::new(alloc);
     let mut at = start;
     'nodes: for i in 0..count {
-        let (node, next) = read_node(alloc, elements, at, levels)?;
+        let (node, next) = read_node(alloc, types, elements, at, levels)?;
         found.push(node)?;
         at = next;
     }
@@ -282,11 +287,11 @@ fn add_column(
     at: Child<'_>,
 ) -> Result<(), AllocError>
     ensures column { OnOk result (map column_tree columns.new.items
-        ≡ map column_tree columns.old.items ++ column_at (map element elements.now) (child at.entry) ∷ []) }
+        ≡ map column_tree columns.old.items ++ column_at Meant (map element elements.now) (child at.entry) ∷ []) }
     ensures faults { OnOk result (map fault_tree faults.new.items
         ≡ map fault_tree faults.old.items ++ faults_at (map element elements.now) (child at.entry)) }
 {
-    match read_node(alloc, elements, at.at, NESTING_LIMIT) {
+    match read_node(alloc, LeafTypes::Meant, elements, at.at, NESTING_LIMIT) {
         Ok((node, _)) => {
             columns.push(column_of(alloc, node)?)?;
             Ok(())
@@ -318,4 +323,53 @@ fn add_fault(
         fault,
     })?;
     Ok(())
+}
+
+/// The column that a child of the root is, with the type that a stored field is compared with. Errs
+/// only when out of memory.
+fn compared_at(
+    alloc: Global,
+    elements: &[SchemaElement<'_>],
+    at: Child<'_>,
+) -> Result<SchemaColumn, AllocError>
+    ensures { IfOk result (λ made. column_tree made ≡ column_at Stored (map element elements.now) (child at.entry)) }
+{
+    match read_node(alloc, LeafTypes::Stored, elements, at.at, NESTING_LIMIT) {
+        Ok((node, _)) => column_of(alloc, node),
+        Err(ColumnsError::Broken(_)) => unreadable_column(alloc, at.name),
+        Err(ColumnsError::OutOfMemory) => Err(AllocError),
+    }
+}
+
+/// The columns that some children of the root are, with those types. Errs only when out of memory.
+fn all_compared(
+    alloc: Global,
+    elements: &[SchemaElement<'_>],
+    children: &[Child<'_>],
+) -> Result<Vec<SchemaColumn>, AllocError>
+    ensures { IfOk result (λ made. map column_tree made.items
+        ≡ map (column_at Stored (map element elements.now)) (map child children.now)) }
+{
+    let mut made = Vec::new(alloc);
+    for child in children {
+        made.push(compared_at(alloc, elements, *child)?)?;
+    }
+    Ok(made)
+}
+
+/// The columns of the elements of a schema, with the types that stored fields are compared with. Errs
+/// only when out of memory.
+pub(crate) fn compared_columns(
+    alloc: Global,
+    elements: &[SchemaElement<'_>],
+) -> Result<Vec<SchemaColumn>, AllocError>
+    ensures { IfOk result (λ made. map column_tree made.items ≡ compared_columns (map element elements.now)) }
+{
+    match elements.split_first() {
+        None => Ok(Vec::new(alloc)),
+        Some((_root, below)) => {
+            let children = children_behind(alloc, below)?;
+            all_compared(alloc, elements, children.found.as_slice())
+        }
+    }
 }

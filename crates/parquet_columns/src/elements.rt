@@ -10,9 +10,8 @@ ghost use Rattle.parquet_columns.specs.Elements.{at_element, of_element, is_zero
 use crate::annotation::{Annotation, annotation_of};
 use crate::code::{FileCode, FilePart};
 use crate::finding::{FileFinding, FilePlace};
-use crate::geometry::colon_parts;
+use crate::geometry::{colon_parts, is_geometry_type};
 use crate::levels::{Level, close, column_in, enter, is_below, path_in};
-use crate::resolved::is_geometry_type;
 use crate::storage::{is_stored, storage_of, storage_text};
 use crate::type_names::{physical_name, type_name};
 use crate::values::KeyValues;

@@ -1,11 +1,14 @@
 //! Whether the type of a stored field fits that of an element.
-ghost use Rattle.std.specs.Prelude.{◌≡◌, option_map};
+ghost use Rattle.std.specs.Prelude.{◌≡◌, IfOk, option_map};
 ghost use Rattle.arrow_values.specs.View.{tree, field_trees};
 ghost use Rattle.arrow_columns.specs.Column.{type_tree};
-ghost use Rattle.parquet_columns.specs.Fits.{sort_of, text_sort, any_sort, place_of, are_same, item_of, fields_of, holds, fits, fields_fit, type_fits};
+ghost use Rattle.arrow_columns.specs.Outlines.{outline};
+ghost use Rattle.arrow_columns.specs.declared.outline.Outline.TheVariants.{Storage};
+ghost use Rattle.parquet_columns.specs.Fits.{sort_of, place_of, are_same, item_of, fields_of, holds, fits, fields_fit, type_fits};
 
-use arrow_columns::AnyType;
+use arrow_columns::{AnyType, Outline, outline_of};
 use arrow_values::{DataType, Fields};
+use std::alloc::{AllocError, Global};
 
 /// What is told apart of types.
 #[derive(Clone, Copy)]
@@ -58,41 +61,6 @@ fn sort_of(data_type: &DataType) -> Sort
     }
 }
 
-/// The sort of a type that is known by its notation.
-fn text_sort(text: &[u8]) -> Sort
-    ensures { result ≡ text_sort text.now }
-{
-    if text.starts_with(b"struct<") {
-        return Sort::Struct;
-    }
-    if text.starts_with(b"list<")
-        || text.starts_with(b"large_list<")
-        || text.starts_with(b"fixed_size_list<")
-        || text.starts_with(b"list_view<")
-        || text.starts_with(b"large_list_view<")
-    {
-        return Sort::List;
-    }
-    if text.starts_with(b"dictionary<values=binary")
-        || text.starts_with(b"dictionary<values=large_binary,")
-        || text.starts_with(b"dictionary<values=utf8")
-        || text.starts_with(b"dictionary<values=large_utf8,")
-    {
-        return Sort::Bytes;
-    }
-    Sort::Other
-}
-
-/// The sort of any type.
-fn any_sort(any: &AnyType) -> Sort
-    ensures { result ≡ any_sort (type_tree any.now) }
-{
-    match any {
-        AnyType::Data(data_type) => sort_of(data_type),
-        AnyType::Other(text) => text_sort(text.as_bytes()),
-    }
-}
-
 /// The place of a sort in the list.
 fn place_of(sort: Sort) -> u8
     ensures { result ≡ place_of sort }
@@ -116,7 +84,7 @@ fn are_same(one: Sort, other: Sort) -> bool
 }
 
 /// The type of the items of a list.
-fn item_of(data_type: &DataType) -> Option<&DataType>
+pub(crate) fn item_of(data_type: &DataType) -> Option<&DataType>
     ensures { option_map (λ t. tree t.now) result ≡ item_of (tree data_type.now) }
 {
     match data_type {
@@ -128,7 +96,7 @@ fn item_of(data_type: &DataType) -> Option<&DataType>
 }
 
 /// The fields of a struct.
-fn fields_of(data_type: &DataType) -> Option<&Fields>
+pub(crate) fn fields_of(data_type: &DataType) -> Option<&Fields>
     ensures { option_map (λ fs. field_trees fs.now) result ≡ fields_of (tree data_type.now) }
 {
     match data_type {
@@ -139,7 +107,7 @@ fn fields_of(data_type: &DataType) -> Option<&Fields>
 
 /// Whether a stored data type fits that of an element.
 #[cycle(fits)]
-fn fits(said: &DataType, stored: &DataType) -> bool
+pub(crate) fn fits(said: &DataType, stored: &DataType) -> bool
     ensures { result ≡ fits (tree said.now) (tree stored.now) }
 {
     match said {
@@ -185,15 +153,28 @@ fn fields_fit(fields: &Fields, others: &Fields) -> bool
     rest.next().is_none()
 }
 
-/// Whether the type of a stored field fits that of an element.
-pub(crate) fn type_fits(said: &AnyType, stored: &AnyType) -> bool
-    ensures { result ≡ type_fits (type_tree said.now) (type_tree stored.now) }
+/// Whether a stored type fits the data type of an element. Errs only when out of memory.
+fn fits_any(alloc: Global, said: &DataType, stored: &AnyType) -> Result<bool, AllocError>
+    ensures { IfOk result (λ fit. fit ≡ fits (tree said.now) (outline Storage (type_tree stored.now))) }
+{
+    match stored {
+        AnyType::Data(stored) => Ok(fits(said, stored)),
+        AnyType::Other(_) => {
+            let stored = outline_of(alloc, Outline::Storage, stored)?;
+            Ok(fits(said, &stored))
+        }
+    }
+}
+
+/// Whether the type of a stored field fits that of an element. Errs only when out of memory.
+pub(crate) fn type_fits(alloc: Global, said: &AnyType, stored: &AnyType) -> Result<bool, AllocError>
+    ensures { IfOk result (λ fit. fit ≡ type_fits (type_tree said.now) (type_tree stored.now)) }
 {
     match said {
-        AnyType::Data(said) => match stored {
-            AnyType::Data(stored) => fits(said, stored),
-            AnyType::Other(text) => are_same(sort_of(said), text_sort(text.as_bytes())),
-        },
-        AnyType::Other(text) => are_same(text_sort(text.as_bytes()), any_sort(stored)),
+        AnyType::Data(said) => fits_any(alloc, said, stored),
+        AnyType::Other(_) => {
+            let said = outline_of(alloc, Outline::Storage, said)?;
+            fits_any(alloc, &said, stored)
+        }
     }
 }

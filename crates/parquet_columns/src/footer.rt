@@ -13,7 +13,7 @@ ghost use Rattle.parquet_columns.specs.GeoNames.{json_of};
 
 use crate::budget::report_budget;
 use crate::code::{FileCode, FilePart};
-use crate::columns::{ColumnFault, ElementColumns, columns_of};
+use crate::columns::{ColumnFault, ElementColumns, columns_of, compared_columns};
 use crate::elements::add_elements;
 use crate::error::SchemaError;
 use crate::fault::ColumnsError;
@@ -140,18 +140,22 @@ fn unresolved(alloc: Global, columns: Vec<SchemaColumn>, findings: Vec<FileFindi
 fn by_names(
     alloc: Global,
     text: Option<&str>,
-    children: &[SchemaElement<'_>],
+    elements: &[SchemaElement<'_>],
     stored: Vec<SchemaColumn>,
     found: Vec<FileFinding>,
     columns: Vec<SchemaColumn>,
 ) -> Result<Unmarked, AllocError>
     ensures { IfOk result (λ read. choice read ≡ by_names (first_other (map column_tree stored.items) (map column_tree columns.items))
-        (json_of (text_of text.entry)) (map element children.now) (map column_tree stored.items) (map finding found.items) (map column_tree columns.items)) }
+        (json_of (text_of text.entry)) (map element elements.now) (map column_tree stored.items) (map finding found.items) (map column_tree columns.items)) }
 {
     let other = match first_other(stored.as_slice(), columns.as_slice()) {
         Some(names) => other_names(alloc, names)?,
         None => {
-            let read = resolved(alloc, text, children, columns.as_slice(), stored)?;
+            let children = root_children(alloc, elements)?;
+            let compared = compared_columns(alloc, elements)?;
+            let others = columns.as_slice();
+            let (children, compared) = (children.as_slice(), compared.as_slice());
+            let read = resolved(alloc, text, children, others, compared, stored)?;
             return with_found(read, found);
         }
     };
@@ -197,9 +201,9 @@ fn of_schema(
         metadata,
         ..
     } = schema;
-    let children = root_children(alloc, footer.schema.as_slice())?;
     let text = geo_text(footer);
-    let read = by_names(alloc, text, children.as_slice(), stored, found, columns)?;
+    let elements = footer.schema.as_slice();
+    let read = by_names(alloc, text, elements, stored, found, columns)?;
     let Unmarked {
         columns,
         findings,

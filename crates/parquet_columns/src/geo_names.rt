@@ -4,7 +4,7 @@ ghost use Rattle.json.specs.Find.{as_str, as_object, at};
 ghost use Rattle.json.specs.Value.{value_view, members_view};
 ghost use Rattle.arrow_values.specs.Texts.{text_of};
 ghost use Rattle.parquet_footer.specs.Footer.{pairing};
-ghost use Rattle.parquet_columns.specs.GeoNames.{json_of, geo_text, is_name, is_bound_in, is_box_in, covers, names_one, is_named};
+ghost use Rattle.parquet_columns.specs.GeoNames.{json_of, geo_text, is_name, is_bound_in, is_box_in, covers, names_one, is_named, encoding_of, is_wkb};
 
 use crate::keys::{GEO_KEY, value_of};
 use crate::values::value_text;
@@ -121,4 +121,18 @@ pub(crate) fn is_named(name: &str, geo: Option<&Value<'_>>) -> bool
         Some(Value::Object(members)) => names_one(name, members.as_slice()),
         _ => false,
     }
+}
+
+/// The encoding that the metadata at `geo` give the columns of a name.
+fn encoding_of<'a>(name: &str, geo: Option<&Value<'a>>) -> Option<&'a str>
+    ensures { text_of result ≡ encoding_of name.now (option_map (λ v. value_view v.now) geo.entry) }
+{
+    geo?.get("columns")?.get(name)?.get("encoding")?.as_str()
+}
+
+/// Whether that is well-known binary.
+pub(crate) fn is_wkb(name: &str, geo: Option<&Value<'_>>) -> bool
+    ensures { result ≡ is_wkb name.now (option_map (λ v. value_view v.now) geo.entry) }
+{
+    is_name("WKB", encoding_of(name, geo))
 }

@@ -7,7 +7,7 @@ ghost use Rattle.parquet_footer.specs.Element.{element};
 ghost use Rattle.parquet_footer.specs.Footer.{Pairing};
 ghost use Rattle.parquet_footer.specs.Logical.{logical};
 ghost use Rattle.parquet_columns.specs.Typed.{IsNamed};
-ghost use Rattle.parquet_columns.specs.Geometry.{text_crs, colon_parts, are_digits, srid_crs, type_of_form, code_type, coded_crs, crs_in, edges_of, edges_said, text_with, geometry_type, is_plain_leaf, geometry_of, extension_text};
+ghost use Rattle.parquet_columns.specs.Geometry.{text_crs, colon_parts, are_digits, srid_crs, type_of_form, code_type, coded_crs, crs_in, edges_of, edges_said, text_with, geometry_type, is_geometry_type, is_plain_leaf, geometry_of, extension_text};
 ghost use Rattle.parquet_columns.specs.Says.{says};
 
 use crate::values::KeyValues;
@@ -207,6 +207,16 @@ fn geometry_type<'a>(logical_type: Option<LogicalType<'a>>) -> Option<GeometrySa
         }),
         _ => None,
     }
+}
+
+/// Whether a logical type is a geometry type.
+pub(crate) fn is_geometry_type(logical_type: Option<LogicalType<'_>>) -> bool
+    ensures { result ≡ is_geometry_type (option_map logical logical_type.entry) }
+{
+    matches!(
+        logical_type,
+        Some(LogicalType::Geometry(_) | LogicalType::Geography(_, _))
+    )
 }
 
 /// Whether an element is a leaf of BYTE_ARRAY, and not repeated.

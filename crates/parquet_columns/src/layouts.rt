@@ -8,9 +8,8 @@ ghost use Rattle.parquet_columns.specs.Storage.{is_stored, storage_of};
 
 use crate::annotation::{Annotation, annotation_of};
 use crate::claim::ElementClaim;
-use crate::geometry::is_plain_leaf;
+use crate::geometry::{is_geometry_type, is_plain_leaf};
 use crate::marks::count_of;
-use crate::resolved::is_geometry_type;
 use crate::storage::{is_stored, storage_of};
 use crate::type_names::{physical_name, type_name};
 use parquet_footer::{PhysicalType, Repetition, SchemaElement};
@@ -87,7 +86,7 @@ fn in_the_way(found: &SchemaElement<'_>) -> ElementLayout
 }
 
 /// Whether an element is a leaf of bytes.
-fn is_bytes(found: &SchemaElement<'_>) -> bool
+pub(crate) fn is_bytes(found: &SchemaElement<'_>) -> bool
     ensures { result ≡ is_bytes (element found.now) }
 {
     is_plain_leaf(found) && (is_plain(found) || is_geometry_type(found.logical_type))

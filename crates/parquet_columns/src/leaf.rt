@@ -4,7 +4,7 @@ ghost use Rattle.arrow_values.specs.Tree.{plain};
 ghost use Rattle.arrow_values.specs.View.{tree};
 ghost use Rattle.arrow_columns.specs.Column.{type_tree};
 ghost use Rattle.parquet_footer.specs.Element.{element};
-ghost use Rattle.parquet_columns.specs.Leaf.{int32_of, int64_of, bytes_of, fixed_of, plain_of, time32_text, time64_text, timestamp_text, clock_text, length_at, digits_in, may_be_decimal, is_decimal, held, digits_at, decimal_text, fixed_type, is_null, leaf_type};
+ghost use Rattle.parquet_columns.specs.Leaf.{int32_of, int64_of, bytes_of, fixed_of, plain_of, time32_text, time64_text, timestamp_text, clock_text, length_at, digits_in, may_be_decimal, is_decimal, held, digits_at, decimal_text, fixed_type, is_null, leaf_type, stored_type, type_by};
 
 use crate::fault::{ElementFault, SchemaRule};
 use crate::meaning::{Meaning, meaning_of, precision_of, scale_of};
@@ -13,6 +13,15 @@ use arrow_columns::{AnyType, sized_notation};
 use arrow_values::DataType;
 use parquet_footer::{PhysicalType, SchemaElement, TimeUnit};
 use std::alloc::{AllocError, Global};
+
+/// Which types leaves have.
+#[derive(Clone, Copy)]
+pub(crate) enum LeafTypes {
+    /// Those of what their values mean.
+    Meant,
+    /// Those with which stored fields are compared.
+    Stored,
+}
 
 /// The type of integers of 32 bits.
 fn int32_of(meaning: Meaning) -> DataType
@@ -194,7 +203,7 @@ fn fixed_type(alloc: Global, length: i32) -> Result<AnyType, AllocError>
     ensures { IfOk result (λ made. type_tree made ≡ fixed_type length) }
 {
     let text = sized_notation(alloc, "fixed_size_binary", length)?;
-    Ok(AnyType::Other(text))
+    Ok(AnyType::leaf(alloc, text))
 }
 
 /// Whether all values are null.
@@ -209,7 +218,7 @@ fn is_null(meaning: Meaning) -> bool
 
 /// The type of a leaf, by how its values are stored, what they mean, their length, and the digits
 /// of decimal numbers. Errs only when out of memory.
-pub(crate) fn leaf_type(
+fn leaf_type(
     alloc: Global,
     physical: PhysicalType,
     meaning: Meaning,
@@ -222,14 +231,51 @@ pub(crate) fn leaf_type(
         return Ok(AnyType::Data(DataType::Null));
     }
     if let Some(text) = clock_text(physical, meaning) {
-        return Ok(AnyType::Other(String::from_str(alloc, text)?));
+        let text = String::from_str(alloc, text)?;
+        return Ok(AnyType::leaf(alloc, text));
     }
     if let Some((precision, scale)) = digits {
         let text = decimal_text(alloc, precision, scale)?;
-        return Ok(AnyType::Other(text));
+        return Ok(AnyType::leaf(alloc, text));
     }
     match plain_of(physical, meaning, length) {
         Some(data_type) => Ok(AnyType::Data(data_type)),
         None => fixed_type(alloc, length),
+    }
+}
+
+/// The type that a stored field of a leaf is compared with. Errs only when out of memory.
+fn stored_type(
+    alloc: Global,
+    physical: PhysicalType,
+    meaning: Meaning,
+    length: i32,
+    digits: Option<(u32, u32)>,
+) -> Result<AnyType, AllocError>
+    ensures { IfOk result (λ made. type_tree made ≡ stored_type physical meaning length digits) }
+{
+    match physical {
+        PhysicalType::ByteArray => Ok(AnyType::Data(bytes_of(meaning))),
+        PhysicalType::Float => Ok(AnyType::Data(DataType::Float32)),
+        PhysicalType::Double => Ok(AnyType::Data(DataType::Float64)),
+        _ => leaf_type(alloc, physical, meaning, length, digits),
+    }
+}
+
+/// The type of those of a leaf, by how its values are stored, what they mean, their length, and the
+/// digits of decimal numbers. Errs only when out of memory.
+pub(crate) fn type_by(
+    alloc: Global,
+    types: LeafTypes,
+    physical: PhysicalType,
+    meaning: Meaning,
+    length: i32,
+    digits: Option<(u32, u32)>,
+) -> Result<AnyType, AllocError>
+    ensures { IfOk result (λ made. type_tree made ≡ type_by types physical meaning length digits) }
+{
+    match types {
+        LeafTypes::Meant => leaf_type(alloc, physical, meaning, length, digits),
+        LeafTypes::Stored => stored_type(alloc, physical, meaning, length, digits),
     }
 }

@@ -1,9 +1,10 @@
 //! The groups that an element of a schema is in, by the elements before it.
-ghost use Rattle.std.specs.Prelude.{◌≡◌, ◌<◌, ◌+◌, ◌∷◌, [], ◌++◌, IfOk, OnOk, Option, Some, map, option_map, string_bytes};
+ghost use Rattle.std.specs.Prelude.{◌≡◌, ◌<◌, ◌+◌, ◌∷◌, [], ◌++◌, IfOk, OnOk, Option, Some, map, option_map, option_to_list, string_bytes};
 ghost use Rattle.std.specs.Str.Lossy.{utf8_lossy};
 ghost use Rattle.parquet_footer.specs.Element.{element};
-ghost use Rattle.parquet_columns.specs.Levels.{level, open_of, taken, entered, open_behind, shown_names, column_in, below_column, path_in, is_below};
+ghost use Rattle.parquet_columns.specs.Levels.{level, open_of, taken, entered, deep_from, open_behind, shown_names, column_in, below_column, path_in, is_below};
 
+use crate::columns::NESTING_LIMIT;
 use crate::marks::count_of;
 use parquet_footer::SchemaElement;
 use std::alloc::{AllocError, Global};
@@ -60,6 +61,25 @@ pub(crate) fn enter<'a>(
         left: count_of(child),
     })?;
     Ok(())
+}
+
+/// The place of the first of the elements behind the root that is more than 64 levels deep. Errs only
+/// when out of memory.
+pub(crate) fn deep_among(
+    alloc: Global,
+    elements: &[SchemaElement<'_>],
+) -> Result<Option<usize>, AllocError>
+    ensures { IfOk result (λ at. at ≡ deep_from 1 [] (map element elements.now)) }
+{
+    let mut levels = Vec::new(alloc);
+    for (at, child) in elements.iter().enumerate() {
+        close(&mut levels)?;
+        if levels.len() >= NESTING_LIMIT {
+            return Ok(Some(at + 1));
+        }
+        enter(&mut levels, child)?;
+    }
+    Ok(None)
 }
 
 /// The groups that are open behind elements, the first of which is a column. Errs only when out of
@@ -128,45 +148,65 @@ fn push_name(
     Ok(room - 1)
 }
 
-/// The path of what is in these groups below a column, and has that name itself, if it has one.
-/// Errs only when out of memory.
+/// Names as they are shown: at most eight, and `..` in place of the others. Errs only when out of
+/// memory.
 #[tactic(auto, using(crate::proofs::Opening::shown_more, crate::proofs::Opening::shown_full))]
-fn below_column(
-    alloc: Global,
-    groups: &[Level<'_>],
-    own: Option<&[u8]>,
-) -> Result<Vec<String>, AllocError>
-    ensures { IfOk result (λ path. map string_bytes path.items
-        ≡ below_column (map level groups.now) (option_map (λ n. n.now) own.entry)) }
+pub(crate) fn shown_names(alloc: Global, names: &[&[u8]]) -> Result<Vec<String>, AllocError>
+    ensures { IfOk result (λ path. map string_bytes path.items ≡ shown_names 8 (map (λ n. n.now) names.now)) }
 {
     let mut path = Vec::new(alloc);
     let mut room = MAX_NAMES;
-    let mut left = groups;
-    'groups: while let [group, rest @ ..] = left {
+    let mut left = names;
+    'names: while let [name, rest @ ..] = left {
         if room == 0 {
             path.push(String::from_str(alloc, "..")?)?;
             return Ok(path);
         }
-        room = push_name(alloc, &mut path, room, group.name)?;
+        room = push_name(alloc, &mut path, room, name)?;
         left = rest;
     }
-    let Some(own) = own else {
-        return Ok(path);
-    };
-    if room == 0 {
-        path.push(String::from_str(alloc, "..")?)?;
-        return Ok(path);
-    }
-    path.push(shown_name(alloc, own)?)?;
     Ok(path)
+}
+
+/// The names of groups, and behind them another, if there is one. Errs only when out of memory.
+fn names_of<'a>(
+    alloc: Global,
+    groups: &[Level<'a>],
+    own: Option<&'a [u8]>,
+) -> Result<Vec<&'a [u8]>, AllocError>
+    ensures { IfOk result (λ names. map (λ n. n.now) names.items
+        ≡ map (λ l. l.name) (map level groups.now) ++ option_to_list (option_map (λ n. n.now) own.entry)) }
+{
+    let mut names = Vec::new(alloc);
+    for group in groups {
+        names.push(group.name)?;
+    }
+    if let Some(own) = own {
+        names.push(own)?;
+    }
+    Ok(names)
+}
+
+/// The path of what is in these groups below a column, and has that name itself, if it has one.
+/// Errs only when out of memory.
+fn below_column<'a>(
+    alloc: Global,
+    groups: &[Level<'a>],
+    own: Option<&'a [u8]>,
+) -> Result<Vec<String>, AllocError>
+    ensures { IfOk result (λ path. map string_bytes path.items
+        ≡ below_column (map level groups.now) (option_map (λ n. n.now) own.entry)) }
+{
+    let names = names_of(alloc, groups, own)?;
+    shown_names(alloc, names.as_slice())
 }
 
 /// The path of what is in these groups, and has that name itself, if it has one, down from its
 /// column. Errs only when out of memory.
-pub(crate) fn path_in(
+pub(crate) fn path_in<'a>(
     alloc: Global,
-    levels: &[Level<'_>],
-    own: Option<&[u8]>,
+    levels: &[Level<'a>],
+    own: Option<&'a [u8]>,
 ) -> Result<Vec<String>, AllocError>
     ensures { IfOk result (λ path. map string_bytes path.items
         ≡ path_in (map level levels.now) (option_map (λ n. n.now) own.entry)) }

@@ -11,6 +11,7 @@ mod elements;
 mod entries;
 mod equality_laws;
 mod error;
+mod excerpt;
 mod fault;
 mod file;
 mod finding;
@@ -36,6 +37,7 @@ mod stored;
 mod type_names;
 mod unreadable;
 mod values;
+mod ways;
 
 pub use budget::{TOO_LARGE, WITHIN_BUDGET, report_budget};
 pub use claim::ElementClaim;
@@ -47,6 +49,7 @@ pub use equality_laws::{
     rule_equality_is_exact,
 };
 pub use error::SchemaError;
+pub use excerpt::shown;
 pub use fault::{ColumnsError, ElementFault, SchemaRule};
 pub use file::{FileColumns, footer_in, read_file};
 pub use finding::{FileFinding, FilePlace};

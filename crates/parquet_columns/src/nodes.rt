@@ -2,11 +2,11 @@
 ghost use Rattle.std.specs.Prelude.{◌≡◌, ◌≢◌, ◌∷◌, [], length, map, IfOk, IfErr};
 ghost use Rattle.arrow_columns.specs.Column.{type_tree, column_tree};
 ghost use Rattle.parquet_columns.specs.Fault.{Says};
-ghost use Rattle.parquet_columns.specs.Nodes.{wrapper, shape_tree, node_tree, shape_type, plain_column, is_optional, is_repeated, column_by, column_of, one_shape, group_shape, is_item_name, item_by, list_of, list_shape, is_group, map_type, map_of, map_shape};
+ghost use Rattle.parquet_columns.specs.Nodes.{wrapper, shape_tree, node_tree, shape_type, plain_column, is_optional, is_repeated, column_by, column_of, one_shape, group_shape, is_item_name, item_by, list_of, list_shape, is_group, map_by, map_type, map_of, map_shape};
 
 use crate::fault::{ColumnsError, ElementFault, SchemaRule};
 use arrow_columns::{
-    AnyType, ListForm, SchemaColumn, list_type, nested_notation, part_notation, struct_type,
+    AnyType, Form, ListForm, SchemaColumn, list_type, nested_notation, nested_type, struct_type,
 };
 use parquet_footer::Repetition;
 use std::alloc::{AllocError, Global};
@@ -254,12 +254,17 @@ fn map_type(alloc: Global, node: Node<'_>) -> Result<AnyType, AllocError>
 {
     let Node { name, shape, .. } = node;
     let entries = shape_type(alloc, shape)?;
-    let text = entries.notation(alloc);
-    drop(entries);
-    let text = text?;
-    let name = String::from_utf8_lossy(alloc, name)?;
-    let part = part_notation(alloc, name.as_str(), text.as_str(), false)?;
-    nested_notation(alloc, "map", &[part]).map(AnyType::Other)
+    map_by(alloc, plain_column(alloc, name, false, entries)?)
+}
+
+/// A map of those entries.
+fn map_by(alloc: Global, entries: SchemaColumn) -> Result<AnyType, AllocError>
+    ensures { IfOk result (λ made. type_tree made ≡ map_by (column_tree entries)) }
+{
+    let part = entries.notation(alloc)?;
+    let text = nested_notation(alloc, "map", &[part])?;
+    let parts = vec![in alloc; entries]?;
+    nested_type(alloc, text, Form::Map, Vec::new(alloc), parts)
 }
 
 /// What a MAP stands for, by the elements below it; it is the one with that index.

@@ -3,9 +3,10 @@ ghost use Rattle.std.specs.Prelude.{◌≡◌, ◌+◌, ◌*◌, ◌<◌, ◌≤
 ghost use Rattle.std.specs.List.{slice_get};
 ghost use Rattle.parquet_footer.specs.Element.{element};
 ghost use Rattle.parquet_columns.specs.Fault.{Says};
-ghost use Rattle.parquet_columns.specs.Places.{child, children_from, missing_from, wrong_at, is_whole, counted, children_of_root};
+ghost use Rattle.parquet_columns.specs.Places.{child, children_from, missing_from, wrong_at, is_whole, counted, within, children_of_root};
 
 use crate::fault::{ColumnsError, ElementFault, SchemaRule};
+use crate::levels::deep_among;
 use crate::marks::count_of;
 use parquet_footer::SchemaElement;
 use std::alloc::{AllocError, Global};
@@ -21,15 +22,15 @@ pub(crate) struct Child<'a> {
 
 /// The children of a root.
 #[derive(Drop)]
-struct Children<'a> {
+pub(crate) struct Children<'a> {
     /// Those that there are.
-    found: Vec<Child<'a>>,
+    pub found: Vec<Child<'a>>,
     /// How many elements are missing below the last.
     missing: u128,
 }
 
 /// The children of the root, of the elements behind it. Errs only when out of memory.
-fn children_behind<'a>(
+pub(crate) fn children_behind<'a>(
     alloc: Global,
     elements: &[SchemaElement<'a>],
 ) -> Result<Children<'a>, AllocError>
@@ -100,9 +101,22 @@ fn counted<'a>(
     Err(ColumnsError::Broken(ElementFault::new(SchemaRule::Children, at)))
 }
 
+/// The children of the root, where no element is too deep. Errs where one is.
+fn within<'a>(deep: Option<usize>, children: Vec<Child<'a>>) -> Result<Vec<Child<'a>>, ColumnsError>
+    ensures { Says (λ v. map child v.items) (within deep (map child children.entry.items)) result }
+{
+    match deep {
+        None => Ok(children),
+        Some(at) => {
+            drop(children);
+            Err(ColumnsError::Broken(ElementFault::new(SchemaRule::Depth, at)))
+        }
+    }
+}
+
 /// The children of the root, which says that they are so many, of the elements behind it. Errs
-/// where they are not as many, or not all elements are there below the last; and when out of
-/// memory.
+/// where they are not as many, or not all elements are there below the last, or one is more than 64
+/// levels deep; and when out of memory.
 pub(crate) fn children_of_root<'a>(
     alloc: Global,
     count: u32,
@@ -111,5 +125,6 @@ pub(crate) fn children_of_root<'a>(
     ensures { Says (λ v. map child v.items) (children_of_root count (map element elements.now)) result }
 {
     let children = children_behind(alloc, elements)?;
-    counted(count as usize, elements.len() + 1, children)
+    let children = counted(count as usize, elements.len() + 1, children)?;
+    within(deep_among(alloc, elements)?, children)
 }

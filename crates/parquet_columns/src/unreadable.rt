@@ -16,7 +16,7 @@ pub(crate) fn unreadable_column(alloc: Global, name: &[u8]) -> Result<SchemaColu
     ensures { IfOk result (λ made. column_tree made ≡ unreadable_column name.now) }
 {
     let text = String::from_str(alloc, UNREADABLE)?;
-    plain_column(alloc, name, true, AnyType::Other(text))
+    plain_column(alloc, name, true, AnyType::leaf(alloc, text))
 }
 
 /// Returns whether a type is that of a column with an element that breaks a rule, which is not read
@@ -26,6 +26,6 @@ pub fn is_unreadable(any: &AnyType) -> bool
 {
     match any {
         AnyType::Data(_) => false,
-        AnyType::Other(text) => text.as_str() == UNREADABLE,
+        AnyType::Other(other) => other.notation.as_str() == UNREADABLE,
     }
 }

@@ -18,6 +18,11 @@ abbrev pub severity_of : FooterCode → Severity
 severity_of NameNotText = Error
 severity_of KeyNotText = Note
 
+-- the part of a file in which it is found
+abbrev pub part_of : FooterCode → List ℕ
+part_of NameNotText = codes "elements"
+part_of KeyNotText = codes "footer"
+
 -- when a code is found
 abbrev pub rule_of : FooterCode → List ℕ
 rule_of NameNotText = codes "the name of an element is not UTF-8"

@@ -1,6 +1,6 @@
 //! What may be found in a footer that is read: codes, with their severities and words.
 ghost use Rattle.std.specs.Prelude.{◌≡◌};
-ghost use Rattle.parquet_footer.specs.Codes.{severity_text, code_of, severity_of, rule_of, expected_of, help_of};
+ghost use Rattle.parquet_footer.specs.Codes.{severity_text, code_of, severity_of, part_of, rule_of, expected_of, help_of};
 
 /// How much a finding weighs.
 #[derive(Clone, Copy, Debug, PartialEq, Eq)]
@@ -57,6 +57,17 @@ impl FooterCode {
         match self {
             Self::NameNotText => Severity::Error,
             Self::KeyNotText => Severity::Note,
+        }
+    }
+
+    /// Returns the part of a Parquet file in which a finding of the code is, as reports have it:
+    /// `elements` or `footer`. Its byte is one of the footer in both.
+    pub fn part(self) -> &'static str
+        ensures { result.now ≡ part_of self }
+    {
+        match self {
+            Self::NameNotText => "elements",
+            Self::KeyNotText => "footer",
         }
     }
 

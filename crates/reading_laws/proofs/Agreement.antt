@@ -6,7 +6,8 @@ use Rattle.serde_json.specs.Data.{Data}
 use Rattle.serde_json.specs.Read.{read}
 use Rattle.arrow_values.specs.Tree.{Text, FieldTree}
 use Rattle.arrow_values.specs.Texts.{extension_name, extension_metadata}
-use Rattle.arrow_columns.specs.Column.{TypeTree, column_of, known}
+use Rattle.arrow_columns.specs.Column.{column_of}
+use Rattle.arrow_columns.specs.Types.{TypeTree, known}
 use Rattle.geoarrow_layout.specs.declared.names.ExtensionName.{ExtensionName}
 use Rattle.geoarrow_layout.specs.declared.names.ExtensionName.TheVariants as names
 use Rattle.geoarrow_layout.specs.declared.native_kinds.NativeKind.TheVariants.{Point, LineString, Polygon, MultiPoint, MultiLineString, MultiPolygon, GeometryCollection}
@@ -24,6 +25,7 @@ use Rattle.geoarrow_schema.specs.Infers.{InfersAs, InfersNone}
 use Rattle.column_check.specs.OldNames.{current_name, has_old_name}
 use Rattle.column_check.specs.Metadata.{Values, values_of, is_planar, unless_planar, are_planar, TextDenotes, HasMetadataFault}
 use Rattle.column_check.specs.Types.{TypeAccepted, HasTypeFault}
+use Rattle.column_check.specs.GeometryNames.{may_be_taken}
 use Rattle.column_check.specs.Finding.{HasName, IsOfKind, IsTakenFor, IsInvalidFor}
 use Rattle.reading_laws.specs.Agrees.{values_in, is_odd_text, AgreesWithType, IsReadWhereWhole, HasNameUnlessOld, RefusesWithReading, PassesOverOldNames, AgreesWithInference, IsInferredWhereWhole}
 use Rattle.column_check.specs.declared.data_type.TypeFault.{TypeFault}
@@ -243,31 +245,31 @@ module _ (f : FieldTree) where
   infers_whole : (k : Kind) (v : Values) (m : Metadata) → IsTakenFor (column_of f) k v → some_has_float v.crs ≡ false → is_odd_text (extension_metadata f) ≡ false → values_in m ≡ v
       → InfersAs f k m
   unfolding InfersAs
-  infers_whole k v m (none, inferred, text) whole even same = (unnamed_refuted f none, stands (extension_metadata f) v m text whole even same, inferred)
+  infers_whole k v m (none, inferred, named, text) whole even same = (unnamed_refuted f none, stands (extension_metadata f) v m text whole even same, inferred)
 
   -- nothing is inferred for a field with an odd metadata text
   pub infers_no_odd_text : is_odd_text (extension_metadata f) ≡ true → InfersNone f
   unfolding InfersAs
   infers_no_odd_text odd k m (unnamed, text, inferred) = no_odd_metadata (extension_metadata f) m odd text
 
-  takes : (k : Kind) (m : Metadata) → extension_name f ≡ None → InfersAs f k m → IsTakenFor (column_of f) k (values_in m)
+  takes : (k : Kind) (m : Metadata) → extension_name f ≡ None → may_be_taken f.name k ≡ true → InfersAs f k m → IsTakenFor (column_of f) k (values_in m)
   unfolding InfersAs
-  takes k m none (unnamed, text, inferred) = (none, inferred, denotes (extension_metadata f) m text)
+  takes k m none allowed (unnamed, text, inferred) = (none, inferred, allowed, denotes (extension_metadata f) m text)
 
-  -- with inference, the finding of a field without an extension name is what is inferred for it
+  -- with inference, the finding of a field without an extension name is what is inferred for it, as its name allows
   pub agrees_with_inference : ((t : Option Text) (v w : Values) → TextDenotes t v → TextDenotes t w → v ≡ w)
       → ((j k : Kind) → InferredAs f.tree j → InferredAs f.tree k → j ≡ k) → (r : Finding) → AgreesWithInference r f
-  agrees_with_inference one_values one (Geometry g) is none t infers = absurd (unnamed_apart f is.0.0 is.0.1 none)
-  agrees_with_inference one_values one (Invalid UnknownExtension) is none t infers = absurd (cc (is.1.0, none))
-  agrees_with_inference one_values one (Invalid (DataType x)) is none t infers = absurd (unnamed_apart f is.0 is.1 none)
-  agrees_with_inference one_values one (Invalid (OfMetadata x)) is none t infers = absurd (unnamed_apart f is.0 is.1 none)
-  agrees_with_inference one_values one (Invalid (DataTypeAndMetadata x y)) is none t infers = absurd (unnamed_apart f is.0 is.1 none)
-  agrees_with_inference one_values one (Invalid Unread) is none t infers = absurd is
-  agrees_with_inference one_values one Extension is none t infers = absurd (cc (is.1.0, none))
-  agrees_with_inference one_values one (Inferred g) is none t infers =
-      let taken = takes (kind_of t) (meta_of t) none infers in
-      (one g.kind (kind_of t) is.1.1 taken.1, one_values (extension_metadata f) (values_of g.metadata) (values_in (meta_of t)) is.1.2 taken.2)
-  agrees_with_inference one_values one Plain is none t infers = absurd (is.1 refl (kind_of t) (values_in (meta_of t)) (takes (kind_of t) (meta_of t) none infers))
+  agrees_with_inference one_values one (Geometry g) is none t allowed infers = absurd (unnamed_apart f is.0.0 is.0.1 none)
+  agrees_with_inference one_values one (Invalid UnknownExtension) is none t allowed infers = absurd (cc (is.1.0, none))
+  agrees_with_inference one_values one (Invalid (DataType x)) is none t allowed infers = absurd (unnamed_apart f is.0 is.1 none)
+  agrees_with_inference one_values one (Invalid (OfMetadata x)) is none t allowed infers = absurd (unnamed_apart f is.0 is.1 none)
+  agrees_with_inference one_values one (Invalid (DataTypeAndMetadata x y)) is none t allowed infers = absurd (unnamed_apart f is.0 is.1 none)
+  agrees_with_inference one_values one (Invalid Unread) is none t allowed infers = absurd is
+  agrees_with_inference one_values one Extension is none t allowed infers = absurd (cc (is.1.0, none))
+  agrees_with_inference one_values one (Inferred g) is none t allowed infers =
+      let taken = takes (kind_of t) (meta_of t) none allowed infers in
+      (one g.kind (kind_of t) is.1.1 taken.1, one_values (extension_metadata f) (values_of g.metadata) (values_in (meta_of t)) is.1.3 taken.3)
+  agrees_with_inference one_values one Plain is none t allowed infers = absurd (is.1 refl (kind_of t) (values_in (meta_of t)) (takes (kind_of t) (meta_of t) none allowed infers))
 
   pub whole_inferred : (infer : Bool) (r : Finding) → IsInferredWhereWhole infer r f
   whole_inferred infer (Inferred g) = λ is whole even m same. infers_whole g.kind (values_of g.metadata) m is.1 whole even same

@@ -7,7 +7,7 @@ use Rattle.json.specs.Json.{Json, string}
 use Rattle.json.specs.Find.{get}
 use Rattle.value_tokens.specs.Values.{is_object}
 use Rattle.arrow_values.specs.Tree.{Text}
-use Rattle.arrow_columns.specs.Column.{ColumnTree}
+use Rattle.arrow_columns.specs.Types.{ColumnTree}
 use Rattle.arrow_columns.specs.Names.{first_of, is_one}
 use Rattle.column_check.specs.Severities.{is_error_of}
 use Rattle.crs_identity.specs.Verdicts.{Claimed, crs_verdict}
@@ -24,7 +24,8 @@ use Rattle.geoparquet.specs.GeoFindings.{columns_findings, primary_findings, has
 use Rattle.geoparquet.specs.Ordered.{are_some, columns_of, has_member}
 use Rattle.geoparquet.specs.RepeatedKeys.{repeated_findings}
 use Rattle.geoparquet.specs.Pairs.{first_pair, differ, of_element, of_field, pair_findings, text_findings}
-use Rattle.geoparquet.specs.Rules.{unless, found_at, part_place}
+use Rattle.geoparquet.specs.declared.fact_sources.FactSource.TheVariants.{Field}
+use Rattle.geoparquet.specs.Rules.{unless, found_at, found_in, part_place}
 use Rattle.geoparquet.specs.Sources.{Source, unasked, missing, value, Element, element_named, with_elements}
 use Rattle.geoparquet.specs.Undeclared.{no_metadata_findings}
 use Rattle.geoparquet.specs.Versions.{version_of, version_findings}
@@ -88,7 +89,7 @@ no_pair : (code : GeoCode) (key name : Text) (found : Option Json) (element : Op
 no_pair code key name found element field own false false false is h = (refl, refl, refl)
 no_pair code key name found element field own false false true is h =
     absurd (no_first (found_at code (Some key) (part_place key name) found (option_map of_field own)) [] is h)
-no_pair code key name found element field own false true c is h = absurd (no_first (found_at code (Some key) [] field (option_map of_element element)) [] is h)
+no_pair code key name found element field own false true c is h = absurd (no_first (found_in Field code key field (option_map of_element element)) [] is h)
 no_pair code key name found element field own true b c is h =
     absurd (no_first (found_at code (Some key) (part_place key name) found (option_map of_element element)) [] is h)
 

@@ -12,6 +12,7 @@ use Rattle.geoarrow_schema.specs.declared.types.GeoArrowType.{GeoArrowType}
 use Rattle.geoarrow_schema.specs.Types.{kind_of, meta_of}
 use Rattle.geoarrow_schema.specs.Reads.{HasGeoArrowName, Reads, ReadsAsNone}
 use Rattle.geoarrow_schema.specs.Infers.{InfersAs, Infers, InfersNone}
+use Rattle.column_check.specs.GeometryNames.{may_be_taken}
 use Rattle.column_check.specs.OldNames.{has_old_name}
 use Rattle.column_check.specs.Metadata.{Values, values_of, are_planar}
 use Rattle.column_check.specs.Warnings.{is_empty_text}
@@ -68,9 +69,10 @@ abbrev pub SaysInferred : ColumnFinding → Kind → Values → Type 0
 SaysInferred (Inferred g) k v = (g.kind ≡ k) × (values_of g.metadata ≡ v)
 SaysInferred r k v = ⊥
 
--- where a type is inferred for a field without an extension name, the finding, with inference, is that type
+-- where a type is inferred for a field without an extension name whose name allows its kind, the finding, with inference, is that type
 abbrev pub AgreesWithInference : ColumnFinding → FieldTree → Type 0
-AgreesWithInference r f = IsFinding true (column_of f) r → extension_name f ≡ None → (g : GeoArrowType) → Infers f g → SaysInferred r (kind_of g) (values_in (meta_of g))
+AgreesWithInference r f = IsFinding true (column_of f) r → extension_name f ≡ None
+    → (g : GeoArrowType) → may_be_taken f.name (kind_of g) ≡ true → Infers f g → SaysInferred r (kind_of g) (values_in (meta_of g))
 
 -- where the finding is inferred with whole numbers in the CRS, and the field has no such metadata text, that kind and each metadata of these
 -- values are inferred for the field

@@ -5,7 +5,7 @@ use Rattle.json.specs.Json.{Json}
 use Rattle.json.specs.Find.{get}
 use Rattle.value_tokens.specs.Values.{is_object}
 use Rattle.arrow_values.specs.Tree.{Text}
-use Rattle.arrow_columns.specs.Column.{ColumnTree}
+use Rattle.arrow_columns.specs.Types.{ColumnTree}
 use Rattle.arrow_columns.specs.Names.{first_of, is_one}
 use Rattle.column_check.specs.Severities.{is_error_of}
 use Rattle.crs_identity.specs.Verdicts.{Claimed, crs_verdict}

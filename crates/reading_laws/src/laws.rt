@@ -28,9 +28,10 @@ pub fn agrees_with_reading(field: &Field, _finding: &Finding)
     metadata_is_unique();
 }
 
-/// A law: what is said of a column goes together with what `from_arrow_field` of `geoarrow_schema` infers for its field. Where that
-/// infers a type for a field without an extension name, the finding, with inference, is its kind and the values of its metadata. Where
-/// the finding is inferred, each number in the CRS is whole, and the metadata text is neither the
+/// A law: what is said of a column goes together with what `from_arrow_field` of `geoarrow_schema`
+/// infers for its field. Where that infers a type for a field without an extension name, and the
+/// field's own name allows its kind (docs/FORMAT.md, 2.6), the finding, with inference, is its kind
+/// and the values of its metadata. Where the finding is inferred, each number in the CRS is whole, and the metadata text is neither the
 /// empty one nor one whose edges are planar by name, that kind is inferred for the field. With such a
 /// metadata text nothing is inferred. There is no need to run this.
 pub fn agrees_with_inference(field: &Field, _finding: &Finding)

@@ -3,7 +3,7 @@ use Rattle.std.proofs.Common.{◌≡◌, ◌⊎◌, ◌&&◌, ℕ, Bool, true, f
 use Rattle.std.specs.List.{filter, slice_get}
 use Rattle.std.proofs.lemmas.Slice.Eq.{bytes_eq-Decides}
 use Rattle.arrow_values.specs.Tree.{Text, Tree}
-use Rattle.arrow_columns.specs.Column.{TypeTree, known, other}
+use Rattle.arrow_columns.specs.Types.{TypeTree, known, other}
 use Rattle.arrow_columns.specs.Notation.{type_text}
 use Rattle.crs_identity.specs.Verdicts.{Claimed, crs_verdict}
 use Rattle.geoarrow_layout.specs.Alike.{Alike}
@@ -125,9 +125,9 @@ module _ (alike : (t u : Tree) → Alike t u → Alike u t) (verdicts : (a b : C
 
   type_back : (both : Bool) (t u : TypeTree) → AreOneType both t u → AreOneType both u t
   type_back true (known t) (known u) h = alike t u h
-  type_back true (known t) (other u) h = equal_back (type_text (known t)) (type_text (other u)) h
-  type_back true (other t) (known u) h = equal_back (type_text (other t)) (type_text (known u)) h
-  type_back true (other t) (other u) h = equal_back (type_text (other t)) (type_text (other u)) h
+  type_back true (known t) (other u f ids ps) h = equal_back (type_text (known t)) u h
+  type_back true (other t f ids ps) (known u) h = equal_back t (type_text (known u)) h
+  type_back true (other t f ids ps) (other u g ns qs) h = equal_back t u h
   type_back false t u h = equal_back (type_text t) (type_text u) h
 
   column_back : (a b : Compared) → HaveOneType a b → HaveOneType b a

@@ -2,7 +2,7 @@
 use Rattle.std.proofs.Common.{◌≡◌, Bool, true, false, List, [], ◌∷◌, ◌++◌, Option, None, Some, flat_map, if◌then◌else◌, map, refl, ap, subst, ◌∙◌}
 use Rattle.json.specs.Json.{Json}
 use Rattle.arrow_values.specs.Tree.{Text, Tree}
-use Rattle.arrow_columns.specs.Column.{TypeTree, known, other}
+use Rattle.arrow_columns.specs.Types.{TypeTree, known, other}
 use Rattle.arrow_columns.specs.Notation.{type_text}
 use Rattle.crs_identity.specs.Equality.{json_equal}
 use Rattle.crs_identity.specs.Forms.{form_of_value, srid, value}
@@ -44,7 +44,7 @@ module _ (alike : (t : Tree) → Alike t t) (agree : (i j : Json) → json_equal
 
   one_type : (both : Bool) (t : TypeTree) → AreOneType both t t
   one_type true (known t) = alike t
-  one_type true (other s) = bytes_same s
+  one_type true (other s f ids ps) = bytes_same s
   one_type false t = bytes_same (type_text t)
 
   one_fact : (o : Option FactsOf) → fact_aspects o o ≡ []

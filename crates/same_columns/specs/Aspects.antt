@@ -2,7 +2,7 @@
 use Rattle.std.specs.Prelude.{◌≡◌, ◌↔◌, ◌&&◌, Bool, true, false, IsTrue, bytes_eq, codes, List, [], ◌∷◌, ◌++◌, Option, None, Some, if◌then◌else◌}
 use Rattle.json.specs.Json.{Json, string}
 use Rattle.arrow_values.specs.Tree.{Text}
-use Rattle.arrow_columns.specs.Column.{TypeTree, known}
+use Rattle.arrow_columns.specs.Types.{TypeTree, known}
 use Rattle.arrow_columns.specs.Notation.{type_text}
 use Rattle.crs_identity.specs.Forms.{Said, unknown, value, srid}
 use Rattle.crs_identity.specs.Verdicts.{Claimed, crs_verdict}
@@ -56,6 +56,17 @@ is_default f = has_default f.from && (is_code f.crs_type && is_default_value f.c
 
 abbrev pub claimed : CrsOf → Claimed
 claimed f = record { crs = said_by f.crs_type f.crs; is_default = is_default f }
+
+-- the column has the CRS that a text says: both agree
+abbrev pub is_agreed : Verdict → Bool
+is_agreed Agree = true
+is_agreed verdict = false
+
+abbrev pub said_in : Text → Claimed
+said_in text = record { crs = value (string text); is_default = false }
+
+abbrev pub is_of_crs : CrsOf → Text → Bool
+is_of_crs f text = is_agreed (crs_verdict (claimed f) (said_in text))
 
 -- the verdict on both: where one says a CRS, and the other none, nothing decides
 abbrev pub crs_between : Option CrsOf → Option CrsOf → Verdict

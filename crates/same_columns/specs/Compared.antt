@@ -1,7 +1,8 @@
 -- A column as it is compared: the column itself, and, of geometries, what counts of their CRS and their edges.
 use Rattle.std.specs.Prelude.{◌&&◌, Bool, codes, [], Option, Some, is_some, option_map, unwrap_or}
 use Rattle.arrow_values.specs.Tree.{Text}
-use Rattle.arrow_columns.specs.Column.{ColumnTree, column_tree}
+use Rattle.arrow_columns.specs.Column.{column_tree}
+use Rattle.arrow_columns.specs.Types.{ColumnTree}
 use Rattle.column_check.specs.States.{geometry_in}
 use Rattle.geoparquet.specs.Contradictions.{named_encoding}
 use Rattle.geoparquet.specs.Facts.{FactsOf, facts_view}

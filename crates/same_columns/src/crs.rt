@@ -5,7 +5,7 @@ ghost use Rattle.arrow_values.specs.Texts.{text_of};
 ghost use Rattle.crs_identity.specs.Forms.{said};
 ghost use Rattle.crs_identity.specs.Verdicts.{claim, crs_verdict};
 ghost use Rattle.geoparquet.specs.Facts.{crs_view};
-ghost use Rattle.same_columns.specs.Aspects.{claimed, crs_between, has_default, is_code, is_default, is_default_value, is_srid, said_by};
+ghost use Rattle.same_columns.specs.Aspects.{claimed, crs_between, has_default, is_agreed, is_code, is_default, is_default_value, is_of_crs, is_srid, said_by};
 
 use crs_identity::{Claim, Crs, Verdict, crs_verdict};
 use geoparquet::{CrsFact, FactSource};
@@ -26,6 +26,31 @@ pub(crate) fn crs_between(
         (None, None) => Ok(Verdict::Agree),
         (Some(a), Some(b)) => verdict_on(alloc, a, b),
         _ => Ok(Verdict::NotCompared),
+    }
+}
+
+/// Returns whether the CRS of a column that counts is the one that a text says, as `EPSG:4326`: whether
+/// both agree (docs/FORMAT.md, 5.3). Errs only when out of memory.
+pub fn is_of_crs(alloc: Global, fact: &CrsFact, text: &str) -> Result<bool, AllocError>
+    ensures { IfOk result (λ is. is ≡ is_of_crs (crs_view fact.now) text.now) }
+{
+    let mut scratch = Scratch::new(alloc);
+    let value = value_in(alloc, fact.crs.as_ref(), &mut scratch)?;
+    let text = Value::String(text);
+    let said = Claim {
+        crs: Crs::Value(&text),
+        is_default: false,
+    };
+    Ok(is_agreed(crs_verdict(alloc, &claimed(fact, value.as_ref()), &said)?))
+}
+
+/// Whether a verdict is that both are one.
+fn is_agreed(verdict: Verdict) -> bool
+    ensures { result ≡ is_agreed verdict }
+{
+    match verdict {
+        Verdict::Agree => true,
+        Verdict::Contradict | Verdict::NotCompared => false,
     }
 }
 

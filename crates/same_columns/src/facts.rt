@@ -1,14 +1,12 @@
 //! What of a column is compared.
-ghost use Rattle.std.specs.Prelude.{◌≡◌, Some, option_map};
-ghost use Rattle.arrow_values.specs.Texts.{text_of};
+ghost use Rattle.std.specs.Prelude.{◌≡◌, option_map};
 ghost use Rattle.arrow_columns.specs.Column.{column_tree};
-ghost use Rattle.geoparquet.specs.Contradictions.{own_encoding};
 ghost use Rattle.geoparquet.specs.Facts.{facts_view};
 ghost use Rattle.same_columns.specs.Compared.{are_geometries, compared, edges_word, encoding_word};
 
 use arrow_columns::SchemaColumn;
 use column_reports::ColumnReport;
-use geoparquet::ColumnFacts;
+use geoparquet::{ColumnFacts, own_encoding};
 
 /// Returns the facts of geometries; none of another column.
 pub(crate) fn facts_of(report: &ColumnReport) -> Option<&ColumnFacts>
@@ -45,26 +43,6 @@ pub fn encoding_word(column: &SchemaColumn) -> &'static str
     match column.extension_type_name() {
         Some(name) => own_encoding(name).unwrap_or(""),
         None => "",
-    }
-}
-
-/// The encoding that an extension name says.
-fn own_encoding(name: &str) -> Option<&'static str>
-    ensures { text_of result ≡ own_encoding name.now }
-{
-    match name {
-        "geoarrow.wkb" | "ogc.wkb" => Some("WKB"),
-        "geoarrow.wkt" | "ogc.wkt" => Some("WKT"),
-        "geoarrow.point" => Some("point"),
-        "geoarrow.linestring" => Some("linestring"),
-        "geoarrow.polygon" => Some("polygon"),
-        "geoarrow.multipoint" => Some("multipoint"),
-        "geoarrow.multilinestring" => Some("multilinestring"),
-        "geoarrow.multipolygon" => Some("multipolygon"),
-        "geoarrow.geometrycollection" => Some("geometrycollection"),
-        "geoarrow.geometry" => Some("geometry"),
-        "geoarrow.box" => Some("box"),
-        _ => None,
     }
 }
 

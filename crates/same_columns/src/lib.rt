@@ -12,6 +12,7 @@ mod laws;
 mod ranks;
 
 pub use compare::differences;
+pub use crs::is_of_crs;
 pub use difference::{Aspect, Difference};
 pub use facts::{edges_word, encoding_word};
 pub use laws::{differences_are_exchanged, nothing_differs_from_itself};

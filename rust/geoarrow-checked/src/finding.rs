@@ -61,16 +61,15 @@ struct Others {
     pointer: Option<String>,
     byte: Option<u64>,
     line: Option<u64>,
-    element: Option<u64>,
     found: Option<String>,
     help: Option<String>,
     more: u64,
 }
 
 /// The keys of an object.
-const KEYS: [&str; 16] = [
+const KEYS: [&str; 15] = [
     "kind", "severity", "code", "file", "index", "column", "path", "in", "pointer", "byte", "line",
-    "element", "found", "expected", "help", "more",
+    "found", "expected", "help", "more",
 ];
 
 /// How the line of a column begins, and that of a finding.
@@ -95,7 +94,6 @@ impl Finding {
                 ("pointer", Value::Text(text)) => others.pointer = Some(text),
                 ("byte", Value::Number(number)) => others.byte = Some(number),
                 ("line", Value::Number(number)) => others.line = Some(number),
-                ("element", Value::Number(number)) => others.element = Some(number),
                 ("found", Value::Text(text)) => others.found = Some(text),
                 ("expected", Value::Text(text)) => expected = Some(text),
                 ("help", Value::Text(text)) => others.help = Some(text),
@@ -178,12 +176,6 @@ impl Finding {
         self.0.others.line
     }
 
-    /// The element of the schema of a Parquet file, from 0, where one tells the place.
-    #[must_use]
-    pub fn element(&self) -> Option<u64> {
-        self.0.others.element
-    }
-
     /// What stands there, where something does, as a value in JSON; cut behind 120 characters.
     #[must_use]
     pub fn found(&self) -> Option<&str> {
@@ -238,11 +230,7 @@ impl Display for Finding {
                 write!(f, " {pointer}")?;
             }
         }
-        for (word, number) in [
-            ("byte", self.byte()),
-            ("line", self.line()),
-            ("element", self.element()),
-        ] {
+        for (word, number) in [("byte", self.byte()), ("line", self.line())] {
             if let Some(number) = number {
                 write!(f, "{between}{word} {number}")?;
                 between = ", ";
@@ -328,7 +316,7 @@ fn behind(report: &str) -> Result<Vec<Finding>, Error> {
         .collect()
 }
 
-/// What is found in a column, of which this is the line of a report: its `findings`, in their order: why the column is invalid first, where it is. They do not name the column.
+/// What is found in a column, of which this is the line of a report: its `findings`, in the order of their codes, why the column is invalid among them. They do not name the column.
 ///
 /// ```
 /// use geoarrow_checked::{check, column_findings, Options};

@@ -38,7 +38,6 @@ fn words_of(why: &Finding) -> String {
         why.source().map(str::to_owned),
         number("byte", why.byte()),
         number("line", why.line()),
-        number("element", why.element()),
     ];
     let parts: Vec<_> = parts.into_iter().flatten().collect();
     let blank = if parts.is_empty() { "" } else { " " };
@@ -171,11 +170,11 @@ fn findings_as_they_are_shown() {
     for (bytes, words) in [
         (
             &b" \n"[..],
-            format!("error[EmptyFile]: found no bytes, or blanks alone; expected {formats}. The writing or the copy broke off before its first byte"),
+            format!("error[EmptyFile] byte 0: found 0 bytes, or blanks alone; expected {formats}. The writing or the copy broke off before its first byte"),
         ),
         (
             b"PK\x03\x04",
-            format!("error[ForeignFormat]: found a zip archive; expected {formats}. Unzip it, and check what is in it"),
+            format!("error[ForeignFormat] byte 0: found a zip archive; expected {formats}. Unzip it, and check what is in it"),
         ),
         (
             b"{\n",
@@ -183,31 +182,31 @@ fn findings_as_they_are_shown() {
         ),
         (
             b"%PDF",
-            format!("error[ForeignFormat]: found a PDF document; expected {formats}"),
+            format!("error[ForeignFormat] byte 0: found a PDF document; expected {formats}"),
         ),
         (
             &stream,
-            "error[BadMessage] message, byte 0: found an offset that leads nowhere; expected an offset that is not 0 and leads no further than the end".into(),
+            "error[BadMessage] byte 8: found an offset that leads nowhere; expected an offset that is not 0 and leads no further than the end".into(),
         ),
         (
             b"ARROW1",
-            format!("error[Truncated] byte 0: found another end; expected ARROW1 at the end. {cut}"),
+            format!("error[Truncated] byte 6: found 4152524f5731; expected ARROW1 at the end. {cut}"),
         ),
         (
             b"PAR1",
-            format!("error[Truncated]: found another end; expected PAR1 at the end. {cut}"),
+            format!("error[Truncated] byte 4: found 50415231; expected PAR1 at the end. {cut}"),
         ),
         (
             b"\xff\xff\xff\xff\x08\0\0\0",
-            format!("error[Truncated] message, byte 8: found a message that is cut off; expected as many bytes as its size says. {cut}"),
+            format!("error[Truncated] byte 8: found 0 bytes; expected 8 bytes. {cut}"),
         ),
         (
             b"\xff\xff\xff\xff\0\0\0\0",
-            "error[NoSchema] message, byte 8: found the end of the stream; expected a schema".into(),
+            "error[NoSchema] byte 8: found the end of the stream; expected a schema".into(),
         ),
         (
             &encrypted,
-            "error[Encrypted]: found PARE; expected PAR1. A copy with a plain footer is needed".into(),
+            "error[Encrypted] byte 28: found PARE; expected PAR1. A copy with a plain footer is needed".into(),
         ),
     ] {
         let why = refused(check(bytes, Options::default()));

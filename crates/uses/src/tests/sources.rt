@@ -484,27 +484,42 @@ fn of_schemas_fail_at_each_call(rt: HostRuntime) -> Result<(), Fail> {
 const ARROW_FILES: &[(&[u8], usize)] = &[
     (b"ARROW1\0\0blocks..\xff\0\0\0rest\x08\0\0\0ARROW1", 16),
     (b"ARROW1\0\0blocks..\x08\0\0\0rest\x08\0\0\0ARROW1", 24),
-    (b"ARROW1\0\0blocks..rest\x04\0\0\0ARROW2", 20),
+    (b"ARROW1\0\0blocks..rest\x04\0\0\0ARROW2", 30),
     (b"ARROW1\0\0blocks..rest\0\0\0\0ARROW1", 20),
     (b"ARROW1\0\0blocks..rest\x15\0\0\0ARROW1", 20),
-    (b"ARROW1\0\0", 0),
+    (b"ARROW1\0\0blocks..rest\x0d\0\0\0ARROW1", 20),
+    (b"ARROW1\0\0", 8),
+];
+
+/// Parquet files with a fault, and the byte at which it is: a number that is negative, no magic, sizes of 0, of more than there is and of the file's head, and an
+/// encrypted footer.
+const PARQUET_FILES: &[(&[u8], usize)] = &[
+    (b"PAR1blocks..\x05\x01\x02\0\x04\0\0\0PAR1", 13),
+    (b"PAR1blocks..rest\x04\0\0\0PAR2", 24),
+    (b"PAR1blocks..rest\0\0\0\0PAR1", 16),
+    (b"PAR1blocks..rest\xff\0\0\0PAR1", 16),
+    (b"PAR1blocks..rest\x0d\0\0\0PAR1", 16),
+    (b"PAR1blocks..rest\x04\0\0\0PARE", 20),
+    (b"PAR1", 4),
 ];
 
 /// Whether a file is refused at a byte.
 fn is_refused_at(opened: Result<File<'_>, FileFault>, at: usize) -> bool {
     match &*ManuallyDrop::new(opened) {
         Err(FileFault::Ipc(IpcError::Broken(fault))) => fault.at == at,
+        Err(FileFault::End(fault)) => fault.byte == at as u64,
+        Err(FileFault::Footer(_, byte)) => *byte == at,
         _ => false,
     }
 }
 
-/// Whether the end of an Arrow file is refused at that byte of the file.
-fn is_end_refused_at(alloc: Global, bytes: &[u8], at: usize) -> bool {
+/// Whether the end of a file in that format is refused at that byte of the file.
+fn is_end_refused_at(alloc: Global, form: Form, bytes: &[u8], at: usize) -> bool {
     let mut source = Cursor::new(bytes);
-    match &*ManuallyDrop::new(read_end(alloc, Form::ArrowFile, &mut source)) {
+    match &*ManuallyDrop::new(read_end(alloc, form, &mut source)) {
         Ok(end) => {
             let end_bytes = end.bytes.as_slice();
-            let opened = open_end(alloc, Form::ArrowFile, end.start, end_bytes);
+            let opened = open_end(alloc, form, end.start, end_bytes);
             is_refused_at(opened, at)
         }
         Err(_) => false,
@@ -512,11 +527,22 @@ fn is_end_refused_at(alloc: Global, bytes: &[u8], at: usize) -> bool {
 }
 
 #[test]
-fn of_arrow_files_name_the_byte_of_the_file(rt: HostRuntime) -> Result<(), Fail> {
+fn of_files_name_the_byte_of_the_file(rt: HostRuntime) -> Result<(), Fail> {
     let alloc = rt.alloc();
-    for &(bytes, at) in ARROW_FILES.iter() {
-        assert!(rt; is_refused_at(open(alloc, bytes), at), "whole, at {at}");
-        assert!(rt; is_end_refused_at(alloc, bytes, at), "by the end, at {at}");
+    for (form, files) in [
+        (Form::ArrowFile, ARROW_FILES),
+        (Form::Parquet, PARQUET_FILES),
+    ] {
+        for &(bytes, at) in files.iter() {
+            assert!(rt;
+                is_refused_at(open(alloc, bytes), at),
+                "{form:?} whole, at {at}"
+            );
+            assert!(rt;
+                is_end_refused_at(alloc, form, bytes, at),
+                "{form:?} by the end, at {at}"
+            );
+        }
     }
     Ok(())
 }

@@ -6,7 +6,7 @@ const WHOLE: &str = r#"{"severity":"warning","code":"One","file":"two","column":
 const LEAST: &str = r#"{"severity":"note","code":"One","expected":"two"}"#;
 const COLUMN: &str = r#"{"kind":"column","index":0,"column":"{\"kind\":\"finding\",","state":"plain","type":"int64"}"#;
 /// With a value of its own at each key of what is refused.
-const REFUSED: &str = r#"{"kind":"finding","severity":"error","code":"One","file":"two","index":3,"in":"four","byte":5,"line":6,"element":7,"found":"eight","expected":"nine","help":"ten","more":11}"#;
+const REFUSED: &str = r#"{"kind":"finding","severity":"error","code":"One","file":"two","index":3,"in":"four","byte":5,"line":6,"found":"eight","expected":"nine","help":"ten","more":11}"#;
 
 /// The line of a finding of a file, whose object this is: it begins with its kind.
 fn line_of(object: &str) -> String {
@@ -44,17 +44,17 @@ fn the_keys_of_what_is_refused() {
     let finding = Finding::of_line(REFUSED).unwrap();
     let numbers = [finding.index(), finding.byte(), finding.line()];
     assert_eq!(numbers, [3, 5, 6].map(Some));
-    assert_eq!((finding.element(), finding.more()), (Some(7), 11));
+    assert_eq!(finding.more(), 11);
     assert_eq!(finding.file(), Some("two"));
     assert_eq!(finding.source(), Some("four"));
     assert_eq!(finding.found(), Some("eight"));
     assert_eq!((finding.expected(), finding.help()), ("nine", Some("ten")));
     assert_eq!(finding.as_json(), REFUSED);
     let words =
-        "error[One] column 3, four, byte 5, line 6, element 7: found eight; expected nine. ten";
+        "error[One] column 3, four, byte 5, line 6: found eight; expected nine. ten";
     assert_eq!(finding.to_string(), words); // (how many more there are is said behind all of these)
     let no_line = Finding::of_line(&REFUSED.replacen(r#""line":6,"#, "", 1)).unwrap();
-    let words = words.replacen("line 6, element 7", "element 7, and 11 more", 1);
+    let words = words.replacen("line 6", "and 11 more", 1);
     assert_eq!(no_line.to_string(), words);
 }
 
@@ -89,7 +89,7 @@ fn what_is_absent_is_none() {
     assert_eq!((finding.source(), finding.pointer()), (None, None));
     assert_eq!((finding.found(), finding.help()), (None, None));
     assert_eq!((finding.byte(), finding.more()), (None, 0));
-    let numbers = [finding.index(), finding.line(), finding.element()];
+    let numbers = [finding.index(), finding.line()];
     assert_eq!(numbers, [None; 3]);
     assert!(finding.path().is_empty());
     assert_eq!(finding.to_string(), "note[One]: expected two");
@@ -200,7 +200,7 @@ fn lines_that_are_none() {
         r#"{"kind":1,"severity":"error","code":"A","expected":"b"}"#,
         r#"{"severity":"error","code":"A","index":"1","expected":"b"}"#,
         r#"{"severity":"error","code":"A","line":"1","expected":"b"}"#,
-        r#"{"severity":"error","code":"A","element":null,"expected":"b"}"#,
+        r#"{"severity":"error","code":"A","line":null,"expected":"b"}"#,
     ] {
         assert_eq!(Finding::read(line), None, "{line}");
         let (least, whole) = (line_of(LEAST), line_of(WHOLE));

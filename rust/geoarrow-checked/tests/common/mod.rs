@@ -47,7 +47,6 @@ pub fn object_of(finding: &Finding, is_line: bool) -> String {
         text("pointer", finding.pointer()),
         number("byte", finding.byte()),
         number("line", finding.line()),
-        number("element", finding.element()),
         text("found", finding.found()),
         text("expected", Some(finding.expected())),
         text("help", finding.help()),

@@ -2,4 +2,4 @@ use Rattle.std.proofs.Common.{length}
 use Rattle.column_check.proofs.coordinates.+are_named.Given as goal
 
 abbrev pub decreases-are_named : goal.decreases-are_named
-decreases-are_named l = length l.names.now
+decreases-are_named l = length l.others.now

@@ -2,4 +2,4 @@ use Rattle.std.proofs.Common.{length}
 use Rattle.column_check.proofs.coordinates.+has_name.Given as goal
 
 abbrev pub decreases-has_name : goal.decreases-has_name
-decreases-has_name l = length l.fields.now
+decreases-has_name l = length l.names.now

@@ -1,16 +1,14 @@
 use Rattle.std.proofs.Common.{◌≡◌, ◌++◌, cond, [], ◌∷◌, true, false, refl, sym, ap, ap₂, ◌∙◌, arith, rules}
 use Rattle.arrow_values.specs.Tree.{depth, fields_depth, members_depth}
-use Rattle.arrow_values.specs.View.{tree, field_trees, member_trees}
-use Rattle.arrow_values.specs.declared.tree.DataType.{DataType}
+use Rattle.arrow_values.specs.View.{field_trees, member_trees}
 use Rattle.column_check.specs.Walk.{names_on, own_spots, goes_below, found, found_of, found_among, found_at, code_of, telling, tell_all}
 use Rattle.column_check.proofs.Ways.{falls}
 use Rattle.column_check.proofs.Telling.{tell_item, tell_more}
 use Rattle.column_check.proofs.walk.+walk.Goals as goal
 
-pub push_found-push_at-requires-in-loop-field : goal.push_found-push_at-requires-in-loop-field
-push_found-push_at-requires-in-loop-field t c =
-    let low = falls (λ f. depth f.tree) (λ fs. fields_depth (field_trees fs)) (λ x xs. refl) _ _ _ c.as_slice-field-items.ensures c.loop-field-test.true c.field-item.is in
-    let whole = ap (λ (d : DataType). depth (tree d)) c.in-Struct.is in
+pub push_fields-push_at-requires : goal.push_fields-push_at-requires
+push_fields-push_at-requires t c =
+    let low = falls (λ f. depth f.tree) (λ fs. fields_depth (field_trees fs)) (λ x xs. refl) _ _ _ refl c.loop-field-test.true c.field-item.is in
     (omega arith, tt)
 
 pub push_members-push_at-requires : goal.push_members-push_at-requires
@@ -18,13 +16,13 @@ push_members-push_at-requires t c =
     let low = falls (λ m. depth m.1.tree) (λ ms. members_depth (member_trees ms)) (λ x xs. refl) _ _ _ refl c.loop-member-test.true c.member-item.is in
     (omega arith, tt)
 
-pub push_found-loop-field-preserved : goal.push_found-loop-field-preserved
-push_found-loop-field-preserved t c =
+pub push_fields-loop-field-preserved : goal.push_fields-loop-field-preserved
+push_fields-loop-field-preserved t c =
     let sought = c.args.sought in
     let way = names_on c.args.way.now in
     let now = telling c.loop-field.warnings.items c.loop-field.rest in
     tell_item (code_of sought) (λ fs. found_of sought way (field_trees fs)) (λ f. found_at sought way f.nullable f) (λ x xs. refl) now _ _ _ _
-    c.field-item.is c.loop-field-test.true (c.in_ok-push_at-in-Struct.ensures ∙ ap (λ b. tell_all (code_of sought) now (found_at sought way b c.field-item.result)) c.is_nullable-in-loop-field.ensures) ∙ c.loop-field.invariant
+    c.field-item.is c.loop-field-test.true (c.in_ok-push_at.ensures ∙ ap (λ b. tell_all (code_of sought) now (found_at sought way b c.field-item.result)) c.is_nullable.ensures) ∙ c.loop-field.invariant
 
 pub push_members-loop-member-preserved : goal.push_members-loop-member-preserved
 push_members-loop-member-preserved t c =

@@ -5,7 +5,7 @@ use Rattle.column_files.specs.Forms.{unmarked}
 use Rattle.column_files.specs.LineFaults.{later_fault}
 use Rattle.column_files.specs.LineItems.{bad_in, LinesGive}
 use Rattle.column_files.specs.declared.columns.FileFault.{FileFault}
-use Rattle.column_files.specs.declared.columns.FileFault.TheVariants.{NoField, Empty, Foreign, ReportTooLarge, Ipc, Parquet, OutOfMemory}
+use Rattle.column_files.specs.declared.columns.FileFault.TheVariants.{NoField, Empty, Foreign, ReportTooLarge, End, Ipc, Footer, Tree, OutOfMemory}
 use Rattle.column_files.specs.declared.line.LineFault.TheVariants.{NotUtf8}
 use Rattle.column_files.proofs.Items.{columns_alone, first_bad}
 use Rattle.column_files.proofs.lines.columns_of_lines.Goals as goal
@@ -26,7 +26,9 @@ refused text Empty read = absurd read
 refused text (Foreign foreign found) read = absurd read
 refused text ReportTooLarge read = absurd read
 refused text (Ipc error) read = absurd read
-refused text (Parquet error) read = absurd read
+refused text (End end) read = absurd read
+refused text (Footer rule at) read = absurd read
+refused text (Tree rule byte) read = absurd read
 
 pub returns-in-Err : goal.returns-in-Err
 returns-in-Err c = refused c.args.text.now c.in-Err.fault c.in-Err.ensures

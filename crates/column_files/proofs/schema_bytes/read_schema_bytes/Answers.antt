@@ -1,6 +1,6 @@
 use Rattle.std.proofs.Common.{◌≡◌, ◌-◌, ◌<◌, length, ap, ◌∙◌, arith}
 use Rattle.column_files.specs.ForeignFound.{looked_at}
-use Rattle.column_files.specs.Reading.{message_end}
+use Rattle.column_files.specs.Endings.{message_end}
 use Rattle.column_files.proofs.FirstMessage.{Given, enough, by_size, by_first, by_rest}
 use Rattle.column_files.proofs.schema_bytes.read_schema_bytes.Goals.{in-ArrowStream, in-Foreign, in-ArrowFile}
 use Rattle.column_files.proofs.schema_bytes.read_schema_bytes.Goals as goal

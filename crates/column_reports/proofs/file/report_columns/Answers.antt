@@ -10,7 +10,7 @@ use Rattle.column_reports.proofs.file.report_columns.Goals as goal
 pub loop-column-preserved : goal.loop-column-preserved
 loop-column-preserved c =
     let l = c.loop-column in
-    reported_next c.args.infer (weighing c.args.weights.now) l.yielded l.reported.items c.push.new.self.items (c.in-Some.column, (c.in-Some.facts, c.in-Some.named)) c.in_ok-said.said l.invariant c.in_ok-said.ensures (search rules)
+    reported_next c.args.infer (weighing c.args.weights.now) c.args.alone l.yielded l.reported.items c.push.new.self.items (c.in-Some.column, (c.in-Some.facts, c.in-Some.named)) c.in_ok-said.said l.invariant c.in_ok-said.ensures (search rules)
 
 pub returns : goal.returns
 returns c =
@@ -22,5 +22,5 @@ returns c =
     let both = YieldsList-from_zip (YieldsList-at c.zip-column-items.ensures.first columns) (YieldsList-at c.zip-column-items.ensures.second known) in
     let road = YieldsList-at c.into_iter-column-iterator.ensures.into_iter_gives both in
     let end = YieldsList-end road l.yielded l.column-iterator l.yielded_by c.next.result c.next.new.self c.in-None.is c.next.ensures.steps in
-    subst (λ xs. AreReported c.args.infer (weighing c.args.weights.now) xs l.reported.items)
+    subst (λ xs. AreReported c.args.infer (weighing c.args.weights.now) c.args.alone xs l.reported.items)
     (ap (map viewed) (sym (map-id l.yielded) ∙ end.0) ∙ zip_viewed c.args.columns.items c.args.facts.items c.args.named.items) l.invariant

@@ -7,7 +7,8 @@ use Rattle.geoparquet.specs.Findings.{finding}
 use Rattle.geoparquet.specs.GeoColumns.{AreColumnsBy}
 use Rattle.geoparquet.specs.GeoFindings.{AreGeoFindings}
 use Rattle.geoparquet.specs.Sources.{source}
-use Rattle.column_reports.specs.FileReport.{AreReported, source_in}
+use Rattle.column_reports.specs.Capped.{kept_of_file}
+use Rattle.column_reports.specs.FileReport.{AreReported, is_lines, source_in}
 use Rattle.column_reports.specs.Named.{all_known, all_named, named_view, nobody_where}
 use Rattle.column_reports.specs.Weighed.{weighed}
 use Rattle.column_reports.specs.Weights.{weighing}
@@ -22,7 +23,9 @@ returns c =
     record {
       form = refl;
       by = made;
-      are_by = subst (λ s. AreColumnsBy s given made) c.source_of-source.ensures said.columns;
+      are_by =
+          subst (λ s. AreColumnsBy s given (map root_element c.args.opened.elements.items) made) c.source_of-source.ensures
+          (subst (λ es. AreColumnsBy (source c.source_of-source.result) given (map root_element es) made) c.as_slice-3.ensures.value said.columns);
       columns =
           let facts = said.facts ∙ ap (λ s. facts_of s given (map root_element c.as_slice-3.result.now)) c.source_of-source.ensures
           ∙ ap (λ es. facts_of (source_in c.args.opened.form c.args.opened.geo) given (map root_element es)) c.as_slice-3.ensures.value in
@@ -31,14 +34,14 @@ returns c =
           ∙ ap (λ es. nobody_where c.args.opened.refuted.items (all_named given (map root_element es))) c.as_slice-2.ensures.value in
           let known = ap (λ fs. all_known fs (map named_view c.in_ok-named.named.items)) facts
           ∙ ap (all_known (facts_of (source_in c.args.opened.form c.args.opened.geo) given (map root_element c.args.opened.elements.items))) named in
-          subst (λ ks. AreReported c.args.infer (weighing c.args.weights.now) (zip made ks) c.in_ok-columns.columns.items) known c.in_ok-columns.ensures;
+          subst (λ ks. AreReported c.args.infer (weighing c.args.weights.now) (is_lines c.args.opened.form) (zip made ks) c.in_ok-columns.columns.items) known (rw c.is_lines-alone.ensures at c.in_ok-columns.ensures);
       geo = answer.report;
       is_geo =
           let v = answer.report.version in
           let fs = map finding answer.report.findings.items in
           subst (λ s. AreGeoFindings s given (map root_element c.args.opened.elements.items) v fs) c.source_of-source.ensures
           (subst (λ es. AreGeoFindings (source c.source_of-source.result) given (map root_element es) v fs) c.as_slice-3.ensures.value said.findings);
-      findings = c.in_ok-findings.ensures ∙ ap (weighed (weighing c.args.weights.now)) c.in_ok-found.ensures;
+      findings = c.in_ok-findings.ensures ∙ ap kept_of_file (c.in_ok-shown.ensures ∙ ap (weighed (weighing c.args.weights.now)) c.in_ok-found.ensures);
       bad_lines = refl;
       summary = record { invalid = search rules; geometry = search rules; failed = search rules; bad_lines = search rules };
     }

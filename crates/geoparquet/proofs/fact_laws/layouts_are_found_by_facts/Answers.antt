@@ -1,5 +1,5 @@
 use Rattle.std.proofs.Common.{◌≡◌, Bool, true, false, not, Option, None, Some, refl}
-use Rattle.arrow_columns.specs.Column.{ColumnTree}
+use Rattle.arrow_columns.specs.Types.{ColumnTree}
 use Rattle.arrow_values.specs.Tree.{Text}
 use Rattle.geoparquet.specs.Contradictions.{encoding_layout_findings}
 use Rattle.geoparquet.specs.Facts.{has_other_layout}

@@ -9,7 +9,6 @@ use Rattle.geoparquet.specs.GeoColumns.{AreGeoColumns}
 use Rattle.geoparquet.specs.Sources.{element_view, with_elements}
 use Rattle.geoparquet.proofs.Answered.{both}
 use Rattle.geoparquet.proofs.Claims.{json_read}
-use Rattle.geoparquet.proofs.Marking.{all_stay}
 use Rattle.geoparquet.proofs.inspect.text_answer.Goals as goal
 
 pub json_answer-requires-clause-read : goal.json_answer-requires-clause-read
@@ -20,6 +19,12 @@ returns-in-Ok-clause-facts c =
     let all = with_elements (map column_tree c.args.columns.items) (map element_view c.args.elements.now) in
     subst (λ o. IfOk c.json_answer.result (λ answer. map facts_view answer.facts.items ≡ facts_behind (unwrap_or o null) [] all))
     (json_read c.args.geo.now (value_view c.in-Ok.json) c.in-Ok.ensures.tokens c.in-Ok.ensures.readable c.in-Ok.ensures.read) c.json_answer.ensures.facts
+
+pub returns-in-Ok-clause-columns : goal.returns-in-Ok-clause-columns
+returns-in-Ok-clause-columns c =
+    let all = with_elements (map column_tree c.args.columns.items) (map element_view c.args.elements.now) in
+    subst (λ o. IfOk c.json_answer.result (λ answer. AreGeoColumns (unwrap_or o null) [] all (map column_tree answer.columns.items)))
+    (json_read c.args.geo.now (value_view c.in-Ok.json) c.in-Ok.ensures.tokens c.in-Ok.ensures.readable c.in-Ok.ensures.read) c.json_answer.ensures.columns
 
 pub returns-in-Err-Text-clause-findings : goal.returns-in-Err-Text-clause-findings
 returns-in-Err-Text-clause-findings c =
@@ -35,7 +40,6 @@ returns-in-Err-Text-clause-facts c =
 
 pub returns-in-Err-Text-clause-columns : goal.returns-in-Err-Text-clause-columns
 returns-in-Err-Text-clause-columns c =
-    let geo = c.args.geo.now in
-    let columns = map column_tree c.args.columns.items in
-    let none = c.in-Err-Text.ensures.text (ap Err c.in-Err-Text.field-0-is) in
-    IfOk-weaker c.unread_answer.result _ _ (λ answer same. subst (AreGeoColumns geo columns) (sym same) (all_stay geo columns none)) c.unread_answer.ensures.columns
+    let all = with_elements (map column_tree c.args.columns.items) (map element_view c.args.elements.now) in
+    let none = ap (λ (o : Option Data). cond (is_some o) (document c.args.geo.now) None) (c.in-Err-Text.ensures.text (ap Err c.in-Err-Text.field-0-is)) in
+    subst (λ o. IfOk c.unread_answer.result (λ answer. AreGeoColumns (unwrap_or o null) [] all (map column_tree answer.columns.items))) (sym none) c.unread_answer.ensures.columns

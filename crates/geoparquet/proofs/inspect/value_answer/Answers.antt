@@ -31,11 +31,11 @@ returns-in-Ok-clause-facts c =
 
 pub returns-in-Ok-clause-columns : goal.returns-in-Ok-clause-columns
 returns-in-Ok-clause-columns c =
+    let bytes = c.args.bytes.now in
+    let all = with_elements (map column_tree c.args.columns.items) (map element_view c.args.elements.now) in
     let text = c.in-Ok.ensures.cases in
-    let columns = map column_tree c.args.columns.items in
-    IfOk-weaker c.text_answer.result _ _
-    (λ answer are. inl (text.1, subst (λ s. AreGeoColumns s columns (map column_tree answer.columns.items)) text.0 are))
-    c.text_answer.ensures.columns
+    subst (λ b. IfOk c.text_answer.result (λ answer. AreGeoColumns (unwrap_or (if b then json_in bytes else None) null) [] all (map column_tree answer.columns.items))) (sym (utf8_is bytes text.1))
+    (subst (λ s. IfOk c.text_answer.result (λ answer. AreGeoColumns (unwrap_or (json_in s) null) [] all (map column_tree answer.columns.items))) text.0 c.text_answer.ensures.columns)
 
 pub returns-in-Err-clause-findings : goal.returns-in-Err-clause-findings
 returns-in-Err-clause-findings c =
@@ -51,4 +51,7 @@ returns-in-Err-clause-facts c =
 
 pub returns-in-Err-clause-columns : goal.returns-in-Err-clause-columns
 returns-in-Err-clause-columns c =
-    IfOk-weaker c.unread_answer.result _ _ (λ answer same. inr (c.in-Err.ensures.cases.0, same)) c.unread_answer.ensures.columns
+    let bytes = c.args.bytes.now in
+    let all = with_elements (map column_tree c.args.columns.items) (map element_view c.args.elements.now) in
+    subst (λ b. IfOk c.unread_answer.result (λ answer. AreGeoColumns (unwrap_or (if b then json_in bytes else None) null) [] all (map column_tree answer.columns.items)))
+    (sym (utf8_is_not bytes c.in-Err.ensures.cases.0)) c.unread_answer.ensures.columns

@@ -13,4 +13,4 @@ decreases-read_nodes l = 2 * l.levels + 1
 
 -- the elements so far, before those that are left
 abbrev pub invariant-read_nodes-nodes : goal.invariant-read_nodes-nodes
-invariant-read_nodes-nodes l = with_front (map node_tree l.found.items) (nodes_by (node_at l.levels (map element l.elements)) l.at (l.count - l.i)) ≡ nodes_by (node_at l.levels (map element l.elements)) l.start l.count
+invariant-read_nodes-nodes l = with_front (map node_tree l.found.items) (nodes_by (node_at l.types l.levels (map element l.elements)) l.at (l.count - l.i)) ≡ nodes_by (node_at l.types l.levels (map element l.elements)) l.start l.count

@@ -1,7 +1,6 @@
 use Rattle.std.proofs.Common.{ap, sym, ◌∙◌}
 use Rattle.std.proofs.lemmas.Int.{to_z-of_z}
-use Rattle.arrow_values.specs.Tree.{Text}
-use Rattle.arrow_columns.specs.Column.{other}
+use Rattle.arrow_columns.specs.Types.{leaf}
 use Rattle.parquet_columns.specs.Leaf.{leaf_type}
 use Rattle.parquet_columns.proofs.Leaves.{all_null, a_clock, a_decimal, a_plain, no_plain}
 use Rattle.parquet_columns.proofs.leaf.leaf_type.Goals as goal
@@ -16,7 +15,7 @@ returns-in-Some c =
     let a = c.args in
     let some = sym c.is_null.ensures ∙ c.if-is_null.false in
     let is = a_clock a.physical a.meaning a.length some a.digits _ (sym (rw c.in-Some.is at c.clock_text.ensures)) in
-    ap (λ (t : Text). other t) c.in_ok-from_str.ensures.ok ∙ sym is
+    c.leaf.ensures ∙ ap leaf c.in_ok-text.ensures.ok ∙ sym is
 
 pub returns-in-Some-digits : goal.returns-in-Some-digits
 returns-in-Some-digits c =
@@ -24,7 +23,7 @@ returns-in-Some-digits c =
     let some = sym c.is_null.ensures ∙ c.if-is_null.false in
     let no_clock = sym (rw c.in_default.is at c.clock_text.ensures) in
     let is = a_decimal a.physical a.meaning a.length some no_clock (c.in-Some-digits.precision, c.in-Some-digits.scale) in
-    ap (λ (t : Text). other t) c.in_ok-text.ensures ∙ sym is ∙ ap (leaf_type a.physical a.meaning a.length) (sym c.in-Some-digits.is)
+    c.leaf-in-Some-digits.ensures ∙ ap leaf c.in_ok-text-2.ensures ∙ sym is ∙ ap (leaf_type a.physical a.meaning a.length) (sym c.in-Some-digits.is)
 
 pub returns-in-Some-plain_of : goal.returns-in-Some-plain_of
 returns-in-Some-plain_of c =
