@@ -153,7 +153,7 @@ class Command(unittest.TestCase):
             path.write_text(TEXT.replace('"t"', '"\u65e5"'), encoding="utf-8")
             command = [sys.executable, "-m", "geoarrow_fields", "check", str(path)]
             found = self.run_in_data(*command, encoding="latin-1")
-            self.assertEqual((found.stdout.decode(), found.stderr, found.returncode), ("column  holds  CRS  edges\n\u65e5       utf8\n", b"", 0))
+            self.assertEqual((found.stdout.decode(), found.stderr, found.returncode), ("column  holds  CRS  edges\n\u65e5      utf8\n", b"", 0))
 
     @unittest.skipUnless(os.path.exists("/dev/full"), "there is no /dev/full")
     def test_an_output_that_is_full(self):
