@@ -829,11 +829,11 @@ A byte of the footer of a Parquet file is that of the file too, by its path and 
   ::notice title=KeyNotText::footer, byte 37: found k\xfe; expected UTF-8. It is passed over.
   ::error title=NameNotText::elements, byte 25: found g\xff; expected UTF-8. The name is shown with U+FFFD for what is not UTF-8, and no key names the column.
   ::notice title=KeyNotText::footer, byte 37: found k\xfe; expected UTF-8. It is passed over.
-  ::error file=behind.parquet,title=NameNotText::footer, byte 4121: found g\xff; expected UTF-8. The name is shown with U+FFFD for what is not UTF-8, and no key names the column.
+  ::error file=behind.parquet,title=NameNotText::elements, byte 4121: found g\xff; expected UTF-8. The name is shown with U+FFFD for what is not UTF-8, and no key names the column.
   ::notice file=behind.parquet,title=KeyNotText::footer, byte 4133: found k\xfe; expected UTF-8. It is passed over.
-  ::error title=NameNotText::footer, byte 4121: found g\xff; expected UTF-8. The name is shown with U+FFFD for what is not UTF-8, and no key names the column.
+  ::error title=NameNotText::elements, byte 4121: found g\xff; expected UTF-8. The name is shown with U+FFFD for what is not UTF-8, and no key names the column.
   ::notice title=KeyNotText::footer, byte 4133: found k\xfe; expected UTF-8. It is passed over.
-  ::error title=NameNotText::footer, byte 4121: found g\xff; expected UTF-8. The name is shown with U+FFFD for what is not UTF-8, and no key names the column.
+  ::error title=NameNotText::elements, byte 4121: found g\xff; expected UTF-8. The name is shown with U+FFFD for what is not UTF-8, and no key names the column.
   ::notice title=KeyNotText::footer, byte 4133: found k\xfe; expected UTF-8. It is passed over.
   [1]
 
