@@ -90,7 +90,7 @@ fn what_is_absent_is_none() {
     assert_eq!((finding.found(), finding.help()), (None, None));
     assert_eq!((finding.byte(), finding.more()), (None, 0));
     let numbers = [finding.index(), finding.line()];
-    assert_eq!(numbers, [None; 3]);
+    assert_eq!(numbers, [None; 2]);
     assert!(finding.path().is_empty());
     assert_eq!(finding.to_string(), "note[One]: expected two");
 }
