@@ -173,13 +173,14 @@ Columns of other types as lines, which are read back
 Behind two files and more: how many columns there are, what is found in how many files, and how many are not read
 
   $ cd "$TMPDIR" && (yes '{"name":"b","nullable":true,"type":"null"}' | head -n 32; cat "$top/runs/point.jsonl" "$top/runs/point.jsonl") > more
-  > for word in --infer --quiet --problems
+  > for word in --infer --quiet --problems --json
   > do
   >     geoarrow_check $word "$top/examples/schema.jsonl" more nowhere | tail -n 1
   > done
   3 files: 41 columns, 6 of geometries; 2 errors and 1 warning in 1 file; 1 file not read
   3 files: 41 columns, 5 of geometries; 2 errors and 1 warning in 1 file; 1 file not read
   3 files: 41 columns, 5 of geometries; 2 errors and 1 warning in 1 file; 1 file not read
+  {"kind":"summary","files":3,"unread":1,"failed":1,"errors":2,"warnings":1,"notes":0,"status":2}
 
 Errors are also bad lines, those that are not told one by one too, and what is not met; what is allowed is not counted
 
@@ -268,10 +269,10 @@ A folder stands for its files with seven endings, down all folders, in the order
   > done
   > for end in parquet geoparquet arrow feather arrows jsonl ndjson; do : > lake/none/f.$end; done
   > geoarrow_check -q lake/none | cut -d: -f1
-  lake/A.jsonl lake/a.ndjson lake/b.jsonl lake/d.parquet/part.jsonl lake/none/link.jsonl lake/sub-1.jsonl lake/sub/deep/y.ndjson lake/sub/x.jsonl
-  lake/none/link.jsonl lake//sub/deep/y.ndjson lake//sub/x.jsonl
-  lake/c.json lake/_tmp/z.jsonl
-  lake/none/link/deep/y.ndjson lake/none/link/x.jsonl
+  lake/A.jsonl lake/a.ndjson lake/b.jsonl lake/d.parquet/part.jsonl lake/none/link.jsonl lake/sub-1.jsonl lake/sub/deep/y.ndjson lake/sub/x.jsonl {"kind":"summary","files":8,"unread":0,"failed":0,"errors":0,"warnings":0,"notes":0,"status":0}
+  lake/none/link.jsonl lake//sub/deep/y.ndjson lake//sub/x.jsonl {"kind":"summary","files":3,"unread":0,"failed":0,"errors":0,"warnings":0,"notes":0,"status":0}
+  lake/c.json lake/_tmp/z.jsonl {"kind":"summary","files":2,"unread":0,"failed":0,"errors":0,"warnings":0,"notes":0,"status":0}
+  lake/none/link/deep/y.ndjson lake/none/link/x.jsonl {"kind":"summary","files":2,"unread":0,"failed":0,"errors":0,"warnings":0,"notes":0,"status":0}
   lake/none/f.arrow
   lake/none/f.arrows
   lake/none/f.feather
@@ -289,8 +290,8 @@ A folder that is not listed, or not all of it, is refused, and the other files a
   > rm some/part/*l && geoarrow_check --ipc some > one && geoarrow_check --ipc some/b.jsonl | cmp - one && echo one
   {"kind":"column","file":"some/b.jsonl","index":0,"column":"a","state":"plain","type":"null"}
   {"kind":"finding","severity":"error","code":"CannotRead","file":"some/part","found":"..","expected":"a file that can be read"}
-  some/part: error[CannotRead]: found ..; expected a file that can be read
   {"kind":"column","file":"some/part/c.jsonl","index":0,"column":"a","state":"plain","type":"null"}
+  {"kind":"summary","files":3,"unread":1,"failed":0,"errors":0,"warnings":0,"notes":0,"status":2}
   geoarrow_check: --ipc takes one file
   2
   one
@@ -417,7 +418,6 @@ A line of 1,048,576 bytes, and one with a byte more
   {"kind":"column","index":1,"column":"a","state":"plain","typ
   {"kind":"column","index":0,"column":"geometry","state":"geom
   {"kind":"finding","severity":"error","code":"LongLine","line
-  -: error[LongLine] line 2: found more than 1048576 bytes; ex
 
 An input without a line feed, which does not end
 
@@ -454,9 +454,9 @@ A file of no bytes, or of blank lines alone, is empty
   >     geoarrow_check $words - < /dev/null 2>&1
   >     cat blank | geoarrow_check $words - 2>&1
   > done | LC_ALL=C sort | uniq -c
-       10 -: error[EmptyFile] byte 0: found 0 bytes, or blanks alone; expected an Arrow file, an Arrow stream, a Parquet file or lines of fields. The writing or the copy broke off before its first byte
-        5 blank: error[EmptyFile] byte 0: found 0 bytes, or blanks alone; expected an Arrow file, an Arrow stream, a Parquet file or lines of fields. The writing or the copy broke off before its first byte
-        5 none: error[EmptyFile] byte 0: found 0 bytes, or blanks alone; expected an Arrow file, an Arrow stream, a Parquet file or lines of fields. The writing or the copy broke off before its first byte
+        8 -: error[EmptyFile] byte 0: found 0 bytes, or blanks alone; expected an Arrow file, an Arrow stream, a Parquet file or lines of fields. The writing or the copy broke off before its first byte
+        4 blank: error[EmptyFile] byte 0: found 0 bytes, or blanks alone; expected an Arrow file, an Arrow stream, a Parquet file or lines of fields. The writing or the copy broke off before its first byte
+        4 none: error[EmptyFile] byte 0: found 0 bytes, or blanks alone; expected an Arrow file, an Arrow stream, a Parquet file or lines of fields. The writing or the copy broke off before its first byte
         2 {"kind":"finding","severity":"error","code":"EmptyFile","byte":0,"found":"0 bytes, or blanks alone","expected":"an Arrow file, an Arrow stream, a Parquet file or lines of fields","help":"The writing or the copy broke off before its first byte"}
         1 {"kind":"finding","severity":"error","code":"EmptyFile","file":"blank","byte":0,"found":"0 bytes, or blanks alone","expected":"an Arrow file, an Arrow stream, a Parquet file or lines of fields","help":"The writing or the copy broke off before its first byte"}
         1 {"kind":"finding","severity":"error","code":"EmptyFile","file":"none","byte":0,"found":"0 bytes, or blanks alone","expected":"an Arrow file, an Arrow stream, a Parquet file or lines of fields","help":"The writing or the copy broke off before its first byte"}
@@ -467,7 +467,6 @@ A file of no bytes, or of blank lines alone, is empty
 
   $ geoarrow_check --json - < /dev/null
   {"kind":"finding","severity":"error","code":"EmptyFile","byte":0,"found":"0 bytes, or blanks alone","expected":"an Arrow file, an Arrow stream, a Parquet file or lines of fields","help":"The writing or the copy broke off before its first byte"}
-  -: error[EmptyFile] byte 0: found 0 bytes, or blanks alone; expected an Arrow file, an Arrow stream, a Parquet file or lines of fields. The writing or the copy broke off before its first byte
   [2]
 
 A blank line is passed over, wherever it stands, and counts as a line
@@ -480,7 +479,6 @@ A blank line is passed over, wherever it stands, and counts as a line
   {"kind":"column","index":0,"column":"a","state":"plain","type":"null"}
   {"kind":"column","index":1,"column":"b","state":"plain","type":"null"}
   {"kind":"finding","severity":"error","code":"BadLine","line":4,"found":"JSON that is no object","expected":"a JSON object"}
-  -: error[BadLine] line 4: found JSON that is no object; expected a JSON object
   [2]
 
 What is said with notes alone: a number in a CRS that is not whole
@@ -552,7 +550,6 @@ A PROJJSON of 60,009 bytes that 2,048 columns of a Parquet file name: refused, i
   bomb.parquet: error[ReportTooLarge]: found a larger report; expected a report of at most 1048576 bytes and 32 for each byte read
   bomb.parquet: error[ReportTooLarge]: found a larger report; expected a report of at most 1048576 bytes and 32 for each byte read
   bomb.parquet: error[ReportTooLarge]: found a larger report; expected a report of at most 1048576 bytes and 32 for each byte read
-  bomb.parquet: error[ReportTooLarge]: found a larger report; expected a report of at most 1048576 bytes and 32 for each byte read
   [2]
 
 A report that is too large: no column is printed, also of those before the one that makes it so
@@ -561,7 +558,6 @@ A report that is too large: no column is printed, also of those before the one t
   > geoarrow_check --json stream
   > geoarrow_check --quiet --expect k=wkb stream && geoarrow_check --json lines | wc -l
   {"kind":"finding","severity":"error","code":"ReportTooLarge","file":"stream","found":"a larger report","expected":"a report of at most 1048576 bytes and 32 for each byte read"}
-  stream: error[ReportTooLarge]: found a larger report; expected a report of at most 1048576 bytes and 32 for each byte read
   2
 
 A file without geometries where some are required
@@ -579,7 +575,7 @@ A file without geometries where some are required
 
   $ geoarrow_check --json --require-geometry ../crates/geoarrow_check/data/file.arrow > /dev/null
 
-What is said of files stands on standard output, but beside lines of JSON, lines of fields and a stream on standard error
+What is said of files stands on standard output, but beside lines of fields and a stream on standard error; so does what is expected and not met beside lines of JSON
 
   $ cd "$TMPDIR" && printf '{"name":"a","nullable":true,"type":"null"}\n[]\n' > lines && printf 'PAR1PAR1' > cut.parquet
   > for words in --infer --quiet --problems --format=github --json --lines
@@ -594,7 +590,7 @@ What is said of files stands on standard output, but beside lines of JSON, lines
   0
   0
   0
-  5
+  2
   5
   3
   1
@@ -604,8 +600,8 @@ Files that cannot be read: the next one is read all the same
 
   $ geoarrow_check --json nowhere.jsonl ../crates/geoarrow_check/data/stream.arrows
   {"kind":"finding","severity":"error","code":"CannotRead","file":"nowhere.jsonl","found":"No such file or directory (os error 2)","expected":"a file that can be read"}
-  nowhere.jsonl: error[CannotRead]: found No such file or directory (os error 2); expected a file that can be read
   {"kind":"column","file":"../crates/geoarrow_check/data/stream.arrows","index":0,"column":"a","state":"plain","type":"int64"}
+  {"kind":"summary","files":2,"unread":1,"failed":0,"errors":0,"warnings":0,"notes":0,"status":2}
   [2]
 
 Lines that are no columns are told behind those that are, and no stream is written; what is expected is asked of the columns
@@ -616,7 +612,6 @@ Lines that are no columns are told behind those that are, and no stream is writt
   > done
   {"kind":"column","index":0,"column":"a","state":"plain","type":"null"}
   {"kind":"finding","severity":"error","code":"BadLine","line":2,"found":"JSON that is no object","expected":"a JSON object"}
-  -: error[BadLine] line 2: found JSON that is no object; expected a JSON object
   -: error[Expect]: no column b
   -: error[NoGeometry]: no column of geometries
   {"name":"a","nullable":true,"type":"null"}
@@ -641,9 +636,6 @@ At most a hundred are told, with how many more there are; a line that is too lon
   $ (cat point.jsonl; yes 1 | head -n 101) | geoarrow_check --json - 2>&1 | sed -n '2p;101,102p;201,$p'
   {"kind":"finding","severity":"error","code":"BadLine","line":2,"found":"JSON that is no object","expected":"a JSON object"}
   {"kind":"finding","severity":"error","code":"BadLine","line":101,"found":"JSON that is no object","expected":"a JSON object","more":1}
-  -: error[BadLine] line 2: found JSON that is no object; expected a JSON object
-  -: error[BadLine] line 101: found JSON that is no object; expected a JSON object
-  -: error[BadLine]: 1 more line is no column
 
   $ (cat point.jsonl; printf '{}\n%*s\n{}\n' 1048577 '') | geoarrow_check --quiet -
   -: error[BadLine] line 2: found no string at "name"; expected a string at "name"
@@ -655,8 +647,6 @@ Lines none of which is a column; and GeoJSON, or `{` alone, which refuse the fil
   $ printf '{}\n\n1\n' | geoarrow_check --json -
   {"kind":"finding","severity":"error","code":"BadLine","line":1,"found":"no string at \"name\"","expected":"a string at \"name\""}
   {"kind":"finding","severity":"error","code":"BadLine","line":3,"found":"JSON that is no object","expected":"a JSON object"}
-  -: error[BadLine] line 1: found no string at "name"; expected a string at "name"
-  -: error[BadLine] line 3: found JSON that is no object; expected a JSON object
   [2]
 
   $ for first in '{"type":"Feature"}' '{'
@@ -699,12 +689,10 @@ JSON that is pretty-printed, or an array; and lines behind a byte order mark, wh
 
   $ printf '{\n  "name": "a"\n}\n' | geoarrow_check --json -
   {"kind":"finding","severity":"error","code":"BadLine","byte":1,"line":1,"found":"no JSON, or more than 127 levels of it","expected":"a JSON object","help":"One object on each line: try jq -c . FILE"}
-  -: error[BadLine] byte 1, line 1: found no JSON, or more than 127 levels of it; expected a JSON object. One object on each line: try jq -c . FILE
   [2]
 
   $ printf '[\n  {"name": "a"}\n]\n' | geoarrow_check --json -
   {"kind":"finding","severity":"error","code":"ForeignFormat","byte":0,"found":"a JSON array","expected":"an Arrow file, an Arrow stream, a Parquet file or lines of fields","help":"Try jq -c '.[]' FILE | geoarrow_check -"}
-  -: error[ForeignFormat] byte 0: found a JSON array; expected an Arrow file, an Arrow stream, a Parquet file or lines of fields. Try jq -c '.[]' FILE | geoarrow_check -
   [2]
 
   $ printf '\357\273\277{"name":"a","nullable":true,"type":"null"}\n' | geoarrow_check --json -
@@ -747,7 +735,6 @@ A file of a format that is not read is named, with what to try, whatever is prin
   a.gpkg: error[ForeignFormat] byte 0: found a GeoPackage or SQLite database; expected an Arrow file, an Arrow stream, a Parquet file or lines of fields. Try ogr2ogr out.parquet FILE
   a.gpkg: error[ForeignFormat] byte 0: found a GeoPackage or SQLite database; expected an Arrow file, an Arrow stream, a Parquet file or lines of fields. Try ogr2ogr out.parquet FILE
   a.gpkg: error[ForeignFormat] byte 0: found a GeoPackage or SQLite database; expected an Arrow file, an Arrow stream, a Parquet file or lines of fields. Try ogr2ogr out.parquet FILE
-  a.gpkg: error[ForeignFormat] byte 0: found a GeoPackage or SQLite database; expected an Arrow file, an Arrow stream, a Parquet file or lines of fields. Try ogr2ogr out.parquet FILE
   [2]
 
   $ cd "$TMPDIR" && printf 'SQLite format 3\000' > a.gpkg && (printf 'PK\003\004'; yes) | geoarrow_check a.gpkg -
@@ -758,38 +745,31 @@ A file of a format that is not read is named, with what to try, whatever is prin
 
   $ printf 'PAR1PAR1' | geoarrow_check --json -
   {"kind":"finding","severity":"error","code":"FooterLength","byte":0,"found":"827474256","expected":"a footer before its size"}
-  -: error[FooterLength] byte 0: found 827474256; expected a footer before its size
   [2]
 
   $ printf 'PAR1\000\000\000\000PAR1' | geoarrow_check --json -
   {"kind":"finding","severity":"error","code":"FooterLength","byte":4,"found":"0","expected":"a footer before its size"}
-  -: error[FooterLength] byte 4: found 0; expected a footer before its size
   [2]
 
   $ printf 'PAR1    PARE' | geoarrow_check --json -
   {"kind":"finding","severity":"error","code":"Encrypted","byte":8,"found":"PARE","expected":"PAR1","help":"A copy with a plain footer is needed"}
-  -: error[Encrypted] byte 8: found PARE; expected PAR1. A copy with a plain footer is needed
   [2]
 
   $ printf 'PARE    \004\000\000\000PARE' > "$TMPDIR/encrypted.parquet" && cd "$TMPDIR" && geoarrow_check --json encrypted.parquet; geoarrow_check - < encrypted.parquet
   {"kind":"finding","severity":"error","code":"Encrypted","file":"encrypted.parquet","byte":12,"found":"PARE","expected":"PAR1","help":"A copy with a plain footer is needed"}
-  encrypted.parquet: error[Encrypted] byte 12: found PARE; expected PAR1. A copy with a plain footer is needed
   -: error[Encrypted] byte 12: found PARE; expected PAR1. A copy with a plain footer is needed
   [2]
 
   $ printf 'PAR1    ' | geoarrow_check --json -
   {"kind":"finding","severity":"error","code":"Truncated","byte":8,"found":"5041523120202020","expected":"PAR1 at the end","help":"The file is cut off, or still being written"}
-  -: error[Truncated] byte 8: found 5041523120202020; expected PAR1 at the end. The file is cut off, or still being written
   [2]
 
   $ printf '\377\377\377\377\010\000\000\000\004\000\000\000' | geoarrow_check --json -
   {"kind":"finding","severity":"error","code":"Truncated","byte":12,"found":"4 bytes","expected":"8 bytes","help":"The file is cut off, or still being written"}
-  -: error[Truncated] byte 12: found 4 bytes; expected 8 bytes. The file is cut off, or still being written
   [2]
 
   $ head -c 100 ../crates/geoarrow_check/data/stream.arrows | geoarrow_check --json - 2>&1
   {"kind":"finding","severity":"error","code":"Truncated","byte":100,"found":"92 bytes","expected":"120 bytes","help":"The file is cut off, or still being written"}
-  -: error[Truncated] byte 100: found 92 bytes; expected 120 bytes. The file is cut off, or still being written
   [2]
 
 The byte of an Arrow file's fault is that of the file, by its path and by standard input: its end is cut off, or the type of a field, whose table begins at 518, is none; also behind 4096 bytes
@@ -837,7 +817,7 @@ A byte of the footer of a Parquet file is that of the file too, by its path and 
   ::notice title=KeyNotText::footer, byte 4133: found k\xfe; expected UTF-8. It is passed over.
   [1]
 
-With --json the fault is a line of JSON too, alone, or behind the lines of columns; also of a file that the system does not give
+With --json the fault is a line of JSON, alone, or behind the lines of columns; also of a file that the system does not give
 
   $ cd "$TMPDIR" && head -c 700 "$top/crates/geoarrow_check/data/file.arrow" > cut.arrow && printf '{"\377\n' > bytes && printf 'PAR1\005\000\000\000PAR1' > cut.parquet && printf '\n{"name":"a","nullable":true,"type":"null"}\n{"name":"b" "nullable":true}\n' > lines
   > for file in cut.arrow bytes cut.parquet lines nowhere
@@ -847,20 +827,15 @@ With --json the fault is a line of JSON too, alone, or behind the lines of colum
   >     cat said
   > done
   {"kind":"finding","severity":"error","code":"Truncated","file":"cut.arrow","byte":700,"found":"6e3a6e616d650000","expected":"ARROW1 at the end","help":"The file is cut off, or still being written"}
-  cut.arrow: error[Truncated] byte 700: found 6e3a6e616d650000; expected ARROW1 at the end. The file is cut off, or still being written
   2
   {"kind":"finding","severity":"error","code":"BadLine","file":"bytes","byte":3,"line":1,"found":"bytes that are not UTF-8","expected":"UTF-8"}
-  bytes: error[BadLine] byte 3, line 1: found bytes that are not UTF-8; expected UTF-8
   2
   {"kind":"finding","severity":"error","code":"FooterLength","file":"cut.parquet","byte":4,"found":"5","expected":"a footer before its size"}
-  cut.parquet: error[FooterLength] byte 4: found 5; expected a footer before its size
   2
   {"kind":"column","file":"lines","index":0,"column":"a","state":"plain","type":"null"}
   {"kind":"finding","severity":"error","code":"BadLine","file":"lines","byte":13,"line":3,"found":"no JSON, or more than 127 levels of it","expected":"a JSON object"}
-  lines: error[BadLine] byte 13, line 3: found no JSON, or more than 127 levels of it; expected a JSON object
   2
   {"kind":"finding","severity":"error","code":"CannotRead","file":"nowhere","found":"No such file or directory (os error 2)","expected":"a file that can be read"}
-  nowhere: error[CannotRead]: found No such file or directory (os error 2); expected a file that can be read
   2
 
 What is found in GeoParquet metadata, behind the columns
@@ -1367,6 +1342,7 @@ Differences as lines of JSON, behind all lines of their file; and as results of 
   {"kind":"finding","severity":"note","code":"ByteOrderMark","file":"b.jsonl","in":"file","byte":0,"expected":"lines without one","help":"It is passed over."}
   {"kind":"finding","severity":"error","code":"NotSame","file":"b.jsonl","column":"a","found":"utf8","expected":"int8","help":"The first file has another type."}
   {"kind":"finding","severity":"error","code":"NotSame","file":"b.jsonl","column":"b","found":"utf8","expected":"no such column","help":"The first file has no such column."}
+  {"kind":"summary","files":2,"unread":0,"failed":1,"errors":2,"warnings":0,"notes":1,"status":1}
   [('NotSame', 'error', 'column a: found utf8; expected int8. The first file has another type.'), ('NotSame', 'error', 'column b: found utf8; expected no such column. The first file has no such column.')] [{'id': 'NotSame', 'shortDescription': {'text': 'a column is not as in the first file'}}]
 
 A file that is refused is not compared, and is not the first one; one with bad lines is, by the columns that it has; files of different formats are, and standard input, which has no name in lines of JSON

@@ -2,12 +2,11 @@
 
 Prints what each column of each file holds, as `geoarrow_check` does with these options; the others
 are that program's alone. Why a file cannot be read, and which of its lines are no columns, is said on
-standard output; with --json it stands there as lines of JSON, and is said on standard error. Behind
-two files and more a line says how many columns and findings there are, but with --json. The status is
-1 where a column is invalid or a finding, of a column or of a file, is an error, and 2 where a file is
-refused, a line is no column, a file or the words cannot be read, or the output fails. Where nobody
-reads the output any more, the command ends without a word, with the status of the files so far. A
-folder stands for its files with one of seven endings.
+standard output, with --json in lines of JSON. Behind two files and more a line says how many columns
+and findings there are. The status is 1 where a column is invalid or a finding, of a column or of a
+file, is an error, and 2 where a file is refused, a line is no column, a file or the words cannot be
+read, or the output fails. Where nobody reads the output any more, the command ends without a word,
+with the status of the files so far. A folder stands for its files with one of seven endings.
 """
 import argparse
 import io
@@ -55,9 +54,9 @@ def main(words: Optional[List[str]] = None) -> int:
     try:
         tally = Tally()
         for file in asked.files:
-            status = max(_checked(file, asked, tally), status)
-        if len(asked.files) > 1 and not asked.json:
-            print(tally)
+            status = max(tally.counted(_checked(file, asked, tally)), status)
+        if len(asked.files) > 1:
+            print(tally.line(status) if asked.json else tally)
         sys.stdout.flush()
     except OSError as error:  # of the output: that of a file is said, and the next one is checked
         os.dup2(os.open(os.devnull, os.O_WRONLY), sys.stdout.fileno())  # where Python writes once more, at its end
@@ -78,7 +77,7 @@ class Tally:
     """How many columns and findings there are in all files, as the line behind the last says it (docs/FORMAT.md, 2.7)."""
 
     def __init__(self) -> None:
-        self.files = self.unread = self.columns = self.geometries = self.found_in = 0
+        self.files = self.unread = self.failed = self.columns = self.geometries = self.found_in = 0
         self.severities = {"error": 0, "warning": 0, "note": 0}
 
     def add(self, columns: Columns) -> None:
@@ -95,6 +94,19 @@ class Tally:
     def add_unread(self) -> None:
         """Adds a file that is not read."""
         self.files, self.unread = self.files + 1, self.unread + 1
+
+    def counted(self, status: int) -> int:
+        """Counts the status of a file. The status."""
+        self.failed += status == INVALID
+        return status
+
+    def line(self, status: int) -> str:
+        """The line of JSON, with the status of all."""
+        errors, warnings, notes = self.severities.values()
+        said = {
+            "kind": "summary", "files": self.files, "unread": self.unread, "failed": self.failed,
+            "errors": errors, "warnings": warnings, "notes": notes, "status": status}
+        return json.dumps(said, separators=(",", ":"))
 
     def __str__(self) -> str:
         unread = f"; {_counted(self.unread, 'file')} not read" if self.unread else ""
@@ -123,21 +135,14 @@ def _checked(file: str, asked: argparse.Namespace, tally: Tally) -> int:
     except (OSError, RefusedSource, MemoryError) as error:
         tally.add_unread()
         refused = error if isinstance(error, RefusedSource) else _refused(file, error)
-        words = f"{name}: {shown(str(refused))}"
-        if asked.json:
-            print(refused.json)
-            _say(words)
-        else:
-            print(words)
+        print(refused.json if asked.json else f"{name}: {shown(str(refused))}")
         return FAILED
     tally.add(columns)
-    bad = [f"{name}: {words}" for words in columns.bad_words()]
     if asked.json:
         for one in (*columns, *columns.bad_lines, *columns.findings):
             print(one.json)
-        for words in bad:
-            _say(words)
     else:
+        bad = [f"{name}: {words}" for words in columns.bad_words()]
         print(*([f"{name}:"] if len(asked.files) > 1 else []), columns.table(bad), sep="\n")
     if columns.bad_lines:
         return FAILED

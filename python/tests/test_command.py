@@ -36,11 +36,11 @@ class Command(unittest.TestCase):
             self.assertEqual(printed(["check", good, bad])[1:], ("", 1))
             out, err, status = printed(["check", none, bad])
             self.assertEqual((out.split(f"{bad}:\n")[0], err, status), (f"{none}:\ncolumn  holds  CRS  edges\n{none}: {NO_NAME}\n", "", 2))
-            self.assertEqual(printed(["check", "--json", none])[1:], (f"{none}: {NO_NAME}\n", 2))
+            self.assertEqual(printed(["check", "--json", none])[1:], ("", 2))
             line = '{"kind":"finding","severity":"error","code":"CannotRead","file":"%s/no","found":"%s","expected":"a file that can be read"}\n' % (folder, NO_FILE)
             words = f"{folder}/no: {unread(NO_FILE)}\n"
             self.assertEqual(printed(["check", folder + "/no"]), (words, "", 2))
-            self.assertEqual(printed(["check", "--json", folder + "/no"]), (line, words, 2))
+            self.assertEqual(printed(["check", "--json", folder + "/no"]), (line, "", 2))
 
     def test_a_folder_stands_for_its_files(self):
         with tempfile.TemporaryDirectory() as folder:
@@ -75,12 +75,14 @@ class Command(unittest.TestCase):
                 behind = f"3 files: 1 column, {geometries} of geometries; no findings; 2 files not read\n"
                 self.assertEqual(printed(["check", *options, empty, blank, good]), (f"{words}{good}:\n{table}{behind}", "", 2))
             out, err, status = printed(["check", "--json", empty, blank, good])
-            self.assertEqual((out[:len(refused)], out[len(refused):].count("\n"), err, status), (refused, 1, words, 2))
+            behind = '{"kind":"summary","files":3,"unread":2,"failed":0,"errors":0,"warnings":0,"notes":0,"status":2}\n'
+            self.assertTrue(out.endswith(behind), out)
+            self.assertEqual((out[:len(refused)], out[len(refused):].count("\n"), err, status), (refused, 2, "", 2))
         words = f"-: {IS_EMPTY}\n"
-        for options, out, err in (([], words, ""), (["--json"], line % "", words)):
+        for options, out in (([], words), (["--json"], line % "")):
             for text in (b"", b"\n"):
                 found = self.run_in_data(sys.executable, "-m", "geoarrow_fields", "check", *options, "-", given=text)
-                self.assertEqual((found.stdout.decode(), found.stderr.decode(), found.returncode), (out, err, 2))
+                self.assertEqual((found.stdout.decode(), found.stderr, found.returncode), (out, b"", 2))
 
     def test_the_line_behind_several_files(self):
         with tempfile.TemporaryDirectory() as folder:
@@ -90,18 +92,20 @@ class Command(unittest.TestCase):
             noted, stored = str(pathlib.Path(folder, "noted")), str(DATA / "stored.parquet")
             pathlib.Path(noted).write_text(f"{CRS}\n")
             nowhere = f"{folder}/nowhere"
-            for words, line in (  # (the first is that of docs/FORMAT.md, 2.7)
-                    ([schema, more, nowhere], "3 files: 41 columns, 5 of geometries; 2 errors and 1 warning in 1 file; 1 file not read"),
-                    (["--infer", schema, more, nowhere, nowhere], "4 files: 41 columns, 6 of geometries; 2 errors and 1 warning in 1 file; 2 files not read"),
-                    ([more, more], "2 files: 68 columns, 4 of geometries; no findings"),
-                    ([bad, more], "2 files: 35 columns, 3 of geometries; 103 errors in 1 file"),
-                    ([noted, stored], "2 files: 2 columns, 2 of geometries; 1 warning in 1 file"),
-                    (["--notes", noted, stored], "2 files: 2 columns, 2 of geometries; 1 warning and 1 note in 2 files"),
-                    (["--notes", noted, stored, schema], "3 files: 9 columns, 5 of geometries; 2 errors, 2 warnings and 1 note in 3 files"),
-                    ([nowhere, nowhere], "2 files: 0 columns, 0 of geometries; no findings; 2 files not read")):
+            for words, line, numbers in (  # (the first is that of docs/FORMAT.md, 2.7)
+                    ([schema, more, nowhere], "3 files: 41 columns, 5 of geometries; 2 errors and 1 warning in 1 file; 1 file not read", (3, 1, 1, 2, 1, 0, 2)),
+                    (["--infer", schema, more, nowhere, nowhere], "4 files: 41 columns, 6 of geometries; 2 errors and 1 warning in 1 file; 2 files not read", (4, 2, 1, 2, 1, 0, 2)),
+                    ([more, more], "2 files: 68 columns, 4 of geometries; no findings", (2, 0, 0, 0, 0, 0, 0)),
+                    ([bad, more], "2 files: 35 columns, 3 of geometries; 103 errors in 1 file", (2, 0, 0, 103, 0, 0, 2)),
+                    ([noted, stored], "2 files: 2 columns, 2 of geometries; 1 warning in 1 file", (2, 0, 0, 0, 1, 0, 0)),
+                    (["--notes", noted, stored], "2 files: 2 columns, 2 of geometries; 1 warning and 1 note in 2 files", (2, 0, 0, 0, 1, 1, 0)),
+                    (["--notes", noted, stored, schema], "3 files: 9 columns, 5 of geometries; 2 errors, 2 warnings and 1 note in 3 files", (3, 0, 1, 2, 2, 1, 1)),
+                    ([nowhere, nowhere], "2 files: 0 columns, 0 of geometries; no findings; 2 files not read", (2, 2, 0, 0, 0, 0, 2))):
                 with self.subTest(words=words):
                     self.assertEqual(printed(["check", *words])[0].split("\n")[-2:], [line, ""])
-                    self.assertNotIn(" files: ", printed(["check", "--json", *words])[0])
+                    last = json.loads(printed(["check", "--json", *words])[0].splitlines()[-1])
+                    keys = ("files", "unread", "failed", "errors", "warnings", "notes", "status")
+                    self.assertEqual(last, {"kind": "summary", **dict(zip(keys, numbers))})
             out = printed(["check", bad])[0]
             self.assertEqual(out.split("\n")[-2:], [f"{bad}: error[BadLine]: 3 more lines are no columns", ""])
             self.assertNotIn(" file", out)
@@ -165,7 +169,7 @@ class Command(unittest.TestCase):
             words = "a: error[OutOfMemory]: found out of memory; expected more memory\n"
             line = '{"kind":"finding","severity":"error","code":"OutOfMemory","file":"a","found":"out of memory","expected":"more memory"}\n'
             self.assertEqual(printed(["check", "a"]), (words, "", 2))
-            self.assertEqual(printed(["check", "--json", "a"]), (line, words, 2))
+            self.assertEqual(printed(["check", "--json", "a"]), (line, "", 2))
 
     def test_options_of_the_program_alone(self):
         for word in OF_THE_PROGRAM:
@@ -219,14 +223,15 @@ class Printed(unittest.TestCase):
         error = '{"kind":"finding","severity":"error","code":"GeoBbox","column":"g","in":"geo","pointer":"/columns/g/bbox","expected":"m"}'
         warning = '{"kind":"finding","severity":"warning","code":"NoGeoMetadata","expected":"w"}'
         doubtful, wrong = (column.replace("}", ',"findings":[%s]}' % one.replace('"kind":"finding",', "")) for one in (warning, error))
-        for report, status, counted in (
-                (f"{column}\n{column}\n{warning}\n", 0, "4 columns, 0 of geometries; 2 warnings"),
-                (f"{column}\n{error}\n{error}\n{warning}\n", 1, "2 columns, 0 of geometries; 4 errors and 2 warnings"),
-                (f"{doubtful}\n{warning}\n", 0, "2 columns, 0 of geometries; 4 warnings"),
-                (f"{doubtful}\n{wrong}\n{column}\n{warning}\n", 1, "6 columns, 0 of geometries; 2 errors and 4 warnings")):
+        for report, status, counted, numbers in (
+                (f"{column}\n{column}\n{warning}\n", 0, "4 columns, 0 of geometries; 2 warnings", (0, 0, 2)),
+                (f"{column}\n{error}\n{error}\n{warning}\n", 1, "2 columns, 0 of geometries; 4 errors and 2 warnings", (2, 4, 2)),
+                (f"{doubtful}\n{warning}\n", 0, "2 columns, 0 of geometries; 4 warnings", (0, 0, 4)),
+                (f"{doubtful}\n{wrong}\n{column}\n{warning}\n", 1, "6 columns, 0 of geometries; 2 errors and 4 warnings", (2, 2, 4))):
             with mock.patch("geoarrow_fields.__main__.check", lambda *given, **more: columns_of(report)):
                 self.assertEqual(printed(["check", "--json", "a"]), (report, "", status))
-                self.assertEqual(printed(["check", "--json", "a", "b"]), (report * 2, "", status))
+                line = '{"kind":"summary","files":2,"unread":0,"failed":%d,"errors":%d,"warnings":%d,"notes":0,"status":%d}\n' % (*numbers, status)
+                self.assertEqual(printed(["check", "--json", "a", "b"]), (f"{report * 2}{line}", "", status))
                 behind = ["warning[NoGeoMetadata]: expected w", f"2 files: {counted} in 2 files", ""]
                 self.assertEqual(printed(["check", "a", "b"])[0].split("\n")[-3:], behind)
 

@@ -90,6 +90,8 @@ pub struct Tally {
     pub files: u64,
     /// How many of them are not read to their end.
     pub unread: u64,
+    /// Of how many the status is 1.
+    pub failed: u64,
     /// Of how many something is found.
     pub found_in: u64,
     /// The columns and findings of those that are read.
@@ -112,6 +114,7 @@ impl Tally {
         Tally {
             files: 0,
             unread: 0,
+            failed: 0,
             found_in: 0,
             numbers: Numbers::new(),
             rules: Vec::new(alloc),
@@ -158,6 +161,13 @@ impl Tally {
             raise(&mut self.found_in, 1);
         }
         self.numbers.add(numbers);
+    }
+
+    /// Adds the status of a file, as it is behind all that is said of it.
+    pub fn add_status(&mut self, status: u8) {
+        if status == 1 {
+            raise(&mut self.failed, 1);
+        }
     }
 
     /// Adds a file that is not read to its end.

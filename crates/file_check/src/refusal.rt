@@ -18,9 +18,10 @@ use std::alloc::{AllocError, Global};
 use std::io;
 use std::io::Write;
 
-/// Says why a file in that format is not read, where its format has all that is said of a file, and
-/// with `--json` prints the fault as a line on standard output, `out`, too (docs/FORMAT.md, 2.7 and
-/// 2.8). The file is counted as one that is not read. Returns the status, 2. Errs where a writer fails, and when out of memory.
+/// Says why a file in that format is not read: with `--json` the fault is a line on standard output,
+/// `out`, and else it is said where its format has what is said of a file (docs/FORMAT.md, 2.7 and
+/// 2.8). The file is counted as one that is not read. Returns the status, 2. Errs where a writer
+/// fails, and when out of memory.
 pub fn refuse<W: Write, E: Write>(
     alloc: Global,
     asked: &Asked,
@@ -77,15 +78,16 @@ fn refuse_for<W: Write, E: Write>(
 {
     if matches!(asked.flags.output(), Output::Json) {
         print_fault(alloc, file, fault, out)?;
+        return Ok(2);
     }
     let told = Told::fault(alloc, fault)?;
     say(alloc, asked, file, &[told], tally, out, err)?;
     Ok(2)
 }
 
-/// Says why lines denote no columns, where their format has all that is said of a file, and with
-/// `--json` prints their faults as lines on standard output, `out`, too (docs/FORMAT.md, 2.7 and 2.8).
-/// Errs where a writer fails, and when out of memory.
+/// Says why lines denote no columns: with `--json` their faults are lines on standard output, `out`,
+/// and else they are said where their format has what is said of a file (docs/FORMAT.md, 2.7 and
+/// 2.8). Errs where a writer fails, and when out of memory.
 pub(crate) fn tell_bad_lines<W: Write, E: Write>(
     alloc: Global,
     asked: &Asked,
@@ -97,7 +99,7 @@ pub(crate) fn tell_bad_lines<W: Write, E: Write>(
 ) -> io::Result<()> {
     if matches!(asked.flags.output(), Output::Json) {
         let lines = bad_line_lines(alloc, named(file), bad_lines)?;
-        out.write_all(lines.as_bytes())?;
+        return out.write_all(lines.as_bytes());
     }
     let told = told_bad_lines(alloc, bad_lines)?;
     say(alloc, asked, file, told.as_slice(), tally, out, err)

@@ -16,17 +16,22 @@ pub fn begin_output<W: Write>(asked: &Asked, out: &mut W) -> io::Result<()> {
 }
 
 /// Prints what stands behind the last file on standard output, `out`: of two files and more a line
-/// that says how many columns and findings there are, behind a table and behind errors; and the end of
-/// a log of SARIF (docs/FORMAT.md, 2.7). Errs where the writer fails, and when out of memory.
+/// that says how many columns and findings there are, behind tables and errors in words, behind lines
+/// of JSON as one of them, with the status of the run; and the end of a log of SARIF (docs/FORMAT.md,
+/// 2.7). Errs where the writer fails, and when out of memory.
 pub fn end_output<W: Write>(
     alloc: Global,
     asked: &Asked,
     tally: &Tally,
+    status: u8,
     out: &mut W,
 ) -> io::Result<()> {
     match asked.flags.output() {
         Output::Table | Output::Errors if asked.files.len() > 1 => {
             out.write_all(summary_line(alloc, tally)?.as_bytes())
+        }
+        Output::Json if asked.files.len() > 1 => {
+            out.write_all(summary_object(alloc, tally, status)?.as_bytes())
         }
         Output::Sarif => out.write_all(sarif_end(alloc, tally.rules())?.as_bytes()),
         _ => Ok(()),
@@ -58,6 +63,26 @@ pub fn summary_line(alloc: Global, tally: &Tally) -> Result<String, AllocError> 
         line.push_str(format!(in alloc; "; {unread} not read")?.as_str())?;
     }
     line.push_str("\n")?;
+    Ok(line)
+}
+
+/// How many files, columns and findings there are, and the status: an object of JSON with its line
+/// feed (docs/FORMAT.md, 2.7).
+fn summary_object(alloc: Global, tally: &Tally, status: u8) -> Result<String, AllocError> {
+    let mut line = String::from_str(alloc, "{\"kind\":\"summary\"")?;
+    let members = [
+        ("files", tally.files),
+        ("unread", tally.unread),
+        ("failed", tally.failed),
+        ("errors", tally.numbers.errors),
+        ("warnings", tally.numbers.warnings),
+        ("notes", tally.numbers.notes),
+        ("status", u64::from(status)),
+    ];
+    for (key, number) in members {
+        line.push_str(format!(in alloc; ",\"{key}\":{number}")?.as_str())?;
+    }
+    line.push_str("}\n")?;
     Ok(line)
 }
 

@@ -94,9 +94,11 @@ fn check_all(
             None => check(rt, name, asked, &mut tally)?,
         };
         *status = read.max(*status);
-        *status = compare(rt, name, asked, &mut tally)?.max(*status);
+        let read = compare(rt, name, asked, &mut tally)?.max(read);
+        tally.add_status(read);
+        *status = read.max(*status);
     }
-    end_output(rt.alloc(), asked, &tally, &mut rt.stdout())
+    end_output(rt.alloc(), asked, &tally, *status, &mut rt.stdout())
 }
 
 /// Says what is said in place of a report.
