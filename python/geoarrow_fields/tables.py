@@ -9,6 +9,7 @@ Row = Tuple[Tuple[str, str, str, str], List[str]]  # the cells, and the lines be
 HEAD = ("column", "holds", "CRS", "edges")
 _CELL = 40  # columns of a cell at most, as a terminal shows it
 _CONTROL = re.compile("[\x00-\x1f\x7f-\x9f]")
+_HIDDEN = re.compile("[\x00-\x1f\x7f-\x9f\u200b-\u200f\u202a-\u202e\u2066-\u2069\ufeff]")
 
 
 def text(rows: Iterable[Row], behind: Iterable[str] = ()) -> str:
@@ -50,8 +51,9 @@ def crs_name(crs: Any) -> str:
 
 
 def shown(given: str) -> str:
-    """A text with `?` for each control character, so that it stands on one line and changes nothing of a terminal."""
-    return _CONTROL.sub("?", given)
+    """A text with the number of each control character, and of each that is not seen or turns the direction of a text, so that it stands on one line and
+    changes nothing of a terminal."""
+    return _HIDDEN.sub(lambda found: f"\\u{{{ord(found[0]):x}}}", given)
 
 
 def _code_name(known: Any) -> str:
@@ -64,7 +66,7 @@ def _code_name(known: Any) -> str:
 
 
 def _blanked(given: str) -> str:
-    return _CONTROL.sub(" ", given)
+    return shown(_CONTROL.sub(" ", given))
 
 
 def _shown_cells(cells: Tuple[str, str, str, str]) -> Tuple[str, str, str, str]:

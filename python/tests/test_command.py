@@ -122,7 +122,7 @@ class Command(unittest.TestCase):
             names = [str(pathlib.Path(folder, name)) for name in ("a\u001b[2J\nb", "c\x7f\x85d")]
             for name in names:
                 pathlib.Path(name).write_text(f"{TEXT}\n")
-            shown = [f"{folder}/a?[2J?b", f"{folder}/c??d"]
+            shown = [f"{folder}/a\\u{{1b}}[2J\\u{{a}}b", f"{folder}/c\\u{{7f}}\\u{{85}}d"]
             table = "column  holds  CRS  edges\nt       utf8\n"
             behind = "2 files: 2 columns, 0 of geometries; no findings\n"
             self.assertEqual(printed(["check", *names]), ("".join(f"{name}:\n{table}" for name in shown) + behind, "", 0))
@@ -131,7 +131,7 @@ class Command(unittest.TestCase):
             head = "column  holds  CRS  edges\n"
             behind = "2 files: 0 columns, 0 of geometries; 2 errors in 2 files\n"
             self.assertEqual(printed(["check", *names]), ("".join(f"{name}:\n{head}{name}: {NO_NAME}\n" for name in shown) + behind, "", 2))
-            self.assertEqual(printed(["check", names[0] + "\t"]), (f"{shown[0]}?: {unread(NO_FILE)}\n", "", 2))
+            self.assertEqual(printed(["check", names[0] + "\t"]), (f"{shown[0]}\\u{{9}}: {unread(NO_FILE)}\n", "", 2))
 
     def test_an_output_that_nobody_reads(self):
         with tempfile.TemporaryDirectory() as folder:

@@ -88,9 +88,10 @@ wkt     taken for wkt - -                       planar""" % (NOT_WHOLE, *BROKEN_
         lines = repr(check([TEXT.replace('"t"', f'"{name}"') for name, _, _ in cells])).split("\n")
         self.assertEqual(lines[1:], [cell + " " * (42 - columns) + "utf8" for _, cell, columns in cells])
 
-    def test_control_characters(self):
-        table = repr(check([TEXT.replace('"t"', '"a\\u001b[2J\\u0085\\nb"')]))
-        self.assertEqual(table, "column     holds  CRS  edges\na?[2J??b   utf8".replace("a?[2J??b  ", "a?[2J??b ").replace("column    ", "column   "))
+    def test_hidden_characters(self):
+        cell = r"a\u{1b}[2J\u{85}\u{a}\u{202e}b\u{feff}"
+        table = repr(check([TEXT.replace('"t"', r'"a\u001b[2J\u0085\n\u202eb\ufeff"')]))
+        self.assertEqual(table, f"{'column':<{len(cell)}}  holds  CRS  edges\n{cell}  utf8")
 
 
 class Behind(unittest.TestCase):

@@ -1,9 +1,9 @@
 //! The report of a file, as one value.
-ghost use Rattle.std.specs.Prelude.{◌≡◌, ◌==◌, ◌||◌, IfOk, length, map, not};
+ghost use Rattle.std.specs.Prelude.{◌≡◌, ◌==◌, ◌||◌, IfOk, is_some, length, map, not};
 ghost use Rattle.std.specs.List.{list_any, zip};
 ghost use Rattle.arrow_values.specs.Texts.{text_of};
 ghost use Rattle.arrow_columns.specs.Column.{column_tree};
-ghost use Rattle.column_check.specs.States.{is_invalid, is_geometry};
+ghost use Rattle.column_check.specs.States.{is_invalid, geometry_in};
 ghost use Rattle.geoparquet.specs.Facts.{facts_view};
 ghost use Rattle.column_reports.specs.Named.{all_known, named_view};
 ghost use Rattle.column_reports.specs.FileReport.{AreReported, is_lines, IsReport, Reports};
@@ -16,7 +16,7 @@ use crate::geo::source_of;
 use crate::lines::json_lines;
 use crate::named::{Named, named_in};
 use crate::report::{ColumnReport, Known, Options, column_with};
-use crate::summary::{Summary, has_error};
+use crate::summary::{Summary, has_error, holds_geometries};
 use crate::weighed::{Weighed, weigh};
 use crate::weights::Weights;
 use arrow_columns::SchemaColumn;
@@ -147,7 +147,7 @@ fn report_columns(
 /// Returns what counts of columns, of what is found of a file, and of its bad lines.
 fn summary_of(columns: &[ColumnReport], findings: &[Weighed<'_>], bad: &[BadLine]) -> Summary
     ensures invalid { result.has_invalid ≡ list_any (λ r. is_invalid r.finding) columns.now }
-    ensures geometry { result.has_geometry ≡ list_any (λ r. is_geometry r.finding) columns.now }
+    ensures geometry { result.has_geometry ≡ list_any (λ r. is_some (geometry_in r.finding)) columns.now }
     ensures failed { result.has_failed ≡ (list_any (λ r. has_error r.findings.items) columns.now || has_error findings.now) }
     ensures bad { result.has_bad_lines ≡ not (length bad.now == 0) }
 {
@@ -166,11 +166,11 @@ fn is_one_invalid(columns: &[ColumnReport]) -> bool
     columns.iter().any(|said| said.finding.is_invalid())
 }
 
-/// Whether one of some columns holds geometries by its extension name.
+/// Whether one of some columns holds geometries, or is taken for some.
 fn is_one_geometry(columns: &[ColumnReport]) -> bool
-    ensures { result ≡ list_any (λ r. is_geometry r.finding) columns.now }
+    ensures { result ≡ list_any (λ r. is_some (geometry_in r.finding)) columns.now }
 {
-    columns.iter().any(|said| said.finding.is_geometry())
+    columns.iter().any(|said| holds_geometries(&said.finding))
 }
 
 /// Whether an error is found of one of some columns.

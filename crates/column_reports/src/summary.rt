@@ -1,10 +1,11 @@
 //! What counts of a file for its status.
-ghost use Rattle.std.specs.Prelude.{◌≡◌, ◌||◌, false};
-ghost use Rattle.column_check.specs.States.{is_invalid, is_geometry};
+ghost use Rattle.std.specs.Prelude.{◌≡◌, ◌||◌, false, is_some};
+ghost use Rattle.column_check.specs.States.{is_invalid, geometry_in};
 ghost use Rattle.column_reports.specs.Summary.{has_error, status};
 
 use crate::report::ColumnReport;
 use crate::weighed::Weighed;
+use column_check::Finding;
 
 /// What counts of a file for its status: of its columns, of what is found of them and of it, and of
 /// its bad lines.
@@ -12,8 +13,7 @@ use crate::weighed::Weighed;
 pub struct Summary {
     /// Whether a column is invalid.
     pub has_invalid: bool,
-    /// Whether a column holds geometries by its extension name: its state is `geometry`, and not
-    /// `inferred`.
+    /// Whether a column holds geometries, or is taken for some: its state is `geometry` or `inferred`.
     pub has_geometry: bool,
     /// Whether a finding, of a column or of the file, counts as an error.
     pub has_failed: bool,
@@ -40,12 +40,12 @@ impl Summary {
     /// Adds what is said of one more column, and what is found of it.
     pub fn add(&mut self, said: &ColumnReport)
         ensures invalid { self.new.has_invalid ≡ (self.old.has_invalid || is_invalid said.now.finding) }
-        ensures geometry { self.new.has_geometry ≡ (self.old.has_geometry || is_geometry said.now.finding) }
+        ensures geometry { self.new.has_geometry ≡ (self.old.has_geometry || is_some (geometry_in said.now.finding)) }
         ensures failed { self.new.has_failed ≡ (self.old.has_failed || has_error said.now.findings.items) }
         ensures bad { self.new.has_bad_lines ≡ self.old.has_bad_lines }
     {
         self.has_invalid = self.has_invalid | said.finding.is_invalid();
-        self.has_geometry = self.has_geometry | said.finding.is_geometry();
+        self.has_geometry = self.has_geometry | holds_geometries(&said.finding);
         self.has_failed = self.has_failed | has_error(said.findings.as_slice());
     }
 
@@ -73,6 +73,13 @@ impl Summary {
             0
         }
     }
+}
+
+/// Returns whether a column holds geometries, or is taken for some.
+pub(crate) fn holds_geometries(finding: &Finding) -> bool
+    ensures { result ≡ is_some (geometry_in finding.now) }
+{
+    matches!(finding, Finding::Geometry(_) | Finding::Inferred(_))
 }
 
 /// Returns whether one of some findings counts as an error.

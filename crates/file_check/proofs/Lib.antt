@@ -1,4 +1,3 @@
-pub mod Marks
 pub mod Parts
 pub mod Blanks
 pub mod Fits

@@ -24,7 +24,7 @@ use std::alloc::{AllocError, Global};
 /// Returns the row of a column: its name; the kind, coordinate type and dimension of geometries, or
 /// the type of another column, and `invalid` or `extension` with the extension name; the CRS and the
 /// edges of geometries that count; and below it what is found of it (`docs/FORMAT.md`, 2.5 to 2.7).
-/// Cells are cut by [`cut`], and control characters are shown as `?`. Errs only when out of memory.
+/// Cells are cut by [`cut`], and hidden characters shown by their numbers. Errs only when out of memory.
 pub fn row_of(alloc: Global, report: &ColumnReport) -> Result<Row, AllocError>
     ensures { IfOk result (λ row. line_of row ≡ row_of report.now) }
 {

@@ -1,5 +1,6 @@
 //! What is told of a file, as commands of a workflow of GitHub (docs/FORMAT.md, 2.7).
 use crate::names::named;
+use crate::text::push_shown;
 use crate::told::Told;
 use column_check::Severity;
 use std::alloc::{AllocError, Global};
@@ -27,8 +28,7 @@ fn command(severity: Severity) -> &'static str {
     }
 }
 
-/// A text of a message or of a property, as a workflow reads it; a control character that it does not
-/// read is shown as `?`.
+/// A text of a message or of a property, as a workflow reads it, and else as it is shown.
 fn escaped(alloc: Global, text: &str, is_property: bool) -> Result<String, AllocError> {
     let mut escaped = String::with_capacity(alloc, text.len())?;
     for character in text.chars() {
@@ -38,8 +38,7 @@ fn escaped(alloc: Global, text: &str, is_property: bool) -> Result<String, Alloc
             '\n' => escaped.push_str("%0A")?,
             ':' if is_property => escaped.push_str("%3A")?,
             ',' if is_property => escaped.push_str("%2C")?,
-            _ if character.is_control() => escaped.push_str("?")?,
-            _ => escaped.push(character)?,
+            _ => push_shown(&mut escaped, character)?,
         }
     }
     Ok(escaped)
