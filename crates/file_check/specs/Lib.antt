@@ -9,4 +9,4 @@ pub mod Counted
 pub mod Made
 pub mod Printed
 pub mod Table
-pub mod Unlike
+pub mod Same

@@ -28,7 +28,6 @@ mod summary;
 mod table;
 mod text;
 mod told;
-mod unlike;
 mod wants;
 
 pub use asked::{Asked, Flags, Format, Output, Screen, Want};

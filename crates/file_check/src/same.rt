@@ -1,20 +1,21 @@
 //! What is printed of the differences of a file from the first: `--same` (docs/FORMAT.md, 2.9).
-ghost use Rattle.std.specs.Prelude.{◌≡◌, IfOk, OnOk, map};
+ghost use Rattle.std.specs.Prelude.{◌≡◌, IfOk, map};
+ghost use Rattle.std.specs.List.{list_any};
 ghost use Rattle.column_reports.specs.Weights.{weighing};
-ghost use Rattle.file_check.specs.Unlike.{IsStatus, status_of, unlike_view};
+ghost use Rattle.same_columns.specs.Unlike.{unlike_view};
+ghost use Rattle.file_check.specs.Same.{IsStatus, is_error, status_of};
 
 use crate::asked::{Asked, Output};
 use crate::names::named;
 use crate::numbers::{Numbers, Tally};
-use crate::print::push_line;
+use crate::rules::{NOT_SAME, Rule};
 use crate::said::{print_text, say};
 use crate::told::Told;
-use crate::unlike::{Unlike, Words, has_error, unlike_in};
-use json::Writer;
+use geoparquet::GeoCode;
+use same_columns::{SameCode, Unlike, Words, unlike_columns, unlike_lines};
 use std::alloc::{AllocError, Global};
 use std::io;
 use std::io::Write;
-use value_tokens::text_of;
 
 /// Compares the columns of the file that was read last, where they are kept, with those of the
 /// first file that was read: a difference is printed on `out` as a finding of the file, and
@@ -37,7 +38,8 @@ pub fn compare_columns<W: Write, E: Write>(
         tally.first = Some(last);
         return Ok(0);
     };
-    let unlike = unlike_in(alloc, asked, first.as_slice(), last.as_slice())?;
+    let weights = &asked.weights;
+    let unlike = unlike_columns(alloc, weights, first.as_slice(), last.as_slice())?;
     tally.first = Some(first);
     tally.add_found(numbers_of(unlike.as_slice()));
     print_unlike(alloc, asked, file, unlike.as_slice(), tally, out, err)?;
@@ -49,6 +51,13 @@ fn status_of(unlike: &[Unlike]) -> u8
     ensures { result ≡ status_of (map unlike_view unlike.now) }
 {
     if has_error(unlike) { 1 } else { 0 }
+}
+
+/// Returns whether a finding counts as an error.
+fn has_error(unlike: &[Unlike]) -> bool
+    ensures { result ≡ list_any (λ u. is_error (unlike_view u)) unlike.now }
+{
+    unlike.iter().any(|one| one.severity.is_error())
 }
 
 /// How many findings there are.
@@ -74,10 +83,7 @@ fn print_unlike<W: Write, E: Write>(
         let told = told_of(alloc, asked, unlike)?;
         return say(alloc, asked, file, told.as_slice(), tally, out, err);
     }
-    let mut text = String::new(alloc);
-    for one in unlike {
-        push_line(&mut text, unlike_line(alloc, named(file), one)?.as_str())?;
-    }
+    let text = unlike_lines(alloc, named(file), unlike)?;
     print_text(asked, text.as_str(), tally, out)
 }
 
@@ -88,10 +94,22 @@ fn told_of(alloc: Global, asked: &Asked, unlike: &[Unlike]) -> Result<Vec<Told>,
         if one.severity.is_error() || !asked.flags.quiet {
             let words = words_of(alloc, &one.words)?;
             let (name, words) = (one.column.as_str(), words.as_str());
-            told.push(Told::column(alloc, one.severity, one.rule, name, words)?)?;
+            let rule = rule_of(one.code);
+            told.push(Told::column(alloc, one.severity, rule, name, words)?)?;
         }
     }
     Ok(told)
+}
+
+/// Returns the rule of the code of a difference.
+fn rule_of(code: SameCode) -> Rule {
+    match code {
+        SameCode::NotSame => NOT_SAME,
+        SameCode::CrsNotCompared => Rule {
+            code: code.word(),
+            words: GeoCode::CrsNotCompared.rule(),
+        },
+    }
 }
 
 /// The words of a difference behind its place.
@@ -100,34 +118,5 @@ fn words_of(alloc: Global, words: &Words) -> Result<String, AllocError> {
     match words.found.as_deref() {
         Some(found) => format!(in alloc; "found {found}; expected {expected}. {help}"),
         None => format!(in alloc; "expected {expected}. {help}"),
-    }
-}
-
-/// The line of JSON of a difference.
-fn unlike_line(alloc: Global, file: Option<&str>, one: &Unlike) -> Result<String, AllocError> {
-    let mut out = Writer::new(Vec::new(alloc));
-    out.begin_object()?;
-    put_text(&mut out, "kind", Some("finding"))?;
-    put_text(&mut out, "severity", Some(one.severity.word()))?;
-    put_text(&mut out, "code", Some(one.rule.code))?;
-    put_text(&mut out, "file", file)?;
-    put_text(&mut out, "column", Some(one.column.as_str()))?;
-    put_text(&mut out, "found", one.words.found.as_deref())?;
-    put_text(&mut out, "expected", Some(one.words.expected.as_str()))?;
-    put_text(&mut out, "help", Some(one.words.help))?;
-    out.end_object()?;
-    Ok(text_of(out))
-}
-
-/// Writes a member whose value is a string, if there is one.
-fn put_text(out: &mut Writer, key: &str, text: Option<&str>) -> Result<(), AllocError>
-    ensures { OnOk result (out.new.before ≡ out.old.before) }
-{
-    match text {
-        Some(text) => {
-            out.key(key)?;
-            out.string(text)
-        }
-        None => Ok(()),
     }
 }

@@ -1,3 +1,4 @@
+mod Adding
 mod Printed
 mod Naming
 mod Joining

@@ -3,3 +3,5 @@ pub mod Aspects
 pub mod Ranks
 pub mod Differences
 pub mod Laws
+pub mod Unlike
+pub mod Lines

@@ -1,81 +1,91 @@
-//! In what the columns of a file are not those of the first file, as findings (docs/FORMAT.md,
-//! 2.9).
+//! The differences of a file from the first that are shown, as findings (docs/FORMAT.md, 2.9).
 ghost use Rattle.std.specs.Prelude.{◌≡◌, ◌++◌, IfOk, OnOk, flat_map, map, option_map, string_bytes, unwrap_or};
-ghost use Rattle.std.specs.List.{list_any};
 ghost use Rattle.arrow_columns.specs.Column.{column_tree};
 ghost use Rattle.column_reports.specs.Weights.{weighing};
 ghost use Rattle.geoparquet.specs.Facts.{crs_view, facts_view};
-ghost use Rattle.file_check.specs.Unlike.{AreUnlike, added, added_one, changed, changed_one, code_of, crs_text, is_error, missing, missing_one, other_crs, other_edges, other_encoding, other_type, said_of, shown_crs, shown_encoding, shown_type, unlike_of, unlike_view, weight_of, word_if, words_view};
+ghost use Rattle.same_columns.specs.Unlike.{AreUnlike, added, added_one, changed, changed_one, code_of, counted_code, crs_text, missing, missing_one, other_crs, other_edges, other_encoding, other_type, said_of, shown_crs, shown_encoding, shown_type, unlike_of, unlike_view, word_if, words_view};
 
-use crate::asked::Asked;
-use crate::rules::{NOT_SAME, Rule};
+use crate::code::SameCode;
+use crate::compare::differences;
+use crate::difference::{Aspect, Difference};
+use crate::facts::{edges_word, encoding_word};
 use arrow_columns::SchemaColumn;
 use column_check::{Severity, shown};
-use column_reports::ColumnReport;
-use geoparquet::{ColumnFacts, CrsFact, GeoCode};
-use same_columns::{Aspect, Difference, differences, edges_word, encoding_word};
+use column_reports::{ColumnReport, Weights};
+use geoparquet::{ColumnFacts, CrsFact};
 use std::alloc::{AllocError, Global};
 use value_tokens::JsonText;
 
 /// A difference that is shown, as a finding of the later file.
 #[derive(Debug, Drop)]
-pub(crate) struct Unlike {
+pub struct Unlike {
     /// How much it counts.
-    pub(crate) severity: Severity,
-    /// The code, and when it is told.
-    pub(crate) rule: Rule,
+    pub severity: Severity,
+    /// The code.
+    pub code: SameCode,
     /// The name of the column.
-    pub(crate) column: String,
+    pub column: String,
     /// What is said of it.
-    pub(crate) words: Words,
+    pub words: Words,
 }
 
 /// What is said of a difference.
 #[derive(Debug, Drop)]
-pub(crate) struct Words {
+pub struct Words {
     /// What the later file has, if something.
-    pub(crate) found: Option<String>,
+    pub found: Option<String>,
     /// What the first file has.
-    pub(crate) expected: String,
+    pub expected: String,
     /// What differs.
-    pub(crate) help: &'static str,
+    pub help: &'static str,
 }
 
-/// Whether a finding counts as an error.
-pub(crate) fn has_error(unlike: &[Unlike]) -> bool
-    ensures { result ≡ list_any (λ u. is_error (unlike_view u)) unlike.now }
-{
-    unlike.iter().any(|one| one.severity.is_error())
-}
-
-/// The findings of a file with these columns that are shown, of which the first file has those.
-pub(crate) fn unlike_in(
+/// Returns the findings of a file with these columns that are shown, of which the first file has
+/// those: one for each of the [`differences`], in their order, unless it does not count by what is
+/// asked of findings. Errs only when out of memory.
+///
+/// ```rust
+/// let column = SchemaColumn {
+///     name: String::from_str(alloc, "id")?,
+///     nullable: true,
+///     data_type: AnyType::Data(DataType::Int64),
+///     metadata: BTreeMap::new(alloc),
+/// };
+/// let options = Options { infer: false, notes: false };
+/// let report = report_column(alloc, &mut Scratch::new(alloc), column, options)?;
+/// let first = vec![in alloc; report]?;
+/// let weights = Weights::new(alloc, false);
+/// let found = unlike_columns(alloc, &weights, first.as_slice(), &[])?;
+/// assert_eq!(rt; found.as_slice()[0].code, SameCode::NotSame);
+/// assert_eq!(rt; found.as_slice()[0].words.expected.as_str(), "int64");
+/// ```
+pub fn unlike_columns(
     alloc: Global,
-    asked: &Asked,
+    weights: &Weights,
     first: &[ColumnReport],
     last: &[ColumnReport],
 ) -> Result<Vec<Unlike>, AllocError>
-    ensures { IfOk result (λ unlike. AreUnlike (weighing asked.now.weights) first.now last.now (map unlike_view unlike.items)) }
+    ensures { IfOk result (λ unlike. AreUnlike (weighing weights.now) first.now last.now (map unlike_view unlike.items)) }
 {
     let found = differences(alloc, first, last)?;
     let mut unlike = Vec::new(alloc);
-    add_all(alloc, asked, first, last, found.as_slice(), &mut unlike)?;
+    add_all(alloc, weights, first, last, found.as_slice(), &mut unlike)?;
     Ok(unlike)
 }
 
 /// Adds the findings of differences that are shown.
 fn add_all(
     alloc: Global,
-    asked: &Asked,
+    weights: &Weights,
     first: &[ColumnReport],
     last: &[ColumnReport],
     found: &[Difference],
     unlike: &mut Vec<Unlike>,
 ) -> Result<(), AllocError>
-    ensures { OnOk result (map unlike_view unlike.new.items ≡ map unlike_view unlike.old.items ++ flat_map (unlike_of (weighing asked.now.weights) first.now last.now) found.now) }
+    ensures { OnOk result (map unlike_view unlike.new.items ≡ map unlike_view unlike.old.items ++ flat_map (unlike_of (weighing weights.now) first.now last.now) found.now) }
 {
     'found: for difference in found {
-        add_unlike(alloc, asked, first, last, *difference, unlike)?;
+        add_unlike(alloc, weights, first, last, *difference, unlike)?;
     }
     Ok(())
 }
@@ -83,21 +93,21 @@ fn add_all(
 /// Adds the finding of a difference, if it is shown.
 fn add_unlike(
     alloc: Global,
-    asked: &Asked,
+    weights: &Weights,
     first: &[ColumnReport],
     last: &[ColumnReport],
     difference: Difference,
     unlike: &mut Vec<Unlike>,
 ) -> Result<(), AllocError>
-    ensures { OnOk result (map unlike_view unlike.new.items ≡ map unlike_view unlike.old.items ++ unlike_of (weighing asked.now.weights) first.now last.now difference) }
+    ensures { OnOk result (map unlike_view unlike.new.items ≡ map unlike_view unlike.old.items ++ unlike_of (weighing weights.now) first.now last.now difference) }
 {
-    let rule = rule_of(difference);
-    let severity = asked.weights.severity_of(rule.code, weight_of(difference));
+    let code = code_of(difference);
+    let severity = counted_code(weights, code);
     let said = said_of(alloc, difference, first, last)?;
     if let (Some(severity), Some((column, words))) = (severity, said) {
         unlike.push(Unlike {
             severity,
-            rule,
+            code,
             column,
             words,
         })?;
@@ -105,30 +115,24 @@ fn add_unlike(
     Ok(())
 }
 
-/// The rule of a difference.
-fn rule_of(difference: Difference) -> Rule
-    ensures { result.code.now ≡ code_of difference }
+/// Returns how much a finding of a code counts, by what is asked of findings.
+fn counted_code(weights: &Weights, code: SameCode) -> Option<Severity>
+    ensures { result ≡ counted_code (weighing weights.now) code }
+{
+    weights.severity_of(code.word(), code.severity())
+}
+
+/// Returns the code of a difference.
+fn code_of(difference: Difference) -> SameCode
+    ensures { result ≡ code_of difference }
 {
     match difference {
-        Difference::InBoth(_, _, Aspect::CrsNotCompared) => Rule {
-            code: GeoCode::CrsNotCompared.code(),
-            words: GeoCode::CrsNotCompared.rule(),
-        },
-        _ => NOT_SAME,
+        Difference::InBoth(_, _, Aspect::CrsNotCompared) => SameCode::CrsNotCompared,
+        _ => SameCode::NotSame,
     }
 }
 
-/// How much a difference weighs.
-fn weight_of(difference: Difference) -> Severity
-    ensures { result ≡ weight_of difference }
-{
-    match difference {
-        Difference::InBoth(_, _, Aspect::CrsNotCompared) => Severity::Note,
-        _ => Severity::Error,
-    }
-}
-
-/// The name of the column that a difference is of, and what is said of it.
+/// Returns the name of the column that a difference is of, and what is said of it.
 fn said_of(
     alloc: Global,
     difference: Difference,
@@ -146,7 +150,7 @@ fn said_of(
     }
 }
 
-/// What is said of a column that only the first file has.
+/// Returns what is said of a column that only the first file has.
 fn missing_one(
     alloc: Global,
     report: Option<&ColumnReport>,
@@ -159,7 +163,7 @@ fn missing_one(
     }
 }
 
-/// What is said of a column that the first file lacks.
+/// Returns what is said of a column that the first file lacks.
 fn added_one(
     alloc: Global,
     report: Option<&ColumnReport>,
@@ -172,7 +176,7 @@ fn added_one(
     }
 }
 
-/// What is said of a column that is another in the first file, in that.
+/// Returns what is said of a column that is another in the first file, in that.
 fn changed_one(
     alloc: Global,
     aspect: Aspect,
@@ -190,14 +194,14 @@ fn changed_one(
     }
 }
 
-/// The name of a column.
+/// Returns the name of a column.
 fn name_of(alloc: Global, report: &ColumnReport) -> Result<String, AllocError>
     ensures { IfOk result (λ name. string_bytes name ≡ string_bytes report.now.column.name) }
 {
     String::from_str(alloc, report.column.name.as_str())
 }
 
-/// The words of a column that only the first file has.
+/// Returns the words of a column that only the first file has.
 fn missing(alloc: Global, column: &SchemaColumn) -> Result<Words, AllocError>
     ensures { IfOk result (λ words. words_view words ≡ missing (column_tree column.now)) }
 {
@@ -208,7 +212,7 @@ fn missing(alloc: Global, column: &SchemaColumn) -> Result<Words, AllocError>
     })
 }
 
-/// The words of a column that the first file lacks.
+/// Returns the words of a column that the first file lacks.
 fn added(alloc: Global, column: &SchemaColumn) -> Result<Words, AllocError>
     ensures { IfOk result (λ words. words_view words ≡ added (column_tree column.now)) }
 {
@@ -219,7 +223,7 @@ fn added(alloc: Global, column: &SchemaColumn) -> Result<Words, AllocError>
     })
 }
 
-/// The words of a column that is another in the first file, in that.
+/// Returns the words of a column that is another in the first file, in that.
 fn changed(
     alloc: Global,
     aspect: Aspect,
@@ -243,7 +247,7 @@ fn changed(
     }
 }
 
-/// The words of a column that has another type in the first file.
+/// Returns the words of a column that has another type in the first file.
 fn other_type(alloc: Global, first: &SchemaColumn, last: &SchemaColumn) -> Result<Words, AllocError>
     ensures { IfOk result (λ words. words_view words ≡ other_type (column_tree first.now) (column_tree last.now)) }
 {
@@ -254,7 +258,7 @@ fn other_type(alloc: Global, first: &SchemaColumn, last: &SchemaColumn) -> Resul
     })
 }
 
-/// The words of a column that has another encoding in the first file.
+/// Returns the words of a column that has another encoding in the first file.
 fn other_encoding(
     alloc: Global,
     first: &SchemaColumn,
@@ -269,7 +273,7 @@ fn other_encoding(
     })
 }
 
-/// The words of a column that has other edges in the first file.
+/// Returns the words of a column that has other edges in the first file.
 fn other_edges(alloc: Global, first: &ColumnFacts, last: &ColumnFacts) -> Result<Words, AllocError>
     ensures { IfOk result (λ words. words_view words ≡ other_edges (facts_view first.now) (facts_view last.now)) }
 {
@@ -280,7 +284,7 @@ fn other_edges(alloc: Global, first: &ColumnFacts, last: &ColumnFacts) -> Result
     })
 }
 
-/// The words of a column that has another CRS in the first file, or may have.
+/// Returns the words of a column that has another CRS in the first file, or may have.
 fn other_crs(
     alloc: Global,
     help: &'static str,
@@ -296,7 +300,7 @@ fn other_crs(
     })
 }
 
-/// A text, or another where there is none.
+/// Returns a text, or another where there is none.
 fn or_none(alloc: Global, text: Option<String>, none: &str) -> Result<String, AllocError>
     ensures { IfOk result (λ made. string_bytes made ≡ unwrap_or (option_map string_bytes text) none.now) }
 {
@@ -306,7 +310,7 @@ fn or_none(alloc: Global, text: Option<String>, none: &str) -> Result<String, Al
     }
 }
 
-/// The type of a column, as a finding shows it.
+/// Returns the type of a column, as a finding shows it.
 fn type_shown(alloc: Global, column: &SchemaColumn) -> Result<String, AllocError>
     ensures { IfOk result (λ text. string_bytes text ≡ shown_type (column_tree column.now)) }
 {
@@ -314,14 +318,14 @@ fn type_shown(alloc: Global, column: &SchemaColumn) -> Result<String, AllocError
     shown(alloc, text.as_str())
 }
 
-/// The encoding of a column, if its extension name says one.
+/// Returns the encoding of a column, if its extension name says one.
 fn encoding_shown(alloc: Global, column: &SchemaColumn) -> Result<Option<String>, AllocError>
     ensures { IfOk result (λ text. option_map string_bytes text ≡ shown_encoding (column_tree column.now)) }
 {
     word_if(alloc, encoding_word(column))
 }
 
-/// A word, if it is not empty.
+/// Returns a word, if it is not empty.
 fn word_if(alloc: Global, word: &str) -> Result<Option<String>, AllocError>
     ensures { IfOk result (λ text. option_map string_bytes text ≡ word_if word.now) }
 {
@@ -331,8 +335,8 @@ fn word_if(alloc: Global, word: &str) -> Result<Option<String>, AllocError>
     Ok(Some(String::from_str(alloc, word)?))
 }
 
-/// The CRS of a column, as a finding shows it: null where it is not known, and none where no source
-/// says any.
+/// Returns the CRS of a column, as a finding shows it: null where it is not known, and none where no
+/// source says any.
 fn crs_shown(alloc: Global, fact: Option<&CrsFact>) -> Result<Option<String>, AllocError>
     ensures { IfOk result (λ text. option_map string_bytes text ≡ shown_crs (option_map (λ f. crs_view f.now) fact.entry)) }
 {
@@ -342,7 +346,7 @@ fn crs_shown(alloc: Global, fact: Option<&CrsFact>) -> Result<Option<String>, Al
     }
 }
 
-/// A CRS, as a finding shows it: null where it is not known.
+/// Returns a CRS, as a finding shows it: null where it is not known.
 fn crs_text(alloc: Global, crs: Option<&JsonText>) -> Result<String, AllocError>
     ensures { IfOk result (λ text. string_bytes text ≡ crs_text (option_map (λ c. c.now) crs.entry)) }
 {

@@ -1,15 +1,12 @@
--- In what the columns of a file are not those of the first file, as findings (docs/FORMAT.md, 2.9).
-use Rattle.std.specs.Prelude.{◌≡◌, ℕ, Bool, List, [], ◌∷◌, codes, flat_map, map, Option, None, Some, option_map, string_bytes, unwrap_or, if◌then◌else◌}
-use Rattle.std.specs.List.{list_any, slice_get}
-use Rattle.std.specs.declared.vec.Vec.{Vec}
-use Rattle.std.specs.declared.alloc.Global.{Global}
+-- The differences of a file from the first that are shown, as findings (docs/FORMAT.md, 2.9).
+use Rattle.std.specs.Prelude.{◌≡◌, List, [], ◌∷◌, codes, flat_map, map, Option, None, Some, option_map, string_bytes, unwrap_or}
+use Rattle.std.specs.List.{slice_get}
 use Rattle.json.specs.Json.{Json}
 use Rattle.arrow_values.specs.Tree.{Text}
 use Rattle.arrow_columns.specs.Column.{column_tree}
 use Rattle.arrow_columns.specs.Types.{ColumnTree}
 use Rattle.arrow_columns.specs.Notation.{type_text}
 use Rattle.column_check.specs.Shown.{shown, shown_value}
-use Rattle.column_check.specs.Severities.{is_error_of}
 use Rattle.column_check.specs.declared.code.Severity.{Severity}
 use Rattle.column_check.specs.declared.code.Severity.TheVariants.{Error, Note}
 use Rattle.column_reports.specs.Weights.{Weighing, counts_as}
@@ -17,12 +14,30 @@ use Rattle.column_reports.specs.declared.report.ColumnReport.{ColumnReport}
 use Rattle.geoparquet.specs.Facts.{CrsOf, FactsOf, facts_view}
 use Rattle.same_columns.specs.Compared.{compared, edges_word, encoding_word}
 use Rattle.same_columns.specs.Differences.{AreDifferences}
+use Rattle.same_columns.specs.declared.code.SameCode.{SameCode}
+use Rattle.same_columns.specs.declared.code.SameCode.TheVariants as codes_of
 use Rattle.same_columns.specs.declared.difference.Aspect.{Aspect}
 use Rattle.same_columns.specs.declared.difference.Aspect.TheVariants as in_what
 use Rattle.same_columns.specs.declared.difference.Difference.{Difference}
 use Rattle.same_columns.specs.declared.difference.Difference.TheVariants.{OnlyInFirst, OnlyInOther, InBoth}
-use Rattle.file_check.specs.declared.unlike.Unlike.{Unlike}
-use Rattle.file_check.specs.declared.unlike.Words.{Words}
+use Rattle.same_columns.specs.declared.unlike.Unlike.{Unlike}
+use Rattle.same_columns.specs.declared.unlike.Words.{Words}
+
+-- ---- the codes
+
+abbrev pub code_text : SameCode → Text
+code_text codes_of.NotSame = codes "NotSame"
+code_text codes_of.CrsNotCompared = codes "CrsNotCompared"
+
+-- how much one weighs
+abbrev pub severity_of : SameCode → Severity
+severity_of codes_of.NotSame = Error
+severity_of codes_of.CrsNotCompared = Note
+
+-- that of a difference
+abbrev pub code_of : Difference → SameCode
+code_of (InBoth first other in_what.CrsNotCompared) = codes_of.CrsNotCompared
+code_of d = codes_of.NotSame
 
 -- ---- what is said of a difference: what the later file has, what the first has, and what differs
 
@@ -79,17 +94,6 @@ changed in_what.Crs first last = other_crs (codes "The first file has another CR
 changed in_what.CrsNotCompared first last =
     other_crs (codes "Nothing tells whether the CRS of the first file is this one.") (facts_view first.facts) (facts_view last.facts)
 
--- ---- the findings
-
--- the code of a difference, and how much it weighs
-abbrev pub code_of : Difference → Text
-code_of (InBoth first other in_what.CrsNotCompared) = codes "CrsNotCompared"
-code_of d = codes "NotSame"
-
-abbrev pub weight_of : Difference → Severity
-weight_of (InBoth first other in_what.CrsNotCompared) = Note
-weight_of d = Error
-
 -- the name of the column that it is of, and what is said of it
 abbrev pub missing_one : Option ColumnReport → Option (Text × WordsOf)
 missing_one None = None
@@ -108,42 +112,35 @@ said_of firsts lasts (OnlyInFirst place) = missing_one (slice_get firsts place)
 said_of firsts lasts (OnlyInOther place) = added_one (slice_get lasts place)
 said_of firsts lasts (InBoth first last aspect) = changed_one aspect (slice_get firsts first) (slice_get lasts last)
 
+-- ---- the findings
+
 pub record UnlikeOf : Type 0 where
   pub severity : Severity
-  pub code : Text
+  pub code : SameCode
   pub column : Text
   pub words : WordsOf
 
 -- a difference as a finding, if it is shown
-abbrev pub unlike_if : Text → Option Severity → Option (Text × WordsOf) → List UnlikeOf
+abbrev pub unlike_if : SameCode → Option Severity → Option (Text × WordsOf) → List UnlikeOf
 unlike_if code (Some severity) (Some s) = record { severity = severity; code = code; column = s.0; words = s.1 } ∷ []
 unlike_if code _ _ = []
 
+-- how much one of a code counts, by what is asked of findings
+abbrev pub counted_code : Weighing → SameCode → Option Severity
+counted_code w code = counts_as w (code_text code) (severity_of code)
+
 abbrev pub unlike_of : Weighing → List ColumnReport → List ColumnReport → Difference → List UnlikeOf
-unlike_of w firsts lasts d = unlike_if (code_of d) (counts_as w (code_of d) (weight_of d)) (said_of firsts lasts d)
+unlike_of w firsts lasts d = unlike_if (code_of d) (counted_code w (code_of d)) (said_of firsts lasts d)
 
 -- the findings of a file with these columns, of which the first file has those
 abbrev pub AreUnlike : Weighing → List ColumnReport → List ColumnReport → List UnlikeOf → Type 0
 AreUnlike w firsts lasts us =
     (ds : List Difference) × AreDifferences (map compared firsts) (map compared lasts) ds × (us ≡ flat_map (unlike_of w firsts lasts) ds)
 
--- ---- the status
-
-abbrev pub is_error : UnlikeOf → Bool
-is_error u = is_error_of u.severity
-
-abbrev pub status_of : List UnlikeOf → ℕ
-status_of us = if list_any is_error us then 1 else 0
-
--- the status of a file whose columns are kept, where those of the first file are kept too
-abbrev pub IsStatus : Weighing → Option (Vec ColumnReport Global) → Option (Vec ColumnReport Global) → ℕ → Type 0
-IsStatus w (Some firsts) (Some lasts) status = (us : List UnlikeOf) × AreUnlike w firsts.items lasts.items us × (status ≡ status_of us)
-IsStatus w first last status = status ≡ 0
-
--- ---- for private contracts
+-- ---- as they are held
 
 abbrev pub words_view : Words → WordsOf
 words_view w = record { found = option_map string_bytes w.found; expected = string_bytes w.expected; help = w.help.now }
 
 abbrev pub unlike_view : Unlike → UnlikeOf
-unlike_view u = record { severity = u.severity; code = u.rule.code.now; column = string_bytes u.column; words = words_view u.words }
+unlike_view u = record { severity = u.severity; code = u.code; column = string_bytes u.column; words = words_view u.words }
