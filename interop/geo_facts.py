@@ -37,6 +37,13 @@ def members_of(geo, columns, elements):
             for place, name in enumerate(names)]
 
 
+def covered_names(geo):
+    """The names of columns that paths of coverings name."""
+    value = value_at_geo(geo)
+    members = value.get("columns") if isinstance(value, Members) else None
+    return geo_findings.names_of_coverings(members) if isinstance(members, Members) else []
+
+
 def member_of(judged, version, name, value):
     if not isinstance(value, Members):
         return None

@@ -231,11 +231,15 @@ def add_columns(judged, members, is_whole):
         judged.add("GeoPrimaryColumn", None, ("primary_column",))
 
 
+def names_of_coverings(members):
+    """What stands first in the paths of coverings, where something does."""
+    return [at(members.get(key), "covering", "bbox", bound, 0) for key in members.keys() for bound in HIGH]
+
+
 def add_undeclared(judged, members):
     """The columns that hold geometries by their element or their field, and have no member, but for
     boxes and the columns of coverings."""
-    paths = [at(members.get(key), "covering", "bbox", bound, 0)
-             for key in members.keys() for bound in HIGH]
+    paths = names_of_coverings(members)
     for column, element in zip(judged.columns, judged.elements):
         is_geometry = says(element) or encoding_claim(column) not in (None, "box")
         name = column["name"]

@@ -1,5 +1,5 @@
 -- What is found by each source, one behind another.
-use Rattle.std.specs.Prelude.{◌&&◌, Bool, true, false, List, [], ◌∷◌, ◌++◌, flat_map, map, if◌then◌else◌}
+use Rattle.std.specs.Prelude.{◌&&◌, ◌||◌, Bool, true, false, List, [], ◌∷◌, ◌++◌, flat_map, map, if◌then◌else◌}
 use Rattle.arrow_columns.specs.Types.{ColumnTree}
 use Rattle.std.specs.List.{list_any}
 use Rattle.column_files.specs.declared.form.Form.{Form}
@@ -25,9 +25,12 @@ use Rattle.column_reports.specs.declared.named.NamedBy.TheVariants.{Element}
 abbrev pub if_told : Known → ColumnTree → Warning → List Finding
 if_told k c w = if is_told k c w then Column k.by w ∷ [] else []
 
--- whether a code stands behind `CrsMalformed` in the order of codes
+-- whether a code is `CrsEmpty`, or stands behind it in the order of codes, in which it stands behind `CrsMalformed`
+abbrev pub is_empty : WarningCode → Bool
+is_empty CrsEmpty = true
+is_empty code = false
+
 abbrev pub is_behind : WarningCode → Bool
-is_behind CrsEmpty = true
 is_behind CrsTypeContradicts = true
 is_behind CrsWkt1 = true
 is_behind CrsWithoutType = true
@@ -35,14 +38,17 @@ is_behind CrsNumber = true
 is_behind CrsNotWhole = true
 is_behind code = false
 
--- what is told by itself, with a code up to that, or behind it
+-- what is told by itself, with a code up to `CrsMalformed`, with `CrsEmpty`, or with one behind that
 abbrev pub if_before : Known → ColumnTree → Warning → List Finding
-if_before k c w = if is_behind w.code then [] else if_told k c w
+if_before k c w = if is_empty w.code || is_behind w.code then [] else if_told k c w
+
+abbrev pub if_empty : Known → ColumnTree → Warning → List Finding
+if_empty k c w = if is_empty w.code then if_told k c w else []
 
 abbrev pub if_behind : Known → ColumnTree → Warning → List Finding
 if_behind k c w = if is_behind w.code then if_told k c w else []
 
--- of what is found of the extension metadata that its element says beside it, that the CRS is no PROJJSON
+-- of what is found of the extension metadata that its element says beside it: that the CRS is no PROJJSON; that it is an empty text
 abbrev pub is_malformed : WarningCode → Bool
 is_malformed CrsMalformed = true
 is_malformed code = false
@@ -50,9 +56,17 @@ is_malformed code = false
 abbrev pub if_malformed : Warning → List Finding
 if_malformed w = if is_malformed w.code then Column Element w ∷ [] else []
 
+abbrev pub if_empty_beside : Warning → List Finding
+if_empty_beside w = if is_empty w.code then Column Element w ∷ [] else []
+
 -- what is found of a column of which that is known, in the order of codes: of itself that, and of what its element says beside it that
 abbrev pub of_column : Known → ColumnTree → List Warning → List Warning → List Finding
-of_column k c own beside = (flat_map (if_before k c) own ++ flat_map if_malformed beside) ++ flat_map (if_behind k c) own
+of_column k c own beside =
+    flat_map (if_before k c) own
+    ++ flat_map if_malformed beside
+    ++ flat_map (if_empty k c) own
+    ++ flat_map if_empty_beside beside
+    ++ flat_map (if_behind k c) own
 
 -- the code of a key in other letters, and that of missing metadata
 abbrev pub is_no_geo_metadata : FileCode → Bool

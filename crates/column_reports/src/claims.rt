@@ -42,8 +42,7 @@ pub(crate) fn claims_of(
     let mut columns = columns;
     match columns.pop() {
         Some(column) => Ok(Claimed { column, findings }),
-        // The answer has the column.
-        None => Err(AllocError),
+        None => unreachable!(),
     }
 }
 

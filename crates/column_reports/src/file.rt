@@ -67,8 +67,8 @@ pub fn report_of<'a>(
 }
 
 /// Returns the report of a file that was opened, as [`report_of`] does, but that findings count by
-/// what is asked of them. A column without an extension name is taken for what is inferred from its
-/// data type, if `infer` says so. Errs only when out of memory.
+/// what is asked of them. A column without an extension name, which no covering names, is taken for
+/// what is inferred from its data type, if `infer` says so. Errs only when out of memory.
 pub fn weighed_report<'a>(
     alloc: Global,
     opened: File<'a>,

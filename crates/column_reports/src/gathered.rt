@@ -4,7 +4,7 @@ ghost use Rattle.std.specs.List.{list_any};
 ghost use Rattle.arrow_columns.specs.Column.{column_tree};
 ghost use Rattle.geoparquet.specs.Facts.{facts_view};
 ghost use Rattle.column_reports.specs.Named.{is_told, is_told_beside_geo, known, named_view};
-ghost use Rattle.column_reports.specs.Gathered.{if_told, if_before, if_behind, if_malformed, is_behind, of_column, of_texts, of_footer, is_of_letters, if_first, of_geo, geo_told, of_file};
+ghost use Rattle.column_reports.specs.Gathered.{if_told, if_before, if_empty, if_behind, if_malformed, if_empty_beside, is_empty, is_behind, of_column, of_texts, of_footer, is_of_letters, if_first, of_geo, geo_told, of_file};
 
 use crate::finding::Finding;
 use crate::named::{Named, NamedBy};
@@ -16,9 +16,20 @@ use parquet_columns::{FileCode, FileFinding};
 use parquet_footer::FooterFinding;
 use std::alloc::{AllocError, Global};
 
+/// Findings of a column, by the place of their codes.
+#[derive(Drop)]
+struct Parted {
+    /// Those with a code up to `CrsMalformed`.
+    before: Vec<Finding<'static>>,
+    /// Those with `CrsEmpty`.
+    empty: Vec<Finding<'static>>,
+    /// Those with a code behind that.
+    behind: Vec<Finding<'static>>,
+}
+
 /// Returns what is found of a column of those facts, which has its extension name by that, as
 /// findings: of itself, but what is told of its member of `columns`; and that the CRS that its
-/// element says beside it is no PROJJSON. Errs only when out of memory.
+/// element says beside it is no PROJJSON, or an empty text. Errs only when out of memory.
 pub(crate) fn of_column(
     alloc: Global,
     named: Named<'_>,
@@ -29,34 +40,80 @@ pub(crate) fn of_column(
 ) -> Result<Vec<Finding<'static>>, AllocError>
     ensures { IfOk result (λ all. all.items ≡ of_column (known (facts_view facts.now, named_view named.entry)) (column_tree column.now) own.items beside.items) }
 {
-    let mut all = Vec::new(alloc);
-    let mut behind = Vec::new(alloc);
+    let mut parted = Parted {
+        before: Vec::new(alloc),
+        empty: Vec::new(alloc),
+        behind: Vec::new(alloc),
+    };
     for warning in own {
-        add_by_order(&mut all, &mut behind, named, facts, column, warning)?;
+        add_by_order(&mut parted, named, facts, column, warning)?;
     }
-    add_malformed(&mut all, beside)?;
-    add_behind(&mut all, behind)?;
-    Ok(all)
+    joined(alloc, parted, beside)
 }
 
-/// Adds a finding of a column, if it is told of it, to those before, or to those behind what is found
-/// of a CRS that is no PROJJSON.
+/// Adds a finding of a column, if it is told of it, to those of the place of its code.
 fn add_by_order(
-    all: &mut Vec<Finding<'static>>,
-    behind: &mut Vec<Finding<'static>>,
+    parted: &mut Parted,
     named: Named<'_>,
     facts: &ColumnFacts,
     column: &SchemaColumn,
     warning: Warning,
 ) -> Result<(), AllocError>
-    ensures before { OnOk result (all.new.items ≡ all.old.items ++ if_before (known (facts_view facts.now, named_view named.entry)) (column_tree column.now) warning) }
-    ensures behind { OnOk result (behind.new.items ≡ behind.old.items ++ if_behind (known (facts_view facts.now, named_view named.entry)) (column_tree column.now) warning) }
+    ensures before { OnOk result (parted.new.before.items ≡ parted.old.before.items ++ if_before (known (facts_view facts.now, named_view named.entry)) (column_tree column.now) warning) }
+    ensures empty { OnOk result (parted.new.empty.items ≡ parted.old.empty.items ++ if_empty (known (facts_view facts.now, named_view named.entry)) (column_tree column.now) warning) }
+    ensures behind { OnOk result (parted.new.behind.items ≡ parted.old.behind.items ++ if_behind (known (facts_view facts.now, named_view named.entry)) (column_tree column.now) warning) }
 {
-    if is_behind(warning.code) {
-        add_told(behind, named, facts, column, warning)
+    if is_empty(warning.code) {
+        add_told(&mut parted.empty, named, facts, column, warning)
+    } else if is_behind(warning.code) {
+        add_told(&mut parted.behind, named, facts, column, warning)
     } else {
-        add_told(all, named, facts, column, warning)
+        add_told(&mut parted.before, named, facts, column, warning)
     }
+}
+
+/// Returns findings of a column, among which stands, behind those of the same code, that the CRS
+/// that its element says beside it is no PROJJSON, or an empty text. Errs only when out of memory.
+fn joined(
+    alloc: Global,
+    parted: Parted,
+    beside: Vec<Warning>,
+) -> Result<Vec<Finding<'static>>, AllocError>
+    ensures { IfOk result (λ all. all.items ≡ parted.before.items ++ flat_map if_malformed beside.items
+        ++ parted.empty.items ++ flat_map if_empty_beside beside.items ++ parted.behind.items) }
+{
+    let Parted {
+        before,
+        empty,
+        behind,
+    } = parted;
+    let mut all = before;
+    let mut empties = Vec::new(alloc);
+    for warning in beside {
+        add_beside(&mut all, &mut empties, warning)?;
+    }
+    add_behind(&mut all, empty)?;
+    add_behind(&mut all, empties)?;
+    add_behind(&mut all, behind)?;
+    Ok(all)
+}
+
+/// Adds a finding of extension metadata that an element says: of a CRS that is no PROJJSON to those
+/// before, of one that is an empty text to those of such texts.
+fn add_beside(
+    before: &mut Vec<Finding<'static>>,
+    empty: &mut Vec<Finding<'static>>,
+    warning: Warning,
+) -> Result<(), AllocError>
+    ensures before { OnOk result (before.new.items ≡ before.old.items ++ if_malformed warning) }
+    ensures empty { OnOk result (empty.new.items ≡ empty.old.items ++ if_empty_beside warning) }
+{
+    match warning.code {
+        WarningCode::CrsMalformed => before.push(Finding::Column(NamedBy::Element, warning))?,
+        WarningCode::CrsEmpty => empty.push(Finding::Column(NamedBy::Element, warning))?,
+        _ => {}
+    }
+    Ok(())
 }
 
 /// Adds a finding of a column, if it is told of it.
@@ -75,40 +132,25 @@ fn add_told(
     Ok(())
 }
 
-/// Whether a code stands behind `CrsMalformed` in the order of codes.
+/// Whether a code is that of a CRS that is an empty text.
+fn is_empty(code: WarningCode) -> bool
+    ensures { result ≡ is_empty code }
+{
+    matches!(code, WarningCode::CrsEmpty)
+}
+
+/// Whether a code stands behind `CrsEmpty` in the order of codes.
 fn is_behind(code: WarningCode) -> bool
     ensures { result ≡ is_behind code }
 {
     matches!(
         code,
-        WarningCode::CrsEmpty
-            | WarningCode::CrsTypeContradicts
+        WarningCode::CrsTypeContradicts
             | WarningCode::CrsWkt1
             | WarningCode::CrsWithoutType
             | WarningCode::CrsNumber
             | WarningCode::CrsNotWhole
     )
-}
-
-/// Adds of what is found of the extension metadata that an element says beside a field that the CRS
-/// is no PROJJSON.
-fn add_malformed(all: &mut Vec<Finding<'static>>, beside: Vec<Warning>) -> Result<(), AllocError>
-    ensures { OnOk result (all.new.items ≡ all.old.items ++ flat_map if_malformed beside.items) }
-{
-    for warning in beside {
-        add_if_malformed(all, warning)?;
-    }
-    Ok(())
-}
-
-/// Adds a finding of extension metadata that an element says, if it is of a CRS that is no PROJJSON.
-fn add_if_malformed(all: &mut Vec<Finding<'static>>, warning: Warning) -> Result<(), AllocError>
-    ensures { OnOk result (all.new.items ≡ all.old.items ++ if_malformed warning) }
-{
-    if matches!(warning.code, WarningCode::CrsMalformed) {
-        all.push(Finding::Column(NamedBy::Element, warning))?;
-    }
-    Ok(())
 }
 
 /// Adds findings behind others.

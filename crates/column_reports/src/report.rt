@@ -23,7 +23,8 @@ use std::alloc::{AllocError, Global};
 /// What is asked of a report.
 #[derive(Debug, Clone, Copy)]
 pub struct Options {
-    /// Whether a column without an extension name is taken for what is inferred from its data type.
+    /// Whether a column without an extension name, which no covering names, is taken for what is
+    /// inferred from its data type.
     pub infer: bool,
     /// Whether notes stand among the findings (docs/FORMAT.md, 2.6).
     pub notes: bool,
@@ -143,7 +144,8 @@ fn claimed_column(
 {
     let Claimed { column, findings } = claimed;
     let Known { facts, named, .. } = about;
-    let finding = said_of(alloc, scratch, &column, named.by, infer)?;
+    let inferred = infer && !facts.covered;
+    let finding = said_of(alloc, scratch, &column, named.by, inferred)?;
     let own = warnings(alloc, &column, &finding, true)?;
     let beside = warnings_beside(alloc, scratch, named.beside)?;
     let mut told = of_column(alloc, named, &facts, &column, own, beside)?;

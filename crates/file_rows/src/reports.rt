@@ -1,9 +1,9 @@
 //! Rows of reports: calls of `column_reports`, and so of the crates that read files and say what
 //! columns hold. A row's text is lines of fields, with ` & ` between them in place of line feeds;
-//! under `report_file`, `report_file_noted`, `file_words` and `report_size` it is the bytes of a file
-//! in hexadecimal digits, under `differences` and `differences_inferred` such lines of two files with
-//! ` | ` between them, under `columns_of_end` those of the end of an Arrow file, behind the number
-//! of bytes before it, and under `crs` a metadata text.
+//! under `report_file`, `report_file_inferred`, `report_file_noted`, `file_words` and `report_size`
+//! it is the bytes of a file in hexadecimal digits, under `differences` and `differences_inferred`
+//! such lines of two files with ` | ` between them, under `columns_of_end` those of the end of an
+//! Arrow file, behind the number of bytes before it, and under `crs` a metadata text.
 use column_check::read_metadata;
 use column_files::{FileFault, Form, open, open_end};
 use column_reports::{
@@ -32,14 +32,9 @@ pub fn answer(it: &mut Asked<'_>) {
             Ok(bytes) => size(it, bytes.as_slice()),
             Err(_) => it.said.fail(),
         },
-        "report_file" => match hex::decode(it.alloc, it.text) {
-            Ok(bytes) => report(it, bytes.as_slice(), false, false),
-            Err(_) => it.said.fail(),
-        },
-        "report_file_noted" => match hex::decode(it.alloc, it.text) {
-            Ok(bytes) => report(it, bytes.as_slice(), false, true),
-            Err(_) => it.said.fail(),
-        },
+        "report_file" => report_digits(it, false, false),
+        "report_file_inferred" => report_digits(it, true, false),
+        "report_file_noted" => report_digits(it, false, true),
         "file_words" => match hex::decode(it.alloc, it.text) {
             Ok(bytes) => words(it, file_words(it.alloc, bytes.as_slice())),
             Err(_) => it.said.fail(),
@@ -89,6 +84,14 @@ fn crs(it: &mut Asked<'_>) {
         },
         Ok(Err(fault)) => it.said.name(&fault),
         Err(AllocError) => it.said.fail(),
+    }
+}
+
+/// Says the report of a file, from its bytes in hexadecimal digits.
+fn report_digits(it: &mut Asked<'_>, infer: bool, notes: bool) {
+    match hex::decode(it.alloc, it.text) {
+        Ok(bytes) => report(it, bytes.as_slice(), infer, notes),
+        Err(_) => it.said.fail(),
     }
 }
 

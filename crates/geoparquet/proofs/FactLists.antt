@@ -9,7 +9,9 @@ use Rattle.arrow_columns.specs.Types.{ColumnTree}
 use Rattle.value_tokens.specs.Values.{IsReadable}
 use Rattle.geoparquet.specs.Extensions.{IsRead}
 use Rattle.geoparquet.specs.Facts.{column_facts, facts_behind, facts_view, member_for}
+use Rattle.geoparquet.specs.Ordered.{columns_of}
 use Rattle.geoparquet.specs.Sources.{sourced}
+use Rattle.geoparquet.specs.Undeclared.{is_covered}
 use Rattle.geoparquet.specs.Versions.{version_of}
 use Rattle.geoparquet.specs.declared.facts.ColumnFacts.{ColumnFacts}
 use Rattle.geoparquet.specs.declared.sources.Sourced.{Sourced}
@@ -27,7 +29,7 @@ trees_more ss i s lt is =
 
 module _ (j : Json) (ss : List Sourced) (i : ℕ) (made : List ColumnFacts) (so_far : FactsFrom j ss i made) where
   pub facts_next : (s : Sourced) (f : ColumnFacts) (new : List ColumnFacts) → i < length ss → s ≡ get_or ss i s → new ≡ made ++ f ∷ []
-      → facts_view f ≡ column_facts (version_of j) (member_for j (map tree_of (take i ss)) (tree_of s).name) (tree_of s) (sourced s).1
+      → facts_view f ≡ column_facts (version_of j) (is_covered (tree_of s).name (columns_of j)) (member_for j (map tree_of (take i ss)) (tree_of s).name) (tree_of s) (sourced s).1
       → FactsFrom j ss (i + 1) new
   facts_next s f new lt is pushed said =
       let before = map tree_of (take i ss) in

@@ -12,6 +12,7 @@ pub mod Utf8
 pub mod Telling
 pub mod Gathering
 pub mod Seeing
+pub mod CoveredNames
 pub mod FactLists
 pub mod CountingSources
 pub mod Answered

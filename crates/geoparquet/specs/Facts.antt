@@ -16,7 +16,9 @@ use Rattle.geoparquet.specs.MemberRules.{encoding_of}
 use Rattle.geoparquet.specs.StrictLayouts.{is_laid_out}
 use Rattle.geoparquet.specs.MemberFacts.{SaidOf, member_facts, member_facts_view}
 use Rattle.geoparquet.specs.Identifiers.{default_identifier}
+use Rattle.geoparquet.specs.Ordered.{columns_of}
 use Rattle.geoparquet.specs.Sources.{Element, Source, geo_json, with_elements}
+use Rattle.geoparquet.specs.Undeclared.{is_covered}
 use Rattle.geoparquet.specs.Versions.{version_of}
 use Rattle.geoparquet.specs.declared.fact_sources.Against.{Against}
 use Rattle.geoparquet.specs.declared.fact_sources.FactSource.{FactSource}
@@ -41,12 +43,14 @@ pub record FactsOf : Type 0 where
   pub encoding : Option EncodingFact
   pub layout_contradicts : Bool
   pub member : SaidOf
+  -- whether a path of some covering of `columns` names the column
+  pub covered : Bool
 
 abbrev pub crs_view : CrsFact → CrsOf
 crs_view f = record { from = f.from; crs = f.crs; crs_type = option_map string_bytes f.crs_type; against = f.against }
 
 abbrev pub facts_view : ColumnFacts → FactsOf
-facts_view f = record { crs = option_map crs_view f.crs; edges = option_map edges_view f.edges; encoding = f.encoding; layout_contradicts = f.layout_contradicts; member = member_facts_view f.member }
+facts_view f = record { crs = option_map crs_view f.crs; edges = option_map edges_view f.edges; encoding = f.encoding; layout_contradicts = f.layout_contradicts; member = member_facts_view f.member; covered = f.covered }
 
 -- ---- the CRS
 
@@ -152,10 +156,10 @@ layout_contradicts version (Some j) c e = has_other_layout (encoding_of version 
 
 -- ---- of columns
 
--- the facts of a column with a member of `geo`, or none, and what its element says, if it says something
-abbrev pub column_facts : Version → Option Json → ColumnTree → Option Element → FactsOf
-column_facts version member c e =
-    record { crs = crs_fact version member c e; edges = edges_fact version member c e; encoding = encoding_fact version member c e; layout_contradicts = layout_contradicts version member c e; member = member_facts version member }
+-- the facts of a column, which a covering names or not, with a member of `geo`, or none, and what its element says, if it says something
+abbrev pub column_facts : Version → Bool → Option Json → ColumnTree → Option Element → FactsOf
+column_facts version covered member c e =
+    record { crs = crs_fact version member c e; edges = edges_fact version member c e; encoding = encoding_fact version member c e; layout_contradicts = layout_contradicts version member c e; member = member_facts version member; covered = covered }
 
 -- an object, and no other value
 abbrev pub if_object : Option Json → Option Json
@@ -170,12 +174,12 @@ member_for j before name = if_object (left_for j before name)
 abbrev pub facts_behind : Json → List ColumnTree → List (ColumnTree × Option Element) → List FactsOf
 facts_behind j before [] = []
 facts_behind j before (x ∷ xs) =
-    column_facts (version_of j) (member_for j before x.0.name) x.0 x.1 ∷ facts_behind j (before ++ x.0 ∷ []) xs
+    column_facts (version_of j) (is_covered x.0.name (columns_of j)) (member_for j before x.0.name) x.0 x.1 ∷ facts_behind j (before ++ x.0 ∷ []) xs
 
 -- the facts of the columns of a file that has that at the key `geo`, beside which its elements say that
 abbrev pub facts_of : Source → List ColumnTree → List Element → List FactsOf
 facts_of geo cs es = facts_behind (geo_json geo) [] (with_elements cs es)
 
--- those of a column alone
+-- those of a column alone, which no covering names
 abbrev pub facts_alone : ColumnTree → FactsOf
-facts_alone c = column_facts (version_of null) None c None
+facts_alone c = column_facts (version_of null) false None c None

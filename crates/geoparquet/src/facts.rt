@@ -10,10 +10,12 @@ ghost use Rattle.geoparquet.specs.Facts.{column_facts, facts_alone, facts_behind
 ghost use Rattle.geoparquet.specs.Sources.{element_view, sourced};
 
 use crate::column::is_object;
+use crate::covered::covered_by;
 use crate::crs_facts::{CrsFact, crs_fact};
 use crate::extended::members_of;
 use crate::finding::Version;
 use crate::member_facts::{MemberFacts, member_facts};
+use crate::ordered::members_in;
 use crate::sources::Sourced;
 use crate::text_facts::{EdgesFact, EncodingFact, edges_fact, encoding_fact, layout_contradicts};
 use crate::version::version_of;
@@ -37,6 +39,8 @@ pub struct ColumnFacts {
     pub layout_contradicts: bool,
     /// What its member of `columns` alone says.
     pub member: MemberFacts,
+    /// Whether a path of some covering of `columns` names it.
+    pub covered: bool,
 }
 
 /// Returns the facts of a column of a file without elements and without a value at the key `geo`:
@@ -44,7 +48,7 @@ pub struct ColumnFacts {
 pub fn field_facts(alloc: Global, column: &SchemaColumn) -> Result<ColumnFacts, AllocError>
     ensures { IfOk result (λ facts. facts_view facts ≡ facts_alone (column_tree column.now)) }
 {
-    column_facts(alloc, Version::V1_1, None, column, None)
+    column_facts(alloc, Version::V1_1, false, None, column, None)
 }
 
 /// Returns the facts of columns without JSON at the key `geo`. Errs only when out of memory.
@@ -67,11 +71,17 @@ pub(crate) fn facts_by(
     ensures { IfOk result (λ facts. map facts_view facts.items ≡ facts_behind (value_view value.now) [] (map sourced all.now)) }
 {
     let version = version_of(value);
-    let mut members = members_of(alloc, member_of(value, "columns"))?;
+    let columns = member_of(value, "columns");
+    let by_key = members_in(alloc, columns)?;
+    let covered = covered_by(alloc, &by_key)?;
+    let mut members = members_of(alloc, columns)?;
     let mut made = Vec::new(alloc);
     'columns: for it in all {
-        let member = if_object(members.remove(it.column.name.as_str()));
-        made.push(column_facts(alloc, version, member, it.column, it.element)?)?;
+        let name = it.column.name.as_str();
+        let is_covered = covered.contains_key(name);
+        let member = if_object(members.remove(name));
+        let facts = column_facts(alloc, version, is_covered, member, it.column, it.element)?;
+        made.push(facts)?;
     }
     Ok(made)
 }
@@ -88,17 +98,18 @@ fn if_object<'v, 'a>(found: Option<&'v Value<'a>>) -> Option<&'v Value<'a>>
     if is_object(value) { Some(value) } else { None }
 }
 
-/// Returns the facts of a column by its member, if there is one, and what its element says. Errs only
-/// when out of memory.
+/// Returns the facts of a column, which a covering names or not, by its member, if there is one, and
+/// what its element says. Errs only when out of memory.
 fn column_facts(
     alloc: Global,
     version: Version,
+    covered: bool,
     member: Option<&Value<'_>>,
     column: &SchemaColumn,
     element: Option<&RootElement>,
 ) -> Result<ColumnFacts, AllocError>
     requires { IfSome member (λ v. IsReadable (value_view v.now)) }
-    ensures { IfOk result (λ facts. facts_view facts ≡ column_facts version (option_map (λ v. value_view v.now) member.entry) (column_tree column.now) (option_map (λ e. element_view e.now) element.entry)) }
+    ensures { IfOk result (λ facts. facts_view facts ≡ column_facts version covered (option_map (λ v. value_view v.now) member.entry) (column_tree column.now) (option_map (λ e. element_view e.now) element.entry)) }
 {
     Ok(ColumnFacts {
         crs: crs_fact(alloc, version, member, column, element)?,
@@ -106,5 +117,6 @@ fn column_facts(
         encoding: encoding_fact(version, member, column, element),
         layout_contradicts: layout_contradicts(version, member, column, element),
         member: member_facts(alloc, version, member)?,
+        covered,
     })
 }

@@ -13,6 +13,7 @@ mod code;
 mod column;
 mod contradictions;
 mod counting;
+mod covered;
 mod covering;
 mod covering_absent;
 mod crs_claims;
