@@ -16,7 +16,7 @@ IPC, FOOTER, ELEMENTS, FILES, ENDS = (
     for crate, file in (("arrow_ipc", "Rules.antt"), ("parquet_footer", "Rules.antt"), ("parquet_columns", "Rules.antt"),
                         ("column_files", "Refusals.antt"), ("column_files", "Endings.antt")))
 PRINTED = (CRATES / "file_check/specs/Printed.antt").read_text(encoding="utf-8")
-UNLIKE = (CRATES / "file_check/specs/Unlike.antt").read_text(encoding="utf-8")
+UNLIKE = (CRATES / "same_columns/specs/Unlike.antt").read_text(encoding="utf-8")
 FORMAT = (CRATES.parent / "docs/FORMAT.md").read_text(encoding="utf-8")
 BUDGET = (CRATES / "parquet_columns/specs/Budget.antt").read_text(encoding="utf-8")
 TEXT = r'(?:Some \()?codes "((?:[^"\\]|\\.)*)"\)?'

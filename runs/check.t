@@ -27,15 +27,15 @@ Several files, each under its name; a CRS by its code, its name or its text; an 
   > echo '{"name":"wkt","nullable":true,"type":"utf8"}' > "$TMPDIR/two"
   > cd "$TMPDIR" && geoarrow_check --infer one two
   one:
-  column    holds                        CRS                                       edges
-  named     wkb - -                      WGS 84                                    planar
-  code      wkb - -                      OGC:CRS84                                 planar
-  long      wkb - -                      01234567890123456789012345678901234567..  planar
+  column         holds                        CRS                                       edges
+  named          wkb - -                      WGS 84                                    planar
+  code           wkb - -                      OGC:CRS84                                 planar
+  long           wkb - -                      01234567890123456789012345678901234567..  planar
       warning[CrsWithoutType] extension metadata /crs: found "0123456789012345678901234567890123456789x"; expected PROJJSON, WKT, a code as EPSG:4326, or a crs_type
-  number    wkb - -                      a CRS                                     planar
+  number         wkb - -                      a CRS                                     planar
       warning[CrsNumber] extension metadata /crs: found 4326.5; expected an object or a text
-  flag?[1m  extension arrow.bool8
-  bad       invalid geoarrow.linestring
+  flag\u{1b}[1m  extension arrow.bool8
+  bad            invalid geoarrow.linestring
       error[BadFieldCount] at v, field: found struct<>; expected list<coordinates>. The number of the fields is that of no dimension.
       error[UnknownEdges] extension metadata /edges: found 1; expected andoyer, karney, spherical, thomas or vincenty. Leave it out where edges are planar.
   two:
@@ -75,9 +75,9 @@ With them why files are refused, bad lines and what is not met; all on standard 
   2
   nowhere: error[CannotRead]: found No such file or directory (os error 2); expected a file that can be read
   2
-  i?n: error[WrongStorage] column a?b, field: found utf8; expected binary, large_binary or binary_view. For WKT use geoarrow.wkt.
-  i?n: error[Expect]: no column b
-  i?n: error[NoGeometry]: no column of geometries
+  i\u{1b}n: error[WrongStorage] column a\u{a}b, field: found utf8; expected binary, large_binary or binary_view. For WKT use geoarrow.wkt.
+  i\u{1b}n: error[Expect]: no column b
+  i\u{1b}n: error[NoGeometry]: no column of geometries
   1
 
   $ geoarrow_check --quiet --format github ../examples/schema.jsonl
@@ -505,22 +505,22 @@ What is said with notes alone: a number in a CRS that is not whole
 Names of files that would control a terminal, or stand on two lines: above a table, and in all that is said
 
   $ cd "$TMPDIR" && file=$(printf 'a\nb\033[1m') && echo '{"name":"a","nullable":true,"type":"null"}' > "$file" && geoarrow_check "$file" "$file"
-  a?b?[1m:
+  a\u{a}b\u{1b}[1m:
   column  holds  CRS  edges
   a       null
-  a?b?[1m:
+  a\u{a}b\u{1b}[1m:
   column  holds  CRS  edges
   a       null
   2 files: 2 columns, 0 of geometries; no findings
 
   $ cd "$TMPDIR" && file=$(printf 'a\nb\033[1m') && echo '{"name":"a","nullable":true,"type":{"other":"timestamp[ms]"}}' > "$file" && geoarrow_check --quiet --require-geometry --expect b=XY --expect a=XY "$file"; geoarrow_check --ipc "$file"; echo '{}' > "$file"; geoarrow_check "$file"; geoarrow_check "$file.parquet"; geoarrow_check --expect "$file" x 2>&1 | head -n 1
-  a?b?[1m: error[Expect]: no column b
-  a?b?[1m: error[Expect]: column a holds no geometries
-  a?b?[1m: error[NoGeometry]: no column of geometries
-  a?b?[1m: error[ColumnType] column 0: found a type that no message can hold; expected a type of Schema.fbs, nested at most 61 levels deep
+  a\u{a}b\u{1b}[1m: error[Expect]: no column b
+  a\u{a}b\u{1b}[1m: error[Expect]: column a holds no geometries
+  a\u{a}b\u{1b}[1m: error[NoGeometry]: no column of geometries
+  a\u{a}b\u{1b}[1m: error[ColumnType] column 0: found a type that no message can hold; expected a type of Schema.fbs, nested at most 61 levels deep
   column  holds  CRS  edges
-  a?b?[1m: error[BadLine] line 1: found no string at "name"; expected a string at "name"
-  a?b?[1m.parquet: error[CannotRead]: found No such file or directory (os error 2); expected a file that can be read
+  a\u{a}b\u{1b}[1m: error[BadLine] line 1: found no string at "name"; expected a string at "name"
+  a\u{a}b\u{1b}[1m.parquet: error[CannotRead]: found No such file or directory (os error 2); expected a file that can be read
   error: 'a?b?[1m' is no COLUMN=WANT
 
   $ cd "$TMPDIR" && file=$(printf 'a\nb\033[1m') && echo '{"name":"a","nullable":true,"type":"null"}' > "$file" && geoarrow_check --json "$file"
@@ -866,8 +866,8 @@ The status by what is found, notes too, of the files of a row each: how many, th
   >     geoarrow_check --quiet file > /dev/null
   >     echo $?
   > done | LC_ALL=C sort | uniq -c
-      121 0
-       33 1
+      126 0
+       35 1
        38 ArrowSchemaContradicts 1
         1 ArrowSchemaContradicts CrsContradicts 1
         6 ArrowSchemaContradicts GeoCovering 1
@@ -878,13 +878,13 @@ The status by what is found, notes too, of the files of a row each: how many, th
         1 ArrowSchemaNames GeoNotInFooter 0
         1 ArrowSchemaNames NameNotText 1
         2 ArrowSchemaUnreadable 1
-       14 CrsContradicts 1
+       15 CrsContradicts 1
         2 CrsContradicts EdgesContradict 1
         1 CrsContradicts GeoCrs 1
         1 CrsContradicts GeoOldVersion 1
         9 CrsKeyMissing 1
         3 CrsMalformed 1
-        2 CrsNotCompared 0
+        3 CrsNotCompared 0
        14 EdgesContradict 1
         4 EdgesContradict EdgesOnProjected 1
         1 EdgesContradict EdgesOnProjected GeoColumnRepeated 1
@@ -1152,7 +1152,7 @@ Findings as they count: a warning that is denied, one that is allowed, and a not
 What a workflow would read as its own: in the name of a file, and in a message
 
   $ cd "$TMPDIR" && file=$(printf 'a%%:,\nb\033c') && printf '{"metadata":{"ARROW:extension:name":"geoarrow.wkb"},"name":"50%%\\r\\n:,\\u001b","nullable":true,"type":"utf8"}\n' > "$file" && geoarrow_check --format=github "$file"
-  ::error file=a%25%3A%2C%0Ab?c,title=WrongStorage::column 50%25%0D%0A:,?, field: found utf8; expected binary, large_binary or binary_view. For WKT use geoarrow.wkt.
+  ::error file=a%25%3A%2C%0Ab\u{1b}c,title=WrongStorage::column 50%25%0D%0A:,\u{1b}, field: found utf8; expected binary, large_binary or binary_view. For WKT use geoarrow.wkt.
   [1]
 
 Files that are refused, bad lines, and what is not met stand there too; nothing stands on standard error
