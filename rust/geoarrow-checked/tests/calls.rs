@@ -144,6 +144,7 @@ fn reports_of_files() {
             assert_eq!(line, without_file(wanted));
         }
     }
+    assert!(wanted.next().unwrap().starts_with(r#"{"kind":"summary","#));
     assert_eq!(wanted.next(), None);
 }
 
@@ -240,8 +241,9 @@ fn the_place_in_an_arrow_file() {
     assert!(inside > 50);
 }
 
-/// The code of a rule, and what is wrong where it is broken, by the tables of docs/FORMAT.md, 2.8 and 3.7.
-fn words_of_rule(rule: &str, is_file: bool) -> (String, String) {
+/// The code of a rule, and what is wrong where it is broken, by the tables of docs/FORMAT.md, 2.8 and 3.7; of a rule of
+/// what stands at the end, which is told by the bytes there, the code alone.
+fn words_of_rule(rule: &str, is_file: bool) -> (String, Option<String>) {
     let format = String::from_utf8(read("docs/FORMAT.md")).unwrap();
     let tables = format.split_once("\n### 3.7 ").unwrap().1;
     let row = tables
@@ -256,7 +258,8 @@ fn words_of_rule(rule: &str, is_file: bool) -> (String, String) {
         "Message" if !is_file => "NoSchema",
         _ => "BadMessage",
     };
-    (code.to_owned(), wrong)
+    let is_of_end = matches!(rule, "Magic" | "Cut" | "FooterSize");
+    (code.to_owned(), (!is_of_end).then_some(wrong))
 }
 
 #[test]
@@ -274,7 +277,10 @@ fn rules_that_samples_break() {
         let rule = String::from_utf8_lossy(rule.split(|byte| *byte == b' ').next().unwrap());
         let (code, wrong) = words_of_rule(&rule, form == "file");
         let why = refused(check(&bytes, false));
-        assert_eq!((why.code(), why.found()), (&*code, Some(&*wrong)), "{rule}");
+        assert_eq!(why.code(), code, "{rule}");
+        if let Some(wrong) = wrong {
+            assert_eq!(why.found(), Some(&*wrong), "{rule}");
+        }
         compared += 1;
     }
     assert!(compared > 50);
