@@ -202,7 +202,8 @@ class Command(unittest.TestCase):
     @unittest.skipUnless(PROGRAM.is_file(), "the program is not built")
     def test_names_beside_the_program(self):
         with tempfile.TemporaryDirectory() as folder:
-            for name in ("a", 'b"\\', "c\n\x01\x1b\x7f\x85", "\u00e9\U0001f600"):
+            hidden = "\u200a\u200b\u200f\u2010\u2029\u202a\u202e\u202f\u2065\u2066\u2069\u206a\ufefe\ufeff\uff00"  # the first and the last of each range, and those beside them
+            for name in ("a", 'b"\\', "c\n\x01\x1b\x7f\x85\x9f\xa0", "\u00e9\U0001f600", hidden):
                 path = pathlib.Path(folder, name)
                 for text in (TEXT, "{}", ""):
                     path.write_text(text)
