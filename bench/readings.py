@@ -13,7 +13,7 @@ import sys
 
 from measuring import TOP
 
-CRATES = ["arrow_values", "arrow_columns", "arrow_ipc", "parquet_footer"]
+CRATES = ["arrow_values", "arrow_columns", "arrow_kinds", "arrow_ipc", "parquet_footer"]
 CRATE_LINE = "readings: arrow_values arrow_columns arrow_ipc hex parquet_footer\n"
 
 # What the verifier looks at and our reader does not: slots that no schema is made of.

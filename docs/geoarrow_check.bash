@@ -6,7 +6,7 @@ _geoarrow_check() {
     --format) words='text json github sarif' ;;
     --color) words='auto always never' ;;
     --deny | --allow | --explain) words=$("${COMP_WORDS[0]}" --codes 2> /dev/null | sed 's/^[a-z]*\[\([A-Za-z]*\)\].*/\1/') ;;
-    *) case $word in -*) words='--format --json --lines --ipc --infer --notes --deny --allow -q --quiet --problems --color --require-geometry --same --expect --codes --explain -h --help -V --version' ;; esac ;;
+    *) case $word in -*) words='--format --json --lines --ipc --canonical --infer --notes --deny --allow -q --quiet --problems --color --require-geometry --same --expect --codes --explain -h --help -V --version' ;; esac ;;
     esac
     COMPREPLY=()
     if [ -n "$words" ]; then mapfile -t COMPREPLY < <(compgen -W "$words" -- "$word"); fi

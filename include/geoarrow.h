@@ -1,15 +1,15 @@
-/* GeoArrow's schema types as calls of C: the answers of the program geoarrow_fields, and the report and the Arrow stream of
- * geoarrow_check.
+/* GeoArrow's schema types as calls of C: the answers of the program geoarrow_fields, and the report, the differences of files, the
+ * columns in normal form and the Arrow stream of geoarrow_check.
  *
  * A call takes bytes as a pointer and a length, and writes text, or a stream's bytes, to the front of `out`. It returns a
- * status; at GEOARROW_DONE, and at GEOARROW_REFUSED, `*len` is the length of what is written. Where `out` is too small nothing
+ * status; at GEOARROW_DONE, and where bytes are refused, `*len` is the length of what is written. Where `out` is too small nothing
  * is written to it, and `*len` is what is needed, so a call with `out_len` 0 asks for the length. The text has no NUL at its end.
  *
- * At GEOARROW_REFUSED what is written is one line, with a line feed behind it, which says why the bytes are refused. It is the line of
- * a finding: a JSON object without blanks, with these keys in this order, of which those that do not apply are left out. `kind` is
- * `finding`, and `severity` is `error`; `code` says what is wrong; `file` is the name that was given; the place is `index`, that of a
- * column, `in`, the part of the file, `footer` or `elements`, and the numbers `byte` and `line`; `found` says
- * what stands there, `expected` what is expected, and `help` what to try. As
+ * At GEOARROW_REFUSED, and at GEOARROW_FIRST_REFUSED of geoarrow_same, what is written is one line, with a line feed behind it,
+ * which says why the bytes are refused. It is the line of a finding: a JSON object without blanks, with these keys in this order,
+ * of which those that do not apply are left out. `kind` is `finding`, and `severity` is `error`; `code` says what is wrong;
+ * `file` is the name that was given; the place is `index`, that of a column, `in`, the part of the file, `footer` or `elements`,
+ * and the numbers `byte` and `line`; `found` says what stands there, `expected` what is expected, and `help` what to try. As
  * `{"kind":"finding","severity":"error","code":"Encrypted","byte":4092,"found":"PARE","expected":"PAR1","help":"A copy with a plain footer is needed"}`.
  * docs/FORMAT.md, 2.8, has all codes, and where lines, bytes and columns are counted from.
  *
@@ -38,7 +38,7 @@ extern "C" {
 /* What is asked of a line. */
 enum { GEOARROW_READ = 0, GEOARROW_INFER = 1, GEOARROW_CANON = 2, GEOARROW_COLUMNS = 3 };
 
-/* Options of geoarrow_report, 0 or a sum of these: infer a type for columns without an extension name; notes among the findings, of
+/* Options of geoarrow_report and geoarrow_same, 0 or a sum of these: infer a type for columns without an extension name; notes among the findings, of
  * columns and of the file (docs/FORMAT.md, 2.6, 4.3 and 5). */
 enum { GEOARROW_INFER_TYPES = 1, GEOARROW_NOTES = 2 };
 
@@ -49,7 +49,8 @@ enum {
     GEOARROW_MEMORY = 2,  /* out of memory */
     GEOARROW_UNKNOWN = 3, /* no such command, or no such options, or a name that is not UTF-8 */
     GEOARROW_LIMIT = 4,   /* more than 1,000,000 lines, or a line of more than 1,048,576 bytes */
-    GEOARROW_REFUSED = 5  /* the bytes are refused; the line that says why stands in `out` */
+    GEOARROW_REFUSED = 5, /* the bytes are refused; the line that says why stands in `out` */
+    GEOARROW_FIRST_REFUSED = 6 /* of two files those of the first are; the line that says why stands in `out` */
 };
 
 /* GEOARROW_VERSION, as the library has it. */
@@ -78,7 +79,7 @@ uint8_t geoarrow_run(uint8_t command, const uint8_t *input, size_t input_len, ui
  * part of the file, `pointer`, a JSON pointer into it, and `byte`, a number; `found`, what stands there, `expected` and `help`, in words;
  * and `more`, how many more of the code there are. Those that do not apply are left out; those of a column have neither `kind` nor
  * `file` nor `column`, which its line has. As
- * `{"kind":"finding","severity":"error","code":"GeoEpoch","column":"g","in":"geo","pointer":"/columns/g/epoch","found":"\"2020\"","expected":"a number"}`.
+ * `{"severity":"error","code":"GeoEpoch","in":"geo","pointer":"/columns/g/epoch","found":"\"2020\"","expected":"a number"}` of a column g.
  *
  * `options` is 0 to 3, a sum of GEOARROW_INFER_TYPES and GEOARROW_NOTES. `name` is the name of the file in UTF-8, which the lines
  * have at `file`; where `name_len` is 0 they have none. Of an Arrow or Parquet file its first eight bytes and
@@ -94,6 +95,33 @@ uint8_t geoarrow_report(uint8_t options, const uint8_t *name, size_t name_len, c
  * Statuses: DONE, with the stream in `out`; REFUSED, with the line; SHORT, of either; MEMORY, at which `out` and `*len` are
  * unchanged. */
 uint8_t geoarrow_write_schema(const uint8_t *lines, size_t lines_len, uint8_t *out, size_t out_len, size_t *len);
+
+/* In what the columns of a file are not those of the first, from the bytes of both (docs/FORMAT.md, 2.9): a line of JSON for each
+ * difference, with a line feed behind it, and nothing where there is none. It is the line of a finding of the other file, with `kind`,
+ * `severity`, `code`, which is `NotSame`, or `CrsNotCompared`, a note, `file`, `column`, `found`, `expected` and `help`. As
+ * `{"kind":"finding","severity":"error","code":"NotSame","column":"id","found":"int32","expected":"int64","help":"The first file has another type."}`.
+ * What else is found in the files is not told. Of a file of lines some of which are no columns the others are compared.
+ *
+ * `options` is as for geoarrow_report: with GEOARROW_INFER_TYPES inferred types are compared, and without GEOARROW_NOTES a CRS that
+ * cannot be compared is not told. `name` is the name of the other file in UTF-8, which the lines have at `file`; where `name_len` is 0
+ * they have none. The bytes of each file are as for geoarrow_report. `first` and `other` may be the same.
+ * Statuses: DONE, with the lines in `out`; REFUSED, where the other file is refused, with the line that says why (2.8), and
+ * FIRST_REFUSED, where the first is, whose line names no file; SHORT, of these; MEMORY and UNKNOWN, at which `out` and `*len` are
+ * unchanged. */
+uint8_t geoarrow_same(uint8_t options, const uint8_t *first, size_t first_len, const uint8_t *other, size_t other_len,
+                      const uint8_t *name, size_t name_len, uint8_t *out, size_t out_len, size_t *len);
+
+/* The columns of a file, from its bytes, as lines: for each of them, in their order, the line of its normal form (docs/FORMAT.md, 2.7
+ * and 2.10), with a line feed behind it. A column that holds geometries by its extension name has the data type, the extension name
+ * and the extension metadata that GeoArrow writes for them; any other is as it is, also one for which a type would be inferred. As
+ * `{"metadata":{"ARROW:extension:name":"geoarrow.wkb"},"name":"g","nullable":true,"type":"binary"}` for a column `ogc.wkb`. They are
+ * the columns of geoarrow_report, of a GeoParquet file by its metadata; what is found in them is not told. geoarrow_write_schema makes
+ * an Arrow stream of the lines. Of a file of lines, those that are no columns are left out.
+ *
+ * The bytes are as for geoarrow_report. Where the file is refused, the line that says why (2.8), which names no file.
+ * Statuses: DONE, with the lines in `out`; REFUSED, with the line; SHORT, of either; MEMORY, at which `out` and `*len` are
+ * unchanged. */
+uint8_t geoarrow_canonical(const uint8_t *bytes, size_t bytes_len, uint8_t *out, size_t out_len, size_t *len);
 
 #ifdef __cplusplus
 }

@@ -32,7 +32,9 @@ BIN = pathlib.Path(__file__).resolve().parent.parent / "bin"
 FIELDS, CHECK = BIN / "geoarrow_fields", BIN / "geoarrow_check"
 INVALID, FAILED = 1, 2
 NO_READER = 128 + 13  # what a shell says of a command that the signal SIGPIPE ends
-NO_COLUMNS = "column  holds  CRS  edges\n"  # the table of geoarrow_check for a schema without columns, which it is not asked for
+# What geoarrow_check prints of a schema without columns, for which it is not asked: a table, and with --json.
+NO_COLUMNS = "  column  holds  CRS  edges\n"
+NO_LINES = '{"kind":"file","read":true,"columns":0,"geometries":0,"errors":0,"warnings":0,"notes":0,"status":0}\n'
 
 
 class ProgramError(Exception):
@@ -71,7 +73,7 @@ def _words(name: str, arguments: Optional[Sequence[str]]) -> argparse.Namespace:
     forms = parser.add_mutually_exclusive_group()
     forms.add_argument("--ask", metavar="COMMAND", help="print what the program answers to this command and the lines")
     forms.add_argument("--check", action="store_true", help="print what geoarrow_check says of each column")
-    parser.add_argument("--json", action="store_true", help="with --check: a line of JSON for each column")
+    parser.add_argument("--json", action="store_true", help="with --check: a line of JSON for each column, and one for all")
     parser.add_argument("--program", metavar="PATH", help="with --ask and --check: another program to ask")
     try:
         words = parser.parse_args(arguments)
@@ -120,7 +122,7 @@ def _lines_or_answers(layers: List[Layer], words: argparse.Namespace) -> str:
 def _checked(layers: List[Layer], words: argparse.Namespace) -> Tuple[str, int]:
     """What the program says of these layers, and the status."""
     program, options = words.program or str(CHECK), ["--infer", "--json", "-"] if words.json else ["--infer", "-"]
-    said, worst, none = [], 0, "" if words.json else NO_COLUMNS
+    said, worst, none = [], 0, NO_LINES if words.json else NO_COLUMNS
     for layer in layers:
         text, status = _answer(program, options, "".join(line + "\n" for line in layer.lines)) if layer.lines else (none, 0)
         if status not in (0, INVALID):

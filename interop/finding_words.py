@@ -52,10 +52,46 @@ for row in tables("code | expected | help"):
 LAYOUTS = {text_in(row[0]): text_in(row[1]) for row in tables("extension name | its layout in words")}
 
 
+# The codes that expect one of some names, and how each stands in what is found.
+NAMED = {"UnknownExtension": "{}", "UnknownCrsType": '"{}"', "UnknownEdges": '"{}"'}
+
+
+def edits(one, other):
+    """How many insertions, deletions and substitutions lead from some bytes to others."""
+    above = list(range(len(other) + 1))
+    for at, each in enumerate(one, 1):
+        row = [at]
+        for place, its in enumerate(other, 1):
+            row.append(min(row[-1] + 1, above[place] + 1, above[place - 1] + (each != its)))
+        above = row
+    return above[-1]
+
+
+def meant(code, found, expected):
+    """The name that is expected and that what is found is like, if there is one."""
+    names = [NAMED[code].format(name) for name in re.split(", | or ", expected)]
+    for limit in range(3):
+        for name in names:
+            data = name.encode()
+            if edits(found.encode().lower(), data) <= limit and (limit < 2 or len(data) > 10):
+                return name
+    return None
+
+
+def advice_of(code, found, expected, advice):
+    """What helps where that is found."""
+    if code == "CrsTypeContradicts" and found.startswith("{"):
+        return "The crs_type of an object is projjson."
+    name = meant(code, found, expected) if code in NAMED else None
+    return f"Did you mean {name}?" if name else advice
+
+
 def said(code, wanted=None, **parts):
     """A finding by the tables of its code, with what its rule wants there, and the parts that are its
     own."""
     expected, advice = WORDS[code][0 if parts.get("in") in ("field", "extension metadata") else -1]
+    if parts.get("found") is not None:
+        advice = advice_of(code, parts["found"], expected, advice)
     expected = expected if wanted is None else f"{expected} ({wanted})"
     return {"severity": WEIGHS[code], "code": code, "expected": expected, "help": advice, **parts}
 

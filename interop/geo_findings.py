@@ -101,9 +101,10 @@ class Judged:
         pairs = zip(self.columns, self.elements)
         return next((pair for pair in pairs if pair[0]["name"] == name), (None, NO_ELEMENT))
 
-    def add(self, code, column, path, wanted=None, name=None):
+    def add(self, code, column, path, wanted=None, name=None, words=None):
         there = at(self.value, *path) if name is None else name
         found = None if there is ABSENT else shown(text_of(there))
+        found = found if words is None else shown(words)
         self.found.append(Finding(code, column, pointer_to(path), found, wanted))
 
 
@@ -115,9 +116,9 @@ class Member:
         self.column, self.element = judged.column(key)
         self.codes = set()
 
-    def add(self, code, *path, wanted=None, name=None):
+    def add(self, code, *path, wanted=None, name=None, words=None):
         self.codes.add(code)
-        self.judged.add(code, self.key, ("columns", self.key, *path), wanted, name)
+        self.judged.add(code, self.key, ("columns", self.key, *path), wanted, name, words)
 
     def at(self, *path):
         return at(self.value, *path)
@@ -318,7 +319,8 @@ def add_types(it):
     """What is found of `geometry_types`: of each item, by the version, and by the layout."""
     types = it.at("geometry_types")
     if not isinstance(types, list):
-        it.add("GeoTypes", "geometry_types")
+        is_old = types is ABSENT and it.at("geometry_type") is not ABSENT
+        it.add("GeoTypes", "geometry_types", words="geometry_type" if is_old else None)
         return
     names = [split_type(item) for item in types]
     add_items(it, "GeoTypes", [place for place, name in enumerate(names)
@@ -380,7 +382,8 @@ def add_box(it):
         most = box[place + len(axes)]
         is_judged = axis != "x" or class_of(*it.claims()) == "projected"
         if is_judged and float(box[place].text) > float(most.text):
-            it.add("GeoBboxOrder", "bbox", place, wanted=most.text)
+            words = f"{axis}min {shown(box[place].text)}, {axis}max {most.text}"
+            it.add("GeoBboxOrder", "bbox", place, wanted=most.text, words=words)
     add_range(it, box, axes)
     add_dimension(it, len(box))
 
@@ -584,28 +587,30 @@ def verdict(fact, one, other):
     return "Agree" if one == other else "Contradict"
 
 
-def claim_text(claim):
-    """What a source says, as JSON, and as it is wanted."""
+def claim_text(fact, claims):
+    """What a source says, as JSON, and as it is wanted; the default by its word."""
+    claim = getattr(claims, fact)
     if isinstance(claim, geo_crs.Claim):
-        return (shown(text_of(claim.value)),) * 2
+        return (f"{claim.value}, the default" if claim.is_default else shown(text_of(claim.value)),) * 2
+    if fact == "edges" and claims.edges_are_default:
+        return (f"{claim}, the default",) * 2
     return text_of(claim), claim
 
 
 def disagreements(element, field, member):
     """What the sources of a column do not agree on, by the first pair of sources that contradict, or
-    else by the first that are not compared: the code, the fact, what the field says where it is the
-    second of the pair, and what is wanted, which the first says."""
+    else by the first that are not compared: the code, the fact, what the second of the pair says,
+    whether that is the field, and what is wanted, which the first says."""
     for fact, *codes in FACTS:
         pairs = (("element", element, member), ("element", element, field), ("field", field, member))
-        claims = [(first, getattr(one, fact), getattr(other, fact), other is field)
-                  for first, one, other in pairs]
-        judged = [(*it, verdict(fact, *it[1:3])) for it in claims if None not in it]
+        claims = [(it, [getattr(source, fact) for source in it[1:]]) for it in pairs]
+        judged = [(*it, verdict(fact, *said)) for it, said in claims if None not in said]
         for code, asked in zip(codes, ("Contradict", "NotCompared")):
-            found = next((it for it in judged if it[4] == asked), None)
+            found = next((it for it in judged if it[3] == asked), None)
             if found:
-                first, one, other, is_field, _ = found
-                field_says = claim_text(other)[0] if is_field else None
-                yield code, fact, field_says, f"{claim_text(one)[1]} of the {first}"
+                first, one, other, _ = found
+                wanted = f"{claim_text(fact, one)[1]} of the {first}"
+                yield code, fact, claim_text(fact, other)[0], other is field, wanted
                 break
 
 
@@ -613,7 +618,7 @@ def add_alone(judged, column, element):
     """What an element says beside the field of a column, without a member, and what both say."""
     name = column["name"]
     of_element, field = claims_of(column, element)
-    for code, _, found, wanted in disagreements(of_element, field, NOTHING):
+    for code, _, found, _, wanted in disagreements(of_element, field, NOTHING):
         judged.found.append(Finding(code, name, "", found, wanted, source=FIELD))
     add_on_projected(judged, name, of_element, NOTHING, field)
 
@@ -623,11 +628,10 @@ def add_contradictions(it):
     if it.column is None:
         return
     element, field = claims_of(it.column, it.element)
-    for code, fact, field_says, wanted in disagreements(element, field, claims_of_member(it)):
-        if field_says is None:
-            it.add(code, fact, wanted=wanted)
-        else:
-            it.judged.found.append(Finding(code, it.key, "", field_says, wanted, source=FIELD))
+    for code, fact, found, is_field, wanted in disagreements(element, field, claims_of_member(it)):
+        place = "" if is_field else pointer_to(("columns", it.key, fact))
+        source = FIELD if is_field else GEO
+        it.judged.found.append(Finding(code, it.key, place, found, wanted, source=source))
 
 
 def claims_of_member(it):
@@ -680,7 +684,18 @@ def add_on_projected(judged, key, *claims):
     source, edges = effective_edges(*claims)
     if edges != "planar" and class_of(*claims) == "projected":
         place = pointer_to(("columns", key, "edges")) if source == GEO else ""
-        judged.found.append(Finding("EdgesOnProjected", key, place, text_of(edges), None, source=source))
+        found = f"{edges}, {crs_word(effective_crs(*claims).value)}"
+        judged.found.append(Finding("EdgesOnProjected", key, place, found, None, source=source))
+
+
+def crs_word(crs):
+    """The name of a CRS: the authority and the code of its id, or else its name, or a text itself."""
+    authority, code = at(crs, "id", "authority"), at(crs, "id", "code")
+    code = code.text if isinstance(code, Number) else code
+    if isinstance(authority, str) and isinstance(code, str):
+        return shown(f"{authority}:{code}")
+    names = [it for it in (at(crs, "name"), crs) if isinstance(it, str)]
+    return shown(names[0] if names else "a CRS")
 
 
 def element_of(words):

@@ -78,7 +78,22 @@ def nearest(found, listed):
 
 def help_of(code, version, found):
     near = None if found is None else nearest(found, names(code, version))
-    return f"Did you mean {near}?" if near else said(code, "help", ROWS[code][4], version)
+    if near:
+        return f"Did you mean {near}?"
+    said_of_code = said(code, "help", ROWS[code][4], version)
+    return said_of_code if found is None else by_found(code, found, said_of_code)
+
+
+def by_found(code, found, said_of_code):
+    """What helps by what is found, where that decides (docs/FORMAT.md, 5)."""
+    if code == "GeoBboxOrder":
+        return said_of_code if found.startswith("x") else None
+    if code == "GeoTypes":
+        return "The member has geometry_type, the name of 0.4." if found == "geometry_type" else None
+    if code == "GeoCoveringAbsent" and len(found.encode()) <= 120:
+        paths = ",".join(f'"{bound}":[{found},"{bound}"]' for bound in ("xmin", "ymin", "xmax", "ymax"))
+        return f'Add "covering":{{"bbox":{{{paths}}}}}.'
+    return said_of_code
 
 
 # Where findings are in what an element or a field says.

@@ -64,8 +64,17 @@ class Check(InAFolder):
     def test_a_schema_without_columns(self):
         self.with_pyarrow()
         file = self.file("none.parquet")
-        self.assertEqual(self.ran("--check", "--program", "./asked-for-nothing", file), (0, "column  holds  CRS  edges\n", ""))
-        self.assertEqual(self.ran("--check", "--json", "--program", "./asked-for-nothing", file), (0, "", ""))
+        self.assertEqual(self.ran("--check", "--program", "./asked-for-nothing", file), (0, "  column  holds  CRS  edges\n", ""))
+        behind = '{"kind":"file","read":true,"columns":0,"geometries":0,"errors":0,"warnings":0,"notes":0,"status":0}\n'
+        self.assertEqual(self.ran("--check", "--json", "--program", "./asked-for-nothing", file), (0, behind, ""))
+
+    @unittest.skipUnless(CHECK.is_file(), "the program is not built")
+    def test_a_schema_without_columns_as_the_program_has_it(self):
+        rows = [row for row in (TOP / "crates/ipc_samples/data/written.rows").read_text().split("\n") if not row.startswith("#")]
+        stream = next(bytes.fromhex(question.partition(" ")[2]) for question, answer in zip(rows[::2], rows[1::2]) if not answer)
+        for options, wanted in (([], command.NO_COLUMNS), (["--json"], command.NO_LINES)):
+            ran = subprocess.run([str(CHECK), *options, "-"], input=stream, stdout=subprocess.PIPE)
+            self.assertEqual((ran.stdout.decode(), ran.returncode), (wanted, 0))
 
     def test_programs_that_fail(self):
         status, text, told = self.checked([line("null")], [], status=2)
@@ -84,10 +93,11 @@ class Check(InAFolder):
         wanted = subprocess.run(
             [str(CHECK), "--infer", "-"], input="\n".join([*lines, other]).encode(), stdout=subprocess.PIPE)
         self.assertEqual(self.ran("--check", "--program", CHECK, file), (1, wanted.stdout.decode(), ""))
-        self.assertIn("\nseen       timestamp[ms, tz=UTC]\n", wanted.stdout.decode())
+        self.assertIn("\n  seen       timestamp[ms, tz=UTC]\n", wanted.stdout.decode())
         status, text, told = self.ran("--check", "--json", "--program", CHECK, file)
-        found = [json.loads(one) for one in text.splitlines()]
+        *found, behind = [json.loads(one) for one in text.splitlines()]
         self.assertEqual((status, told, [one["index"] for one in found]), (1, "", list(range(8))))
+        self.assertEqual((behind["kind"], behind["read"], behind["columns"]), ("file", True, 8))
         self.assertEqual(found[7], {"kind": "column", "index": 7, "column": "seen", "state": "plain", "type": "timestamp[ms, tz=UTC]"})
 
 

@@ -308,7 +308,7 @@ class Check(InAFolderWithGdal):
     @unittest.skipUnless(CHECK.is_file(), "the program is not built")
     def test_real_program(self):
         status, text, told = self.ran("--check", "--json", "--program", CHECK, self.made("places.gpkg"))
-        found = [json.loads(one) for one in text.splitlines()]
-        self.assertEqual((status, told), (0, ""))
+        *found, behind = [json.loads(one) for one in text.splitlines()]
+        self.assertEqual((status, told, behind["columns"]), (0, "", 5))
         self.assertEqual([one["state"] for one in found], ["plain", "plain", "plain", "plain", "geometry"])
         self.assertTrue(found[3]["type"].startswith("timestamp[ms"))

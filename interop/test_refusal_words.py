@@ -1,7 +1,7 @@
 """Tests of the words of refusals: the tables of docs/FORMAT.md have those of the definitions.
 
 Those of 2.8 and 2.9 are compared with what contracts cite of codes, of what is found and expected, and
-of what helps; those of 3.7, 4.3 and 4.4 with what is cited of the rules. Run by interop/test, or alone by
+of what helps; those of 3.7, 4.3, 4.4 and 6.4 with what is cited of the rules. Run by interop/test, or alone by
 `python3 -m unittest interop.test_refusal_words`, at the top of the repository.
 """
 import pathlib
@@ -16,6 +16,7 @@ IPC, FOOTER, ELEMENTS, FILES, ENDS = (
     for crate, file in (("arrow_ipc", "Rules.antt"), ("parquet_footer", "Rules.antt"), ("parquet_columns", "Rules.antt"),
                         ("column_files", "Refusals.antt"), ("column_files", "Endings.antt")))
 PRINTED = (CRATES / "file_check/specs/Printed.antt").read_text(encoding="utf-8")
+RECORDS = (CRATES / "record_wire/specs/Fault.antt").read_text(encoding="utf-8")
 UNLIKE = (CRATES / "same_columns/specs/Unlike.antt").read_text(encoding="utf-8")
 FORMAT = (CRATES.parent / "docs/FORMAT.md").read_text(encoding="utf-8")
 BUDGET = (CRATES / "parquet_columns/specs/Budget.antt").read_text(encoding="utf-8")
@@ -93,6 +94,10 @@ class Words(unittest.TestCase):
                   for rule, wrong in said(spec, "rule_message").items()]
         self.assertEqual(told, wanted)
         self.assertEqual(len(wanted), 18 + 11 + 10)
+        of_records = [tuple(map(text_in, row)) for row in tables("rule | what is wrong | what the rule asks")]
+        wanted = [(rule, wrong, said(RECORDS, "rule_wanted")[rule]) for rule, wrong in said(RECORDS, "rule_message").items()]
+        self.assertEqual(of_records, wanted)
+        self.assertEqual(len(wanted), 11)
 
 
 if __name__ == "__main__":

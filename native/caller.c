@@ -1,9 +1,9 @@
 /* A caller of geoarrow.h, which native/test compiles: caller answers|faults|threads|stack|leaks < REQUESTS
  *
- * A request is a byte for the call (0 geoarrow_answer, 1 geoarrow_run, 2 geoarrow_report, 3 geoarrow_write_schema), one for the number that
- * the call takes, if it does, the length of the name that it takes, if it does, and that of its bytes, each in four bytes, the lowest first,
- * and behind them the name and the bytes. A command, options and a status are told by their place in the lists of the header's names below; a
- * number past a list is sent as it is.
+ * A request is a byte for the call (0 geoarrow_answer, 1 geoarrow_run, 2 geoarrow_report, 3 geoarrow_write_schema, 4 geoarrow_same,
+ * 5 geoarrow_canonical), one for the number that the call takes, if it does, the length of the name that it takes, if it does, that of its
+ * bytes, and that of those of the other file, if it takes two, each in four bytes, the lowest first, and behind them the name and the bytes of
+ * each. A command, options and a status are told by their place in the lists of the header's names below; a number past a list is sent as it is.
  *   answers  calls with room, with each size of buffer that is too small (of long texts some), and between guards; writes for each
  *            request its status in a byte (255 for a number that the header does not name), `*len` in eight, and the text
  *   faults   over the library of bin/faults: each request for memory refused, one at a time: out of memory, or the same answer
@@ -28,6 +28,8 @@ typedef struct request {
     size_t name_size;
     uint8_t *bytes;
     size_t size;
+    uint8_t *other;
+    size_t other_size;
     uint8_t status; /* with room */
     size_t len;
     uint8_t *text;
@@ -52,16 +54,24 @@ static uint8_t write_schema(const request_t *of, uint8_t *out, size_t out_len, s
     return geoarrow_write_schema(of->bytes, of->size, out, out_len, len);
 }
 
-static const call_t CALLS[] = {answer_line, run, report, write_schema};
+static uint8_t same(const request_t *of, uint8_t *out, size_t out_len, size_t *len) {
+    return geoarrow_same(of->number, of->bytes, of->size, of->other, of->other_size, of->name, of->name_size, out, out_len, len);
+}
+
+static uint8_t canonical(const request_t *of, uint8_t *out, size_t out_len, size_t *len) {
+    return geoarrow_canonical(of->bytes, of->size, out, out_len, len);
+}
+
+static const call_t CALLS[] = {answer_line, run, report, write_schema, same, canonical};
 
 /* The numbers of the header by their names, in the order of native/test. */
 static const uint8_t COMMANDS[] = {GEOARROW_READ, GEOARROW_INFER, GEOARROW_CANON, GEOARROW_COLUMNS};
 static const uint8_t OPTIONS[] = {0, GEOARROW_INFER_TYPES, GEOARROW_NOTES, GEOARROW_INFER_TYPES | GEOARROW_NOTES};
-static const uint8_t STATUSES[] = {GEOARROW_DONE, GEOARROW_SHORT, GEOARROW_MEMORY, GEOARROW_UNKNOWN, GEOARROW_LIMIT, GEOARROW_REFUSED};
+static const uint8_t STATUSES[] = {GEOARROW_DONE, GEOARROW_SHORT, GEOARROW_MEMORY, GEOARROW_UNKNOWN, GEOARROW_LIMIT, GEOARROW_REFUSED, GEOARROW_FIRST_REFUSED};
 
 static uint8_t number_of(size_t call, uint8_t place) {
     const uint8_t *list = call < 2 ? COMMANDS : OPTIONS;
-    return call < 3 && place < 4 ? list[place] : place;
+    return call != 3 && place < 4 ? list[place] : place;
 }
 
 static int place_of(uint8_t status) {
@@ -73,7 +83,7 @@ static int place_of(uint8_t status) {
 
 /* Whether text was written to the buffer: an answer, or why there is none. */
 static int has_text(uint8_t status) {
-    return status == GEOARROW_DONE || status == GEOARROW_REFUSED;
+    return status == GEOARROW_DONE || status == GEOARROW_REFUSED || status == GEOARROW_FIRST_REFUSED;
 }
 
 static request_t *requests;
@@ -218,16 +228,18 @@ static size_t size_in(const uint8_t *bytes) {
 
 static void read_requests(void) {
     size_t room = 0;
-    uint8_t head[10];
-    while (fread(head, 1, 10, stdin) == 10) {
+    uint8_t head[14];
+    while (fread(head, 1, 14, stdin) == 14) {
         if (count == room) requests = realloc(requests, (room = 2 * room + 64) * sizeof *requests);
         request_t *of = &requests[count++];
         of->call = CALLS[head[0]];
         of->number = number_of(head[0], head[1]);
         of->name_size = size_in(head + 2);
         of->size = size_in(head + 6);
+        of->other_size = size_in(head + 10);
         of->name = read_bytes(of->name_size);
         of->bytes = read_bytes(of->size);
+        of->other = read_bytes(of->other_size);
     }
 }
 

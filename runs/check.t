@@ -1,16 +1,16 @@
 The first example of the README: a table
 
   $ geoarrow_check ../examples/schema.jsonl
-  column     holds                                     CRS        edges
-  id         int64
-  outline    multipolygon interleaved XYZ              EPSG:4326  spherical
+    column     holds                                     CRS        edges
+    id         int64
+  W outline    multipolygon interleaved XYZ              EPSG:4326  spherical
       warning[NullableInner] at item, field: found nullable; expected not null
-  any        geometry separated -                                 planar
-  footprint  wkb - -                                              planar
-  label      invalid geoarrow.wkb
+    any        geometry separated                                   planar
+    footprint  wkb                                                  planar
+  E label      invalid geoarrow.wkb
       error[WrongStorage] field: found utf8; expected binary, large_binary or binary_view. For WKT use geoarrow.wkt.
-  track      struct<x: float64 not null, y: float64..
-  broken     invalid geoarrow.geometry
+    track      struct<x: float64 not null, y: float64..
+  E broken     invalid geoarrow.geometry
       error[EmptyUnion] field: found dense_union<>; expected union whose type ids are among 1 to 7, 11 to 17, 21 to 27 and 31 to 37. The union has no members.
   [1]
 
@@ -27,20 +27,20 @@ Several files, each under its name; a CRS by its code, its name or its text; an 
   > echo '{"name":"wkt","nullable":true,"type":"utf8"}' > "$TMPDIR/two"
   > cd "$TMPDIR" && geoarrow_check --infer one two
   one:
-  column         holds                        CRS                                       edges
-  named          wkb - -                      WGS 84                                    planar
-  code           wkb - -                      OGC:CRS84                                 planar
-  long           wkb - -                      01234567890123456789012345678901234567..  planar
+    column         holds                        CRS                                       edges
+    named          wkb                          WGS 84                                    planar
+    code           wkb                          OGC:CRS84                                 planar
+  W long           wkb                          01234567890123456789012345678901234567..  planar
       warning[CrsWithoutType] extension metadata /crs: found "0123456789012345678901234567890123456789x"; expected PROJJSON, WKT, a code as EPSG:4326, or a crs_type
-  number         wkb - -                      a CRS                                     planar
+  W number         wkb                          a CRS                                     planar
       warning[CrsNumber] extension metadata /crs: found 4326.5; expected an object or a text
-  flag\u{1b}[1m  extension arrow.bool8
-  bad            invalid geoarrow.linestring
+    flag\u{1b}[1m  extension arrow.bool8
+  E bad            invalid geoarrow.linestring
       error[BadFieldCount] at v, field: found struct<>; expected list<coordinates>. The number of the fields is that of no dimension.
       error[UnknownEdges] extension metadata /edges: found 1; expected andoyer, karney, spherical, thomas or vincenty. Leave it out where edges are planar.
   two:
-  column  holds              CRS  edges
-  wkt     taken for wkt - -       planar
+    column  holds          CRS  edges
+    wkt     taken for wkt       planar
   2 files: 7 columns, 5 of geometries; 2 errors and 2 warnings in 1 file
   [1]
 
@@ -53,7 +53,7 @@ Only errors, each in a line with the file's name
 
   $ geoarrow_check -q ../crates/geoarrow_check/data/geo.parquet | cut -c1-110
   ../crates/geoarrow_check/data/geo.parquet: error[GeoTypes] column geom, geo /columns/geom/geometry_types/1: fo
-  ../crates/geoarrow_check/data/geo.parquet: error[GeoBboxOrder] column geom, geo /columns/geom/bbox/1: found 3;
+  ../crates/geoarrow_check/data/geo.parquet: error[GeoBboxOrder] column geom, geo /columns/geom/bbox/1: found ym
 
   $ geoarrow_check --quiet ../crates/geoarrow_check/data/file.arrow
 
@@ -68,16 +68,16 @@ With them why files are refused, bad lines and what is not met; all on standard 
   >     cat said
   > done
   lines: error[BadLine] line 2: found JSON that is no object; expected a JSON object
-  lines: error[Expect]: no column b
-  lines: error[NoGeometry]: no column of geometries
+  lines: error[Expect] column b, arguments: expected point. No column has that name.
+  lines: error[NoGeometry] file: found 1 column; expected a column of geometries. With --infer columns count whose types tell geometries, too.
   2
   cut.parquet: error[FooterLength] byte 0: found 827474256; expected a footer before its size
   2
   nowhere: error[CannotRead]: found No such file or directory (os error 2); expected a file that can be read
   2
   i\u{1b}n: error[WrongStorage] column a\u{a}b, field: found utf8; expected binary, large_binary or binary_view. For WKT use geoarrow.wkt.
-  i\u{1b}n: error[Expect]: no column b
-  i\u{1b}n: error[NoGeometry]: no column of geometries
+  i\u{1b}n: error[Expect] column b, arguments: expected point. No column has that name.
+  i\u{1b}n: error[NoGeometry] file: found 1 column; expected a column of geometries. With --infer columns count whose types tell geometries, too.
   1
 
   $ geoarrow_check --quiet --format github ../examples/schema.jsonl
@@ -88,20 +88,19 @@ With them why files are refused, bad lines and what is not met; all on standard 
 Only columns and files of which something is found: of rows the invalid ones, and those with findings that are shown
 
   $ geoarrow_check --problems ../examples/schema.jsonl
-  column   holds                         CRS        edges
-  outline  multipolygon interleaved XYZ  EPSG:4326  spherical
+    column   holds                         CRS        edges
+  W outline  multipolygon interleaved XYZ  EPSG:4326  spherical
       warning[NullableInner] at item, field: found nullable; expected not null
-  label    invalid geoarrow.wkb
+  E label    invalid geoarrow.wkb
       error[WrongStorage] field: found utf8; expected binary, large_binary or binary_view. For WKT use geoarrow.wkt.
-  broken   invalid geoarrow.geometry
+  E broken   invalid geoarrow.geometry
       error[EmptyUnion] field: found dense_union<>; expected union whose type ids are among 1 to 7, 11 to 17, 21 to 27 and 31 to 37. The union has no members.
   [1]
 
   $ geoarrow_check --problems --allow warnings --allow WrongStorage --allow EmptyUnion ../examples/schema.jsonl
-  column  holds                      CRS  edges
-  label   invalid geoarrow.wkb
-  broken  invalid geoarrow.geometry
-  [1]
+    column  holds                      CRS  edges
+    label   invalid geoarrow.wkb
+    broken  invalid geoarrow.geometry
 
   $ geoarrow_check --problems ../crates/geoarrow_check/data/stored.parquet
   warning[NoGeoMetadata] file: expected metadata of GeoParquet at the key geo
@@ -144,12 +143,53 @@ The columns as an Arrow stream, which is read back
 Columns of Parquet files
 
   $ geoarrow_check ../crates/geoarrow_check/data/stored.parquet
-  column  holds          CRS  edges
-  g       large_wkb - -       planar
+    column  holds      CRS  edges
+    g       large_wkb       planar
   warning[NoGeoMetadata] file: expected metadata of GeoParquet at the key geo
 
   $ geoarrow_check --json - < ../crates/geoarrow_check/data/plain.parquet
   {"kind":"column","index":0,"column":"g","state":"plain","type":"binary"}
+  {"kind":"file","read":true,"columns":1,"geometries":0,"errors":0,"warnings":0,"notes":0,"status":0}
+
+Columns of geometries in normal form, whatever their CRS is; other columns as they are. The status is that of the given columns. The normal form is its own, as lines and as a stream; nothing is found of its form; what is inferred changes nothing
+
+  $ cat > "$TMPDIR/forms" << 'END'
+  > {"metadata":{"ARROW:extension:metadata":"{\"edges\":\"planar\",\"crs\":{\"type\":\"ProjectedCRS\",\"name\":\"x\",\"scale\":0.99960}}","ARROW:extension:name":"ogc.wkb","k":"v"},"name":"b","nullable":true,"type":"large_binary"}
+  > {"metadata":{"ARROW:extension:metadata":"{}","ARROW:extension:name":"geoarrow.point"},"name":"p","nullable":false,"type":{"struct":[{"name":"lon","nullable":true,"type":"float32"},{"name":"lat","nullable":true,"type":"float32"}]}}
+  > {"metadata":{"ARROW:extension:metadata":"{\"crs\":\"EPSG:4326\",\"other\":1}","ARROW:extension:name":"geoarrow.linestring"},"name":"l","nullable":true,"type":{"large_list":{"name":"item","nullable":true,"type":{"fixed_size_list":{"name":"xyz","nullable":true,"type":"float64"},"size":3}}}}
+  > {"metadata":{"ARROW:extension:name":"geoarrow.wkb"},"name":"wrong","nullable":true,"type":"utf8"}
+  > {"name":"n","nullable":true,"type":"int64"}
+  > END
+  > cd "$TMPDIR" && geoarrow_check --canonical --lines forms > once; echo $?; cat once
+  > geoarrow_check --canonical --lines once | cmp - once; geoarrow_check --canonical --ipc forms | geoarrow_check --lines - | cmp - once
+  > geoarrow_check --canonical --lines --infer forms | cmp - once; geoarrow_check once
+  1
+  {"metadata":{"ARROW:extension:metadata":"{\"crs\":{\"type\":\"ProjectedCRS\",\"name\":\"x\",\"scale\":0.99960}}","ARROW:extension:name":"geoarrow.wkb","k":"v"},"name":"b","nullable":true,"type":"large_binary"}
+  {"metadata":{"ARROW:extension:name":"geoarrow.point"},"name":"p","nullable":false,"type":{"struct":[{"name":"x","nullable":false,"type":"float64"},{"name":"y","nullable":false,"type":"float64"}]}}
+  {"metadata":{"ARROW:extension:metadata":"{\"crs\":\"EPSG:4326\"}","ARROW:extension:name":"geoarrow.linestring"},"name":"l","nullable":true,"type":{"list":{"name":"vertices","nullable":false,"type":{"fixed_size_list":{"name":"xyz","nullable":false,"type":"float64"},"size":3}}}}
+  {"metadata":{"ARROW:extension:name":"geoarrow.wkb"},"name":"wrong","nullable":true,"type":"utf8"}
+  {"name":"n","nullable":true,"type":"int64"}
+    column  holds                       CRS        edges
+    b       large_wkb                   x          planar
+    p       point separated XY                     planar
+    l       linestring interleaved XYZ  EPSG:4326  planar
+  E wrong   invalid geoarrow.wkb
+      error[WrongStorage] field: found utf8; expected binary, large_binary or binary_view. For WKT use geoarrow.wkt.
+    n       int64
+  [1]
+
+The columns of a GeoParquet file in normal form
+
+  $ geoarrow_check --canonical --lines ../crates/geoarrow_check/data/geo.parquet
+  {"metadata":{"ARROW:extension:metadata":"{\"crs\":\"OGC:CRS84\",\"crs_type\":\"authority_code\"}","ARROW:extension:name":"geoarrow.wkb"},"name":"geom","nullable":true,"type":"binary"}
+  {"metadata":{"ARROW:extension:metadata":"{\"crs\":\"EPSG:4326\",\"crs_type\":\"authority_code\"}","ARROW:extension:name":"geoarrow.wkb"},"name":"place","nullable":true,"type":"binary"}
+  {"metadata":{"ARROW:extension:metadata":"{\"crs\":\"OGC:CRS84\",\"crs_type\":\"authority_code\",\"edges\":\"karney\"}","ARROW:extension:name":"geoarrow.wkb"},"name":"region","nullable":true,"type":"binary"}
+  [1]
+
+Where geoarrow_fields canon answers a field, both give the same
+
+  $ geoarrow_fields canon < ../examples/schema.jsonl | grep '^{' > "$TMPDIR/canon"; wc -l < "$TMPDIR/canon"; geoarrow_check --canonical --lines ../examples/schema.jsonl | grep -e '"outline"' -e '"any"' -e '"footprint"' | cmp - "$TMPDIR/canon"
+  3
 
 Columns of other types as lines, which are read back
 
@@ -159,14 +199,14 @@ Columns of other types as lines, which are read back
   {"name":"d","nullable":true,"type":{"other":"dictionary<values=large_utf8, indices=int16, ordered=1>"}}
 
   $ geoarrow_check --lines ../crates/geoarrow_check/data/other.arrows | geoarrow_check -
-  column  holds                                     CRS  edges
-  g       point interleaved XY                           planar
-  é       dense_union<p: utf8=5, q: timestamp[us..
-  d       dictionary<values=large_utf8, indices=..
+    column  holds                                     CRS  edges
+    g       point interleaved XY                           planar
+    é       dense_union<p: utf8=5, q: timestamp[us..
+    d       dictionary<values=large_utf8, indices=..
 
   $ echo '{"metadata":{"ARROW:extension:name":"geoarrow.point"},"name":"p","nullable":true,"type":{"other":"map<e: null>"}}' | geoarrow_check -
-  column  holds                   CRS  edges
-  p       invalid geoarrow.point
+    column  holds                   CRS  edges
+  E p       invalid geoarrow.point
       error[UnexpectedType] field: found map<e: null>; expected coordinates. The layout has no such type there.
   [1]
 
@@ -211,13 +251,12 @@ What a column is expected to hold: parts in any order
   $ geoarrow_check --quiet --expect g=linestring,XYM ../crates/geoarrow_check/data/file.arrow
 
   $ geoarrow_check --quiet --expect g=XY,WKB --expect h=point --expect g=OGC:CRS84 ../crates/geoarrow_check/data/file.arrow
-  ../crates/geoarrow_check/data/file.arrow: error[Expect]: column g is not XY: linestring interleaved XYM, no CRS, planar
-  ../crates/geoarrow_check/data/file.arrow: error[Expect]: no column h
-  ../crates/geoarrow_check/data/file.arrow: error[Expect]: column g is not OGC:CRS84: linestring interleaved XYM, no CRS, planar
+  ../crates/geoarrow_check/data/file.arrow: error[Expect] column g, arguments: found linestring interleaved XYM, no CRS, planar; expected XY
+  ../crates/geoarrow_check/data/file.arrow: error[Expect] column h, arguments: expected point. No column has that name.
+  ../crates/geoarrow_check/data/file.arrow: error[Expect] column g, arguments: found linestring interleaved XYM, no CRS, planar; expected OGC:CRS84
   [1]
 
   $ geoarrow_check --json --expect id=point ../examples/schema.jsonl 2>&1 > /dev/null
-  ../examples/schema.jsonl: error[Expect]: column id holds no geometries
   [1]
 
 Letters are alike in words, edges are words too, and a CRS is met by one that agrees with it, whatever its form; one that is not known by none
@@ -233,15 +272,15 @@ Letters are alike in words, edges are words too, and a CRS is met by one that ag
   met: code=EPSG:4326
   met: code=epsg:4326,Spherical,WKB,Wkb
   met: code=ogc:crs84
-  crs.jsonl: error[Expect]: column code is not EPSG:3857: wkb - -, EPSG:4326, spherical
-  crs.jsonl: error[Expect]: column code is not planar: wkb - -, EPSG:4326, spherical
-  crs.jsonl: error[Expect]: column code is not EPSG:432: wkb - -, EPSG:4326, spherical
+  crs.jsonl: error[Expect] column code, arguments: found wkb - -, EPSG:4326, spherical; expected EPSG:3857
+  crs.jsonl: error[Expect] column code, arguments: found wkb - -, EPSG:4326, spherical; expected planar
+  crs.jsonl: error[Expect] column code, arguments: found wkb - -, EPSG:4326, spherical; expected EPSG:432
   met: none=PLANAR,Wkt
-  crs.jsonl: error[Expect]: column none is not EPSG:4326: wkt - -, no CRS, planar
-  crs.jsonl: error[Expect]: column none is not unknown: wkt - -, no CRS, planar
+  crs.jsonl: error[Expect] column none, arguments: found wkt - -, no CRS, planar; expected EPSG:4326
+  crs.jsonl: error[Expect] column none, arguments: found wkt - -, no CRS, planar; expected unknown
   met: projjson=EPSG:4326,planar
-  crs.jsonl: error[Expect]: column projjson is not OGC:CRS83: wkb - -, OGC:CRS84, planar
-  crs.jsonl: error[Expect]: column projjson is not WGS 84: wkb - -, OGC:CRS84, planar
+  crs.jsonl: error[Expect] column projjson, arguments: found wkb - -, OGC:CRS84, planar; expected OGC:CRS83
+  crs.jsonl: error[Expect] column projjson, arguments: found wkb - -, OGC:CRS84, planar; expected WGS 84
   [1]
 
 An expectation of which a part is empty is refused
@@ -256,6 +295,19 @@ An expectation of which a part is empty is refused
   error: a part of WANT is empty in 'g=,point'
   error: a part of WANT is empty in 'g=point,,XY'
 
+With --json a line stands behind each file, with how many columns and findings it has, and its status; what differs from the first file counts
+
+  $ cd "$TMPDIR" && echo '{"name":"id","nullable":true,"type":"int64"}' > a && echo '{"name":"id","nullable":true,"type":"int32"}' > b && echo '{}' > c && : > d
+  > geoarrow_check --json --same a b c d - < a | grep -v '"kind":"column"\|"kind":"finding"'
+  > geoarrow_check --json --infer --notes --deny NullableInner "$top/examples/schema.jsonl" | tail -n 1 | sed 's|"[^"]*/examples|"examples|'
+  {"kind":"file","file":"a","read":true,"columns":1,"geometries":0,"errors":0,"warnings":0,"notes":0,"status":0}
+  {"kind":"file","file":"b","read":true,"columns":1,"geometries":0,"errors":1,"warnings":0,"notes":0,"status":1}
+  {"kind":"file","file":"c","read":true,"columns":0,"geometries":0,"errors":2,"warnings":0,"notes":0,"status":2}
+  {"kind":"file","file":"d","read":false,"status":2}
+  {"kind":"file","read":true,"columns":1,"geometries":0,"errors":0,"warnings":0,"notes":0,"status":0}
+  {"kind":"summary","files":5,"unread":1,"failed":1,"errors":3,"warnings":0,"notes":0,"status":2}
+  {"kind":"file","file":"examples/schema.jsonl","read":true,"columns":7,"geometries":4,"errors":3,"warnings":0,"notes":0,"status":1}
+
 A folder stands for its files with seven endings, down all folders, in the order of bytes; what begins with `_` or `.` is left out, and a link to a folder is not followed
 
   $ cd "$TMPDIR" && mkdir -p lake/sub/deep lake/_tmp lake/.h lake/none lake/d.parquet && for file in b.jsonl a.ndjson A.jsonl sub/x.jsonl sub-1.jsonl sub/deep/y.ndjson _tmp/z.jsonl .h/z.jsonl sub/_q.jsonl sub/.q.jsonl c.json d.JSONL e.jsonl.crc jsonl d.parquet/part.jsonl
@@ -265,7 +317,7 @@ A folder stands for its files with seven endings, down all folders, in the order
   > ln -s ../sub lake/none/link && ln -s ../b.jsonl lake/none/link.jsonl
   > for words in lake 'lake/none/ lake//sub' 'lake/c.json lake/_tmp' lake/none/link
   > do
-  >     echo $(geoarrow_check --json $words | sed 's/.*"file":"\([^"]*\)".*/\1/')
+  >     echo $(geoarrow_check --json $words | grep -v '"kind":"file"' | sed 's/.*"file":"\([^"]*\)".*/\1/')
   > done
   > for end in parquet geoparquet arrow feather arrows jsonl ndjson; do : > lake/none/f.$end; done
   > geoarrow_check -q lake/none | cut -d: -f1
@@ -289,8 +341,11 @@ A folder that is not listed, or not all of it, is refused, and the other files a
   > geoarrow_check none && geoarrow_check --ipc some; echo $?
   > rm some/part/*l && geoarrow_check --ipc some > one && geoarrow_check --ipc some/b.jsonl | cmp - one && echo one
   {"kind":"column","file":"some/b.jsonl","index":0,"column":"a","state":"plain","type":"null"}
+  {"kind":"file","file":"some/b.jsonl","read":true,"columns":1,"geometries":0,"errors":0,"warnings":0,"notes":0,"status":0}
   {"kind":"finding","severity":"error","code":"CannotRead","file":"some/part","found":"..","expected":"a file that can be read"}
+  {"kind":"file","file":"some/part","read":false,"status":2}
   {"kind":"column","file":"some/part/c.jsonl","index":0,"column":"a","state":"plain","type":"null"}
+  {"kind":"file","file":"some/part/c.jsonl","read":true,"columns":1,"geometries":0,"errors":0,"warnings":0,"notes":0,"status":0}
   {"kind":"summary","files":3,"unread":1,"failed":0,"errors":0,"warnings":0,"notes":0,"status":2}
   geoarrow_check: --ipc takes one file
   2
@@ -328,19 +383,19 @@ A table is not wider than a terminal whose columns are known, as long as its cel
 
   $ on_terminal() { python3 -c 'import pty, sys; pty.spawn(sys.argv[1:])' "$@" | tr -d '\r'; }
   > cd "$TMPDIR" && echo '{"metadata":{"ARROW:extension:name":"geoarrow.linestring","ARROW:extension:metadata":"{\"crs\":\"EPSG:31370\",\"edges\":\"spherical\"}"},"name":"the_roads_of_a_country","nullable":true,"type":{"list":{"name":"vertices","nullable":false,"type":{"fixed_size_list":{"name":"xym","nullable":false,"type":"float64"},"size":3}}}}' > roads.jsonl
-  > for columns in 73 71 60 48 20 '' x
+  > for columns in 75 73 62 50 20 '' x
   > do
   >     COLUMNS=$columns on_terminal geoarrow_check --color never roads.jsonl | tail -n 1
   > done
   > COLUMNS=20 geoarrow_check roads.jsonl | tail -n 1
-  the_roads_of_a_country  linestring interleaved XYM  EPSG:31370  spherical
-  the_roads_of_a_country  linestring interleaved..  EPSG:31370  spherical
-  the_roads_of_a_..  linestring inte..  EPSG:31370  spherical
-  the_roads..  linestrin..  EPSG:31370  spherical
-  the_ro..  linest..  EPSG:3..  spheri..
-  the_roads_of_a_country  linestring interleaved XYM  EPSG:31370  spherical
-  the_roads_of_a_country  linestring interleaved XYM  EPSG:31370  spherical
-  the_roads_of_a_country  linestring interleaved XYM  EPSG:31370  spherical
+    the_roads_of_a_country  linestring interleaved XYM  EPSG:31370  spherical
+    the_roads_of_a_country  linestring interleaved..  EPSG:31370  spherical
+    the_roads_of_a_..  linestring inte..  EPSG:31370  spherical
+    the_roads..  linestrin..  EPSG:31370  spherical
+    the_ro..  linest..  EPSG:3..  spheri..
+    the_roads_of_a_country  linestring interleaved XYM  EPSG:31370  spherical
+    the_roads_of_a_country  linestring interleaved XYM  EPSG:31370  spherical
+    the_roads_of_a_country  linestring interleaved XYM  EPSG:31370  spherical
 
 An Arrow stream is refused to a terminal, as bytes are no text
 
@@ -355,18 +410,18 @@ A text has the columns of a terminal that its characters have: East Asian wide o
   $ python3 -c 'import json
   > for name in ("東京", "e\u0301", "x", "❤\ufe0f", "東" * 20, "東" * 21, "x" + "東" * 20, "e\u0301" * 40, "e\u0301" * 41, "❤\ufe0f" * 20, "❤\ufe0f" * 21):
   >     print(json.dumps({"name": name, "nullable": True, "type": "null"}))' | geoarrow_check -
-  column                                    holds  CRS  edges
-  東京                                      null
-  é                                         null
-  x                                         null
-  ❤️                                        null
-  東東東東東東東東東東東東東東東東東東東東  null
-  東東東東東東東東東東東東東東東東東東東..  null
-  x東東東東東東東東東東東東東東東東東東..   null
-  éééééééééééééééééééééééééééééééééééééééé  null
-  éééééééééééééééééééééééééééééééééééééé..  null
-  ❤️❤️❤️❤️❤️❤️❤️❤️❤️❤️❤️❤️❤️❤️❤️❤️❤️❤️❤️❤️  null
-  ❤️❤️❤️❤️❤️❤️❤️❤️❤️❤️❤️❤️❤️❤️❤️❤️❤️❤️❤️..  null
+    column                                    holds  CRS  edges
+    東京                                      null
+    é                                         null
+    x                                         null
+    ❤️                                        null
+    東東東東東東東東東東東東東東東東東東東東  null
+    東東東東東東東東東東東東東東東東東東東..  null
+    x東東東東東東東東東東東東東東東東東東..   null
+    éééééééééééééééééééééééééééééééééééééééé  null
+    éééééééééééééééééééééééééééééééééééééé..  null
+    ❤️❤️❤️❤️❤️❤️❤️❤️❤️❤️❤️❤️❤️❤️❤️❤️❤️❤️❤️❤️  null
+    ❤️❤️❤️❤️❤️❤️❤️❤️❤️❤️❤️❤️❤️❤️❤️❤️❤️❤️❤️..  null
 
 Only the end of an Arrow file is read, and only the first message of a stream
 
@@ -376,6 +431,7 @@ Only the end of an Arrow file is read, and only the first message of a stream
 
   $ (cat ../crates/geoarrow_check/data/stream.arrows; yes) | geoarrow_check --json -
   {"kind":"column","index":0,"column":"a","state":"plain","type":"int64"}
+  {"kind":"file","read":true,"columns":1,"geometries":0,"errors":0,"warnings":0,"notes":0,"status":0}
 
 A stream as written before Arrow 0.15, without the marker, as flatc wrote it: as standard input, and as a file; written anew, and cut off
 
@@ -386,8 +442,11 @@ A stream as written before Arrow 0.15, without the marker, as flatc wrote it: as
   > python3 -c 'import sys; sys.stdout.buffer.write(bytes.fromhex(sys.stdin.read()))' < "$TMPDIR/old" > "$TMPDIR/old.arrows" && cd "$TMPDIR" && geoarrow_check --json old.arrows && (cat old.arrows; yes) | geoarrow_check --json -
   > geoarrow_check --ipc old.arrows | geoarrow_check --json - && head -c 100 old.arrows > cut && geoarrow_check cut
   {"kind":"column","file":"old.arrows","index":0,"column":"line\nfeed","state":"plain","type":"uint32"}
+  {"kind":"file","file":"old.arrows","read":true,"columns":1,"geometries":0,"errors":0,"warnings":0,"notes":0,"status":0}
   {"kind":"column","index":0,"column":"line\nfeed","state":"plain","type":"uint32"}
+  {"kind":"file","read":true,"columns":1,"geometries":0,"errors":0,"warnings":0,"notes":0,"status":0}
   {"kind":"column","index":0,"column":"line\nfeed","state":"plain","type":"uint32"}
+  {"kind":"file","read":true,"columns":1,"geometries":0,"errors":0,"warnings":0,"notes":0,"status":0}
   cut: error[Truncated] byte 100: found 96 bytes; expected 164 bytes. The file is cut off, or still being written
   [2]
 
@@ -397,12 +456,12 @@ A stream as written before Arrow 0.15, without the marker, as flatc wrote it: as
   > do
   >     yes "$(cat point.jsonl)" | head -n 200000 | (ulimit -v 16000; geoarrow_check $word --expect geometry=point --expect b=XY -) | sed 's/"index":[0-9]*,//' | uniq -c | cut -c1-60
   > done
-        1 -: error[Expect]: no column b
-  -: error[Expect]: no column b
+        1 -: error[Expect] column b, arguments: expected XY. N
+  -: error[Expect] column b, arguments: expected XY. No column has that name.
    200000 {"metadata":{"ARROW:extension:name":"geoarrow.point"
-  -: error[Expect]: no column b
    200000 {"kind":"column","column":"geometry","state":"geomet
-        1 ::error title=Expect::no column b
+        1 {"kind":"finding","severity":"error","code":"Expect"
+        1 ::error title=Expect::column b, arguments: expected 
 
   $ yes "$(cat point.jsonl)" | head -n 200000 | (ulimit -v 16000; geoarrow_check --json -) | sed -n '1p;$p' | grep -o '"index":[0-9]*'
   "index":0
@@ -416,8 +475,10 @@ A line of 1,048,576 bytes, and one with a byte more
   > done
   {"kind":"column","index":0,"column":"geometry","state":"geom
   {"kind":"column","index":1,"column":"a","state":"plain","typ
+  {"kind":"file","read":true,"columns":2,"geometries":1,"error
   {"kind":"column","index":0,"column":"geometry","state":"geom
   {"kind":"finding","severity":"error","code":"LongLine","line
+  {"kind":"file","read":false,"status":2}
 
 An input without a line feed, which does not end
 
@@ -435,15 +496,18 @@ Lines of JSON
   {"kind":"column","file":"../examples/schema.jsonl","index":4,"column":"label","state":"invalid","type":"utf8","extension":"geoarrow.wkb","findings":[{"severity":"error","code":"WrongStorage","in":"field","found":"utf8","expected":"binary, large_binary or binary_view","help":"For WKT use geoarrow.wkt."}]}
   {"kind":"column","file":"../examples/schema.jsonl","index":5,"column":"track","state":"inferred","type":"point separated XYM","edges":"planar","geometry_types":["Point M"]}
   {"kind":"column","file":"../examples/schema.jsonl","index":6,"column":"broken","state":"invalid","type":"dense_union<>","extension":"geoarrow.geometry","findings":[{"severity":"error","code":"EmptyUnion","in":"field","found":"dense_union<>","expected":"union whose type ids are among 1 to 7, 11 to 17, 21 to 27 and 31 to 37","help":"The union has no members."}]}
+  {"kind":"file","file":"../examples/schema.jsonl","read":true,"columns":7,"geometries":4,"errors":2,"warnings":1,"notes":0,"status":1}
   [1]
 
 Standard input has no name; a stream is told from lines by its first bytes
 
   $ echo '{"name":"a","nullable":true,"type":"float64"}' | geoarrow_check --json -
   {"kind":"column","index":0,"column":"a","state":"plain","type":"float64"}
+  {"kind":"file","read":true,"columns":1,"geometries":0,"errors":0,"warnings":0,"notes":0,"status":0}
 
   $ geoarrow_check --json - < ../crates/geoarrow_check/data/stream.arrows
   {"kind":"column","index":0,"column":"a","state":"plain","type":"int64"}
+  {"kind":"file","read":true,"columns":1,"geometries":0,"errors":0,"warnings":0,"notes":0,"status":0}
 
 A file of no bytes, or of blank lines alone, is empty
 
@@ -457,6 +521,9 @@ A file of no bytes, or of blank lines alone, is empty
         8 -: error[EmptyFile] byte 0: found 0 bytes, or blanks alone; expected an Arrow file, an Arrow stream, a Parquet file or lines of fields. The writing or the copy broke off before its first byte
         4 blank: error[EmptyFile] byte 0: found 0 bytes, or blanks alone; expected an Arrow file, an Arrow stream, a Parquet file or lines of fields. The writing or the copy broke off before its first byte
         4 none: error[EmptyFile] byte 0: found 0 bytes, or blanks alone; expected an Arrow file, an Arrow stream, a Parquet file or lines of fields. The writing or the copy broke off before its first byte
+        1 {"kind":"file","file":"blank","read":false,"status":2}
+        1 {"kind":"file","file":"none","read":false,"status":2}
+        2 {"kind":"file","read":false,"status":2}
         2 {"kind":"finding","severity":"error","code":"EmptyFile","byte":0,"found":"0 bytes, or blanks alone","expected":"an Arrow file, an Arrow stream, a Parquet file or lines of fields","help":"The writing or the copy broke off before its first byte"}
         1 {"kind":"finding","severity":"error","code":"EmptyFile","file":"blank","byte":0,"found":"0 bytes, or blanks alone","expected":"an Arrow file, an Arrow stream, a Parquet file or lines of fields","help":"The writing or the copy broke off before its first byte"}
         1 {"kind":"finding","severity":"error","code":"EmptyFile","file":"none","byte":0,"found":"0 bytes, or blanks alone","expected":"an Arrow file, an Arrow stream, a Parquet file or lines of fields","help":"The writing or the copy broke off before its first byte"}
@@ -467,6 +534,7 @@ A file of no bytes, or of blank lines alone, is empty
 
   $ geoarrow_check --json - < /dev/null
   {"kind":"finding","severity":"error","code":"EmptyFile","byte":0,"found":"0 bytes, or blanks alone","expected":"an Arrow file, an Arrow stream, a Parquet file or lines of fields","help":"The writing or the copy broke off before its first byte"}
+  {"kind":"file","read":false,"status":2}
   [2]
 
 A blank line is passed over, wherever it stands, and counts as a line
@@ -474,11 +542,13 @@ A blank line is passed over, wherever it stands, and counts as a line
   $ printf '\n{"name":"a","nullable":true,"type":"null"}\r\n \t\n{"name":"b","nullable":true,"type":"null"}\n\n' | geoarrow_check --json -
   {"kind":"column","index":0,"column":"a","state":"plain","type":"null"}
   {"kind":"column","index":1,"column":"b","state":"plain","type":"null"}
+  {"kind":"file","read":true,"columns":2,"geometries":0,"errors":0,"warnings":0,"notes":0,"status":0}
 
   $ printf '{"name":"a","nullable":true,"type":"null"}\n\n \r\n[]\n{"name":"b","nullable":true,"type":"null"}\n' | geoarrow_check --json -
   {"kind":"column","index":0,"column":"a","state":"plain","type":"null"}
   {"kind":"column","index":1,"column":"b","state":"plain","type":"null"}
   {"kind":"finding","severity":"error","code":"BadLine","line":4,"found":"JSON that is no object","expected":"a JSON object"}
+  {"kind":"file","read":true,"columns":2,"geometries":0,"errors":1,"warnings":0,"notes":0,"status":2}
   [2]
 
 What is said with notes alone: a number in a CRS that is not whole
@@ -488,51 +558,54 @@ What is said with notes alone: a number in a CRS that is not whole
   > {"metadata":{"ARROW:extension:metadata":"","ARROW:extension:name":"geoarrow.wkb"},"name":"e","nullable":true,"type":"binary"}
   > END
   > cd "$TMPDIR" && geoarrow_check projjson && geoarrow_check --notes projjson && geoarrow_check --json - < projjson && geoarrow_check --notes --json - < projjson
-  column  holds    CRS        edges
-  g       wkb - -  EPSG:4326  planar
-  e       wkb - -             planar
+    column  holds  CRS        edges
+    g       wkb    EPSG:4326  planar
+  W e       wkb               planar
       warning[MetadataEmpty] extension metadata: found ""; expected no metadata, or {}. It is read as no metadata.
-  column  holds    CRS        edges
-  g       wkb - -  EPSG:4326  planar
+    column  holds  CRS        edges
+  N g       wkb    EPSG:4326  planar
       note[CrsNotWhole] extension metadata /crs/scale: found 0.5; expected whole numbers. For this alone read and canon of geoarrow_fields refuse the field; other readers do not.
-  e       wkb - -             planar
+  W e       wkb               planar
       warning[MetadataEmpty] extension metadata: found ""; expected no metadata, or {}. It is read as no metadata.
   {"kind":"column","index":0,"column":"g","state":"geometry","type":"wkb - -","type_from":"field","extension":"geoarrow.wkb","crs":{"type":"GeographicCRS","name":"WGS 84","id":{"authority":"EPSG","code":4326},"scale":0.5},"crs_from":"field","edges":"planar","edges_from":"field"}
   {"kind":"column","index":1,"column":"e","state":"geometry","type":"wkb - -","type_from":"field","extension":"geoarrow.wkb","edges":"planar","findings":[{"severity":"warning","code":"MetadataEmpty","in":"extension metadata","pointer":"","found":"\"\"","expected":"no metadata, or {}","help":"It is read as no metadata."}]}
+  {"kind":"file","read":true,"columns":2,"geometries":2,"errors":0,"warnings":1,"notes":0,"status":0}
   {"kind":"column","index":0,"column":"g","state":"geometry","type":"wkb - -","type_from":"field","extension":"geoarrow.wkb","crs":{"type":"GeographicCRS","name":"WGS 84","id":{"authority":"EPSG","code":4326},"scale":0.5},"crs_from":"field","edges":"planar","edges_from":"field","findings":[{"severity":"note","code":"CrsNotWhole","in":"extension metadata","pointer":"/crs/scale","found":"0.5","expected":"whole numbers","help":"For this alone read and canon of geoarrow_fields refuse the field; other readers do not."}]}
   {"kind":"column","index":1,"column":"e","state":"geometry","type":"wkb - -","type_from":"field","extension":"geoarrow.wkb","edges":"planar","findings":[{"severity":"warning","code":"MetadataEmpty","in":"extension metadata","pointer":"","found":"\"\"","expected":"no metadata, or {}","help":"It is read as no metadata."}]}
+  {"kind":"file","read":true,"columns":2,"geometries":2,"errors":0,"warnings":1,"notes":1,"status":0}
 
 Names of files that would control a terminal, or stand on two lines: above a table, and in all that is said
 
   $ cd "$TMPDIR" && file=$(printf 'a\nb\033[1m') && echo '{"name":"a","nullable":true,"type":"null"}' > "$file" && geoarrow_check "$file" "$file"
   a\u{a}b\u{1b}[1m:
-  column  holds  CRS  edges
-  a       null
+    column  holds  CRS  edges
+    a       null
   a\u{a}b\u{1b}[1m:
-  column  holds  CRS  edges
-  a       null
+    column  holds  CRS  edges
+    a       null
   2 files: 2 columns, 0 of geometries; no findings
 
   $ cd "$TMPDIR" && file=$(printf 'a\nb\033[1m') && echo '{"name":"a","nullable":true,"type":{"other":"timestamp[ms]"}}' > "$file" && geoarrow_check --quiet --require-geometry --expect b=XY --expect a=XY "$file"; geoarrow_check --ipc "$file"; echo '{}' > "$file"; geoarrow_check "$file"; geoarrow_check "$file.parquet"; geoarrow_check --expect "$file" x 2>&1 | head -n 1
-  a\u{a}b\u{1b}[1m: error[Expect]: no column b
-  a\u{a}b\u{1b}[1m: error[Expect]: column a holds no geometries
-  a\u{a}b\u{1b}[1m: error[NoGeometry]: no column of geometries
+  a\u{a}b\u{1b}[1m: error[Expect] column b, arguments: expected XY. No column has that name.
+  a\u{a}b\u{1b}[1m: error[Expect] column a, arguments: found timestamp[ms]; expected XY
+  a\u{a}b\u{1b}[1m: error[NoGeometry] file: found 1 column; expected a column of geometries. With --infer columns count whose types tell geometries, too.
   a\u{a}b\u{1b}[1m: error[ColumnType] column 0: found a type that no message can hold; expected a type of Schema.fbs, nested at most 61 levels deep
-  column  holds  CRS  edges
+    column  holds  CRS  edges
   a\u{a}b\u{1b}[1m: error[BadLine] line 1: found no string at "name"; expected a string at "name"
   a\u{a}b\u{1b}[1m.parquet: error[CannotRead]: found No such file or directory (os error 2); expected a file that can be read
   error: 'a?b?[1m' is no COLUMN=WANT
 
   $ cd "$TMPDIR" && file=$(printf 'a\nb\033[1m') && echo '{"name":"a","nullable":true,"type":"null"}' > "$file" && geoarrow_check --json "$file"
   {"kind":"column","file":"a\nb\u001b[1m","index":0,"column":"a","state":"plain","type":"null"}
+  {"kind":"file","file":"a\nb\u001b[1m","read":true,"columns":1,"geometries":0,"errors":0,"warnings":0,"notes":0,"status":0}
 
 One long name, or one long type, does not widen the other rows
 
   $ long=$(head -c 20000 /dev/zero | tr '\0' a) && (echo "{\"name\":\"$long\",\"nullable\":true,\"type\":{\"list\":{\"name\":\"$long\",\"nullable\":true,\"type\":\"null\"}}}"; yes '{"name":"b","nullable":true,"type":"null"}' | head -n 20000) | geoarrow_check - | awk 'NR <= 3 { print } length($0) > longest { longest = length($0) } END { print NR, longest }'
-  column                                    holds                                     CRS  edges
-  aaaaaaaaaaaaaaaaaaaaaaaaaaaaaaaaaaaaaa..  list<aaaaaaaaaaaaaaaaaaaaaaaaaaaaaaaaa..
-  b                                         null
-  20002 94
+    column                                    holds                                     CRS  edges
+    aaaaaaaaaaaaaaaaaaaaaaaaaaaaaaaaaaaaaa..  list<aaaaaaaaaaaaaaaaaaaaaaaaaaaaaaaaa..
+    b                                         null
+  20002 96
 
 A PROJJSON of 60,009 bytes that 2,048 columns of a Parquet file name: refused, in 64 MB of addresses
 
@@ -558,19 +631,21 @@ A report that is too large: no column is printed, also of those before the one t
   > geoarrow_check --json stream
   > geoarrow_check --quiet --expect k=wkb stream && geoarrow_check --json lines | wc -l
   {"kind":"finding","severity":"error","code":"ReportTooLarge","file":"stream","found":"a larger report","expected":"a report of at most 1048576 bytes and 32 for each byte read"}
-  2
+  {"kind":"file","file":"stream","read":false,"status":2}
+  3
 
 A file without geometries where some are required
 
   $ geoarrow_check --require-geometry ../crates/geoarrow_check/data/stream.arrows 2> /dev/null
-  column  holds  CRS  edges
-  a       int64
-  ../crates/geoarrow_check/data/stream.arrows: error[NoGeometry]: no column of geometries
+    column  holds  CRS  edges
+    a       int64
+  ../crates/geoarrow_check/data/stream.arrows: error[NoGeometry] file: found 1 column; expected a column of geometries. With --infer columns count whose types tell geometries, too.
   [1]
 
   $ geoarrow_check --json --require-geometry ../crates/geoarrow_check/data/stream.arrows
   {"kind":"column","file":"../crates/geoarrow_check/data/stream.arrows","index":0,"column":"a","state":"plain","type":"int64"}
-  ../crates/geoarrow_check/data/stream.arrows: error[NoGeometry]: no column of geometries
+  {"kind":"finding","severity":"error","code":"NoGeometry","file":"../crates/geoarrow_check/data/stream.arrows","in":"file","found":"1 column","expected":"a column of geometries","help":"With --infer columns count whose types tell geometries, too."}
+  {"kind":"file","file":"../crates/geoarrow_check/data/stream.arrows","read":true,"columns":1,"geometries":0,"errors":1,"warnings":0,"notes":0,"status":1}
   [1]
 
   $ geoarrow_check --json --require-geometry ../crates/geoarrow_check/data/file.arrow > /dev/null
@@ -590,7 +665,7 @@ What is said of files stands on standard output, but beside lines of fields and 
   0
   0
   0
-  2
+  0
   5
   3
   1
@@ -600,8 +675,27 @@ Files that cannot be read: the next one is read all the same
 
   $ geoarrow_check --json nowhere.jsonl ../crates/geoarrow_check/data/stream.arrows
   {"kind":"finding","severity":"error","code":"CannotRead","file":"nowhere.jsonl","found":"No such file or directory (os error 2)","expected":"a file that can be read"}
+  {"kind":"file","file":"nowhere.jsonl","read":false,"status":2}
   {"kind":"column","file":"../crates/geoarrow_check/data/stream.arrows","index":0,"column":"a","state":"plain","type":"int64"}
+  {"kind":"file","file":"../crates/geoarrow_check/data/stream.arrows","read":true,"columns":1,"geometries":0,"errors":0,"warnings":0,"notes":0,"status":0}
   {"kind":"summary","files":2,"unread":1,"failed":0,"errors":0,"warnings":0,"notes":0,"status":2}
+  [2]
+
+Names that are not UTF-8: an argument is a file that is not read, and so is a folder that has one; the others are reported
+
+  $ cd "$TMPDIR" && mkdir lake && bad=$(printf 'x\376\303\251.jsonl') && echo '{"name":"a","nullable":true,"type":"null"}' > lake/a.jsonl && cp lake/a.jsonl "lake/$bad"
+  > geoarrow_check "lake/$bad" lake/a.jsonl; echo $?; geoarrow_check -q lake; echo $?; geoarrow_check --json "$bad"
+  lake/x\xfeé.jsonl: error[CannotRead]: found invalid filename; expected a file that can be read
+  lake/a.jsonl:
+    column  holds  CRS  edges
+    a       null
+  2 files: 1 column, 0 of geometries; no findings; 1 file not read
+  2
+  lake: error[CannotRead]: found invalid filename; expected a file that can be read
+  2 files: 1 column, 0 of geometries; no findings; 1 file not read
+  2
+  {"kind":"finding","severity":"error","code":"CannotRead","file":"x\\xfeé.jsonl","found":"invalid filename","expected":"a file that can be read"}
+  {"kind":"file","file":"x\\xfeé.jsonl","read":false,"status":2}
   [2]
 
 Lines that are no columns are told behind those that are, and no stream is written; what is expected is asked of the columns
@@ -612,23 +706,24 @@ Lines that are no columns are told behind those that are, and no stream is writt
   > done
   {"kind":"column","index":0,"column":"a","state":"plain","type":"null"}
   {"kind":"finding","severity":"error","code":"BadLine","line":2,"found":"JSON that is no object","expected":"a JSON object"}
-  -: error[Expect]: no column b
-  -: error[NoGeometry]: no column of geometries
+  {"kind":"finding","severity":"error","code":"Expect","column":"b","in":"arguments","expected":"point","help":"No column has that name."}
+  {"kind":"finding","severity":"error","code":"NoGeometry","in":"file","found":"1 column","expected":"a column of geometries","help":"With --infer columns count whose types tell geometries, too."}
+  {"kind":"file","read":true,"columns":1,"geometries":0,"errors":3,"warnings":0,"notes":0,"status":2}
   {"name":"a","nullable":true,"type":"null"}
   -: error[BadLine] line 2: found JSON that is no object; expected a JSON object
-  -: error[Expect]: no column b
-  -: error[NoGeometry]: no column of geometries
+  -: error[Expect] column b, arguments: expected point. No column has that name.
+  -: error[NoGeometry] file: found 1 column; expected a column of geometries. With --infer columns count whose types tell geometries, too.
   -: error[BadLine] line 2: found JSON that is no object; expected a JSON object
-  -: error[Expect]: no column b
-  -: error[NoGeometry]: no column of geometries
-  column  holds  CRS  edges
-  a       null
+  -: error[Expect] column b, arguments: expected point. No column has that name.
+  -: error[NoGeometry] file: found 1 column; expected a column of geometries. With --infer columns count whose types tell geometries, too.
+    column  holds  CRS  edges
+    a       null
   -: error[BadLine] line 2: found JSON that is no object; expected a JSON object
-  -: error[Expect]: no column b
-  -: error[NoGeometry]: no column of geometries
+  -: error[Expect] column b, arguments: expected point. No column has that name.
+  -: error[NoGeometry] file: found 1 column; expected a column of geometries
   -: error[BadLine] line 2: found JSON that is no object; expected a JSON object
-  -: error[Expect]: no column b
-  -: error[NoGeometry]: no column of geometries
+  -: error[Expect] column b, arguments: expected point. No column has that name.
+  -: error[NoGeometry] file: found 1 column; expected a column of geometries. With --infer columns count whose types tell geometries, too.
   [2]
 
 At most a hundred are told, with how many more there are; a line that is too long ends the reading
@@ -636,6 +731,7 @@ At most a hundred are told, with how many more there are; a line that is too lon
   $ (cat point.jsonl; yes 1 | head -n 101) | geoarrow_check --json - 2>&1 | sed -n '2p;101,102p;201,$p'
   {"kind":"finding","severity":"error","code":"BadLine","line":2,"found":"JSON that is no object","expected":"a JSON object"}
   {"kind":"finding","severity":"error","code":"BadLine","line":101,"found":"JSON that is no object","expected":"a JSON object","more":1}
+  {"kind":"file","read":true,"columns":1,"geometries":1,"errors":101,"warnings":0,"notes":0,"status":2}
 
   $ (cat point.jsonl; printf '{}\n%*s\n{}\n' 1048577 '') | geoarrow_check --quiet -
   -: error[BadLine] line 2: found no string at "name"; expected a string at "name"
@@ -647,6 +743,7 @@ Lines none of which is a column; and GeoJSON, or `{` alone, which refuse the fil
   $ printf '{}\n\n1\n' | geoarrow_check --json -
   {"kind":"finding","severity":"error","code":"BadLine","line":1,"found":"no string at \"name\"","expected":"a string at \"name\""}
   {"kind":"finding","severity":"error","code":"BadLine","line":3,"found":"JSON that is no object","expected":"a JSON object"}
+  {"kind":"file","read":true,"columns":0,"geometries":0,"errors":2,"warnings":0,"notes":0,"status":2}
   [2]
 
   $ for first in '{"type":"Feature"}' '{'
@@ -655,14 +752,14 @@ Lines none of which is a column; and GeoJSON, or `{` alone, which refuse the fil
   >     (cat point.jsonl; printf '\n%s\n' "$first"; cat point.jsonl) | geoarrow_check -
   > done
   -: error[ForeignFormat] line 2: found GeoJSON; expected an Arrow file, an Arrow stream, a Parquet file or lines of fields. Try ogr2ogr out.parquet FILE
-  column    holds               CRS  edges
-  geometry  point separated XY       planar
-  geometry  point separated XY       planar
+    column    holds               CRS  edges
+    geometry  point separated XY       planar
+    geometry  point separated XY       planar
   -: error[BadLine] line 3: found no string at "name"; expected a string at "name"
   -: error[BadLine] byte 1, line 2: found no JSON, or more than 127 levels of it; expected a JSON object. One object on each line: try jq -c . FILE
-  column    holds               CRS  edges
-  geometry  point separated XY       planar
-  geometry  point separated XY       planar
+    column    holds               CRS  edges
+    geometry  point separated XY       planar
+    geometry  point separated XY       planar
   -: error[BadLine] byte 1, line 3: found no JSON, or more than 127 levels of it; expected a JSON object. One object on each line: try jq -c . FILE
   [2]
 
@@ -689,14 +786,17 @@ JSON that is pretty-printed, or an array; and lines behind a byte order mark, wh
 
   $ printf '{\n  "name": "a"\n}\n' | geoarrow_check --json -
   {"kind":"finding","severity":"error","code":"BadLine","byte":1,"line":1,"found":"no JSON, or more than 127 levels of it","expected":"a JSON object","help":"One object on each line: try jq -c . FILE"}
+  {"kind":"file","read":false,"status":2}
   [2]
 
   $ printf '[\n  {"name": "a"}\n]\n' | geoarrow_check --json -
   {"kind":"finding","severity":"error","code":"ForeignFormat","byte":0,"found":"a JSON array","expected":"an Arrow file, an Arrow stream, a Parquet file or lines of fields","help":"Try jq -c '.[]' FILE | geoarrow_check -"}
+  {"kind":"file","read":false,"status":2}
   [2]
 
   $ printf '\357\273\277{"name":"a","nullable":true,"type":"null"}\n' | geoarrow_check --json -
   {"kind":"column","index":0,"column":"a","state":"plain","type":"null"}
+  {"kind":"file","read":true,"columns":1,"geometries":0,"errors":0,"warnings":0,"notes":0,"status":0}
 
 The mark is a note, behind the columns and the bad lines, and counts where it is denied
 
@@ -707,6 +807,7 @@ The mark is a note, behind the columns and the bad lines, and counts where it is
   > done
   {"kind":"column","file":"marked","index":0,"column":"a","state":"plain","type":"null"}
   {"kind":"finding","severity":"note","code":"ByteOrderMark","file":"marked","in":"file","byte":0,"expected":"lines without one","help":"It is passed over."}
+  {"kind":"file","file":"marked","read":true,"columns":1,"geometries":0,"errors":0,"warnings":0,"notes":1,"status":0}
   0
   {"name":"a","nullable":true,"type":"null"}
   0
@@ -718,6 +819,7 @@ The mark is a note, behind the columns and the bad lines, and counts where it is
   {"kind":"column","index":0,"column":"a","state":"plain","type":"null"}
   {"kind":"finding","severity":"error","code":"BadLine","line":2,"found":"no string at \"name\"","expected":"a string at \"name\""}
   {"kind":"finding","severity":"note","code":"ByteOrderMark","in":"file","byte":0,"expected":"lines without one","help":"It is passed over."}
+  {"kind":"file","read":true,"columns":1,"geometries":0,"errors":1,"warnings":0,"notes":1,"status":2}
   [2]
 
   $ printf '\357\273\277{"name":"a","nullable":true,"type":"null"}\n' | geoarrow_check --notes - | tail -1
@@ -731,6 +833,7 @@ A file of a format that is not read is named, with what to try, whatever is prin
   >     geoarrow_check $words a.gpkg
   > done
   {"kind":"finding","severity":"error","code":"ForeignFormat","file":"a.gpkg","byte":0,"found":"a GeoPackage or SQLite database","expected":"an Arrow file, an Arrow stream, a Parquet file or lines of fields","help":"Try ogr2ogr out.parquet FILE"}
+  {"kind":"file","file":"a.gpkg","read":false,"status":2}
   a.gpkg: error[ForeignFormat] byte 0: found a GeoPackage or SQLite database; expected an Arrow file, an Arrow stream, a Parquet file or lines of fields. Try ogr2ogr out.parquet FILE
   a.gpkg: error[ForeignFormat] byte 0: found a GeoPackage or SQLite database; expected an Arrow file, an Arrow stream, a Parquet file or lines of fields. Try ogr2ogr out.parquet FILE
   a.gpkg: error[ForeignFormat] byte 0: found a GeoPackage or SQLite database; expected an Arrow file, an Arrow stream, a Parquet file or lines of fields. Try ogr2ogr out.parquet FILE
@@ -745,31 +848,38 @@ A file of a format that is not read is named, with what to try, whatever is prin
 
   $ printf 'PAR1PAR1' | geoarrow_check --json -
   {"kind":"finding","severity":"error","code":"FooterLength","byte":0,"found":"827474256","expected":"a footer before its size"}
+  {"kind":"file","read":false,"status":2}
   [2]
 
   $ printf 'PAR1\000\000\000\000PAR1' | geoarrow_check --json -
   {"kind":"finding","severity":"error","code":"FooterLength","byte":4,"found":"0","expected":"a footer before its size"}
+  {"kind":"file","read":false,"status":2}
   [2]
 
   $ printf 'PAR1    PARE' | geoarrow_check --json -
   {"kind":"finding","severity":"error","code":"Encrypted","byte":8,"found":"PARE","expected":"PAR1","help":"A copy with a plain footer is needed"}
+  {"kind":"file","read":false,"status":2}
   [2]
 
   $ printf 'PARE    \004\000\000\000PARE' > "$TMPDIR/encrypted.parquet" && cd "$TMPDIR" && geoarrow_check --json encrypted.parquet; geoarrow_check - < encrypted.parquet
   {"kind":"finding","severity":"error","code":"Encrypted","file":"encrypted.parquet","byte":12,"found":"PARE","expected":"PAR1","help":"A copy with a plain footer is needed"}
+  {"kind":"file","file":"encrypted.parquet","read":false,"status":2}
   -: error[Encrypted] byte 12: found PARE; expected PAR1. A copy with a plain footer is needed
   [2]
 
   $ printf 'PAR1    ' | geoarrow_check --json -
   {"kind":"finding","severity":"error","code":"Truncated","byte":8,"found":"5041523120202020","expected":"PAR1 at the end","help":"The file is cut off, or still being written"}
+  {"kind":"file","read":false,"status":2}
   [2]
 
   $ printf '\377\377\377\377\010\000\000\000\004\000\000\000' | geoarrow_check --json -
   {"kind":"finding","severity":"error","code":"Truncated","byte":12,"found":"4 bytes","expected":"8 bytes","help":"The file is cut off, or still being written"}
+  {"kind":"file","read":false,"status":2}
   [2]
 
   $ head -c 100 ../crates/geoarrow_check/data/stream.arrows | geoarrow_check --json - 2>&1
   {"kind":"finding","severity":"error","code":"Truncated","byte":100,"found":"92 bytes","expected":"120 bytes","help":"The file is cut off, or still being written"}
+  {"kind":"file","read":false,"status":2}
   [2]
 
 The byte of an Arrow file's fault is that of the file, by its path and by standard input: its end is cut off, or the type of a field, whose table begins at 518, is none; also behind 4096 bytes
@@ -827,31 +937,36 @@ With --json the fault is a line of JSON, alone, or behind the lines of columns; 
   >     cat said
   > done
   {"kind":"finding","severity":"error","code":"Truncated","file":"cut.arrow","byte":700,"found":"6e3a6e616d650000","expected":"ARROW1 at the end","help":"The file is cut off, or still being written"}
+  {"kind":"file","file":"cut.arrow","read":false,"status":2}
   2
   {"kind":"finding","severity":"error","code":"BadLine","file":"bytes","byte":3,"line":1,"found":"bytes that are not UTF-8","expected":"UTF-8"}
+  {"kind":"file","file":"bytes","read":true,"columns":0,"geometries":0,"errors":1,"warnings":0,"notes":0,"status":2}
   2
   {"kind":"finding","severity":"error","code":"FooterLength","file":"cut.parquet","byte":4,"found":"5","expected":"a footer before its size"}
+  {"kind":"file","file":"cut.parquet","read":false,"status":2}
   2
   {"kind":"column","file":"lines","index":0,"column":"a","state":"plain","type":"null"}
   {"kind":"finding","severity":"error","code":"BadLine","file":"lines","byte":13,"line":3,"found":"no JSON, or more than 127 levels of it","expected":"a JSON object"}
+  {"kind":"file","file":"lines","read":true,"columns":1,"geometries":0,"errors":1,"warnings":0,"notes":0,"status":2}
   2
   {"kind":"finding","severity":"error","code":"CannotRead","file":"nowhere","found":"No such file or directory (os error 2)","expected":"a file that can be read"}
+  {"kind":"file","file":"nowhere","read":false,"status":2}
   2
 
 What is found in GeoParquet metadata, behind the columns
 
   $ geoarrow_check ../crates/geoarrow_check/data/geo.parquet
-  column  holds    CRS        edges
-  geom    wkb - -  OGC:CRS84  planar
-  place   wkb - -  EPSG:4326  planar
-  region  wkb - -  OGC:CRS84  karney
-  error[GeoTypes] column geom, geo /columns/geom/geometry_types/1: found "Dot"; expected Point, LineString, Polygon, MultiPoint, MultiLineString, MultiPolygon or GeometryCollection, alone or with " Z", each at most once
-  error[GeoBboxOrder] column geom, geo /columns/geom/bbox/1: found 3; expected at most the greatest bound (2). Only a box of a geographic CRS has an xmin above its xmax, where it crosses the antimeridian.
-  warning[GeoColumnUndeclared] column place, geo /columns: found "place"; expected a member for the column. Readers of GeoParquet do not see the column.
-  warning[GeoColumnUndeclared] column region, geo /columns: found "region"; expected a member for the column. Readers of GeoParquet do not see the column.
+    column  holds  CRS        edges
+  E geom    wkb    OGC:CRS84  planar
+      error[GeoTypes] geo /columns/geom/geometry_types/1: found "Dot"; expected Point, LineString, Polygon, MultiPoint, MultiLineString, MultiPolygon or GeometryCollection, alone or with " Z", each at most once
+      error[GeoBboxOrder] geo /columns/geom/bbox/1: found ymin 3, ymax 2; expected at most the greatest bound (2)
+  W place   wkb    EPSG:4326  planar
+      warning[GeoColumnUndeclared] geo /columns: found "place"; expected a member for the column. Readers of GeoParquet do not see the column.
+  W region  wkb    OGC:CRS84  karney
+      warning[GeoColumnUndeclared] geo /columns: found "region"; expected a member for the column. Readers of GeoParquet do not see the column.
   [1]
 
-  $ geoarrow_check --json --notes ../crates/geoarrow_check/data/geo.parquet | sed -n 's/.*"code":"\([A-Za-z]*\)".*/\1/p'
+  $ geoarrow_check --json --notes ../crates/geoarrow_check/data/geo.parquet | grep -o '"code":"[A-Za-z]*"' | cut -d'"' -f4
   GeoTypes
   GeoBboxOrder
   GeoColumnUndeclared
@@ -862,38 +977,58 @@ The status by what is found, notes too, of the files of a row each: how many, th
   $ cd "$TMPDIR" && sed -n 's/^report_file //p' "$top/crates/file_rows/data/reports/geo_files.rows" | while read -r digits
   > do
   >     python3 -c 'import sys; sys.stdout.buffer.write(bytes.fromhex(sys.argv[1]))' "$digits" > file
-  >     geoarrow_check --json --notes file | sed -n 's/^{"kind":"finding","severity":"[a-z]*","code":"\([A-Za-z]*\)".*/\1/p' | LC_ALL=C sort -u | tr '\n' ' '
+  >     geoarrow_check --json --notes file | grep -o '"code":"[A-Za-z]*"' | cut -d'"' -f4 | LC_ALL=C sort -u | tr '\n' ' '
   >     geoarrow_check --quiet file > /dev/null
   >     echo $?
   > done | LC_ALL=C sort | uniq -c
-      126 0
-       35 1
-       38 ArrowSchemaContradicts 1
+      107 0
+       37 ArrowSchemaContradicts 1
+        1 ArrowSchemaContradicts AxisOrder NoGeoMetadata 1
+        8 ArrowSchemaContradicts BadFieldCount NoGeoMetadata 1
+        3 ArrowSchemaContradicts BadInterleavedName NoGeoMetadata UnexpectedType 1
         1 ArrowSchemaContradicts CrsContradicts 1
         6 ArrowSchemaContradicts GeoCovering 1
         4 ArrowSchemaContradicts GeoLayout 1
-       32 ArrowSchemaContradicts NoGeoMetadata 1
+        1 ArrowSchemaContradicts NoGeoMetadata 1
+       19 ArrowSchemaContradicts NoGeoMetadata UnexpectedType 1
+        1 ArrowSchemaContradicts UnknownExtension 1
         1 ArrowSchemaNames 0
         1 ArrowSchemaNames GeoEncoding 1
         1 ArrowSchemaNames GeoNotInFooter 0
         1 ArrowSchemaNames NameNotText 1
         2 ArrowSchemaUnreadable 1
-       15 CrsContradicts 1
-        2 CrsContradicts EdgesContradict 1
+        1 AxisOrder GeoLayout 1
+       13 CrsContradicts 1
+        1 CrsContradicts CrsEmpty 1
+        1 CrsContradicts CrsWithoutType 1
+        1 CrsContradicts EdgesContradict 1
+        1 CrsContradicts EdgesContradict OldExtensionName 1
         1 CrsContradicts GeoCrs 1
         1 CrsContradicts GeoOldVersion 1
+        4 CrsEmpty 0
+        1 CrsEmpty CrsMalformed 1
+        1 CrsEmpty CrsNotCompared CrsWithoutType 0
+        1 CrsEmpty MetadataKeyCase 0
+        1 CrsEmpty MetadataNotJson 1
         9 CrsKeyMissing 1
-        3 CrsMalformed 1
-        3 CrsNotCompared 0
-       14 EdgesContradict 1
-        4 EdgesContradict EdgesOnProjected 1
+       16 CrsMalformed 1
+        1 CrsMalformed CrsWithoutType MetadataKeyCase OldExtensionName 1
+        1 CrsMalformed MetadataNotJson 1
+        2 CrsNotCompared 0
+        3 CrsNotWhole 0
+        6 CrsWithoutType 0
+       13 EdgesContradict 1
+        3 EdgesContradict EdgesOnProjected 1
+        1 EdgesContradict EdgesOnProjected EdgesPlanar 1
         1 EdgesContradict EdgesOnProjected GeoColumnRepeated 1
+        1 EdgesContradict EdgesPlanar 1
         2 EdgesOnProjected 0
         4 ElementInvalid 1
         1 ElementInvalid NestedGeometry 1
        11 EmptyGroup 0
         1 EmptyGroup NestedGeometry 0
-        6 EncodingContradicts 1
+        5 EncodingContradicts 1
+        1 EncodingContradicts OldExtensionName 1
         5 GeoColumnMissing 1
         2 GeoColumnMissing GeoColumnUndeclared 1
         1 GeoColumnMissing GeoMember 1
@@ -913,7 +1048,8 @@ The status by what is found, notes too, of the files of a row each: how many, th
         2 GeoEdges 1
         8 GeoEncoding 1
         1 GeoEncoding GeoVersion RepeatedKey 1
-       25 GeoLayout 1
+       23 GeoLayout 1
+        1 GeoLayout NestedGeometry 1
         1 GeoMember 1
         1 GeoNewVersion 0
         1 GeoNotInFooter 0
@@ -925,24 +1061,28 @@ The status by what is found, notes too, of the files of a row each: how many, th
         1 GeoVersion 1
         1 KeyNotText 0
         4 LogicalTypeInvalid 1
-        1 NestedGeometry 0
-        6 NoGeoMetadata 0
-        1 NoGeoMetadata 1
+        5 NestedGeometry 0
+        5 NoGeoMetadata 0
+        1 NoGeoMetadata OldExtensionName 0
+        1 NoGeoMetadata UnexpectedType 1
+        1 NullableInner 0
        21 RepeatedKey 0
         2 TypesContradict 1
         6 UnknownAlgorithm 0
+       12 UnknownEdges 1
+        6 UnknownExtension 1
 
 What is denied counts and is printed as an error; what is allowed is not printed and does not count: codes, and all warnings
 
   $ geoarrow_check --allow GeoTypes --allow=GeoBboxOrder ../crates/geoarrow_check/data/geo.parquet
-  column  holds    CRS        edges
-  geom    wkb - -  OGC:CRS84  planar
-  place   wkb - -  EPSG:4326  planar
-  region  wkb - -  OGC:CRS84  karney
-  warning[GeoColumnUndeclared] column place, geo /columns: found "place"; expected a member for the column. Readers of GeoParquet do not see the column.
-  warning[GeoColumnUndeclared] column region, geo /columns: found "region"; expected a member for the column. Readers of GeoParquet do not see the column.
+    column  holds  CRS        edges
+    geom    wkb    OGC:CRS84  planar
+  W place   wkb    EPSG:4326  planar
+      warning[GeoColumnUndeclared] geo /columns: found "place"; expected a member for the column. Readers of GeoParquet do not see the column.
+  W region  wkb    OGC:CRS84  karney
+      warning[GeoColumnUndeclared] geo /columns: found "region"; expected a member for the column. Readers of GeoParquet do not see the column.
 
-  $ geoarrow_check --json --deny GeoColumnUndeclared --allow GeoTypes --allow GeoBboxOrder ../crates/geoarrow_check/data/geo.parquet | sed -n 's/^{"kind":"finding",\("severity":"[a-z]*","code":"[A-Za-z]*"\).*/\1/p'
+  $ geoarrow_check --json --deny GeoColumnUndeclared --allow GeoTypes --allow GeoBboxOrder ../crates/geoarrow_check/data/geo.parquet | grep -o '"severity":"[a-z]*","code":"[A-Za-z]*"'
   "severity":"error","code":"GeoColumnUndeclared"
   "severity":"error","code":"GeoColumnUndeclared"
 
@@ -997,6 +1137,7 @@ A note that is denied is shown, whether notes are or not; all warnings are no no
 
   $ cd "$TMPDIR" && echo '{"metadata":{"ARROW:extension:metadata":"","ARROW:extension:name":"geoarrow.wkb"},"name":"e","nullable":true,"type":"binary"}' | geoarrow_check --json --deny MetadataEmpty -
   {"kind":"column","index":0,"column":"e","state":"geometry","type":"wkb - -","type_from":"field","extension":"geoarrow.wkb","edges":"planar","findings":[{"severity":"error","code":"MetadataEmpty","in":"extension metadata","pointer":"","found":"\"\"","expected":"no metadata, or {}","help":"It is read as no metadata."}]}
+  {"kind":"file","read":true,"columns":1,"geometries":1,"errors":1,"warnings":0,"notes":0,"status":1}
   [1]
 
 Why a column is invalid is a finding too: it is allowed or denied as others are, and the column counts as before
@@ -1008,12 +1149,16 @@ Why a column is invalid is a finding too: it is allowed or denied as others are,
   >     echo $?
   > done
   {"kind":"column","file":"invalid","index":0,"column":"label","state":"invalid","type":"utf8","extension":"geoarrow.wkb","findings":[{"severity":"error","code":"WrongStorage","in":"field","found":"utf8","expected":"binary, large_binary or binary_view","help":"For WKT use geoarrow.wkt."}]}
+  {"kind":"file","file":"invalid","read":true,"columns":1,"geometries":0,"errors":1,"warnings":0,"notes":0,"status":1}
   1
   {"kind":"column","file":"invalid","index":0,"column":"label","state":"invalid","type":"utf8","extension":"geoarrow.wkb","findings":[{"severity":"error","code":"WrongStorage","in":"field","found":"utf8","expected":"binary, large_binary or binary_view","help":"For WKT use geoarrow.wkt."}]}
+  {"kind":"file","file":"invalid","read":true,"columns":1,"geometries":0,"errors":1,"warnings":0,"notes":0,"status":1}
   1
   {"kind":"column","file":"invalid","index":0,"column":"label","state":"invalid","type":"utf8","extension":"geoarrow.wkb"}
-  1
+  {"kind":"file","file":"invalid","read":true,"columns":1,"geometries":0,"errors":0,"warnings":0,"notes":0,"status":0}
+  0
   {"kind":"column","file":"invalid","index":0,"column":"label","state":"invalid","type":"utf8","extension":"geoarrow.wkb","findings":[{"severity":"error","code":"WrongStorage","in":"field","found":"utf8","expected":"binary, large_binary or binary_view","help":"For WKT use geoarrow.wkt."}]}
+  {"kind":"file","file":"invalid","read":true,"columns":1,"geometries":0,"errors":1,"warnings":0,"notes":0,"status":1}
   1
 
 Words that are no code; a code with which files are refused counts in any case, and cannot be allowed
@@ -1112,28 +1257,32 @@ Formats: a table, lines of JSON, and findings alone as commands of a workflow; o
   > do
   >     geoarrow_check $words ../crates/geoarrow_check/data/stream.arrows
   > done
-  column  holds  CRS  edges
-  a       int64
-  column  holds  CRS  edges
-  a       int64
-  column  holds  CRS  edges
-  a       int64
+    column  holds  CRS  edges
+    a       int64
+    column  holds  CRS  edges
+    a       int64
+    column  holds  CRS  edges
+    a       int64
 
   $ for words in '--format json' '--format=text --json' '--json --json' '--format github --format json'
   > do
   >     geoarrow_check $words - < ../crates/geoarrow_check/data/stream.arrows
   > done
   {"kind":"column","index":0,"column":"a","state":"plain","type":"int64"}
+  {"kind":"file","read":true,"columns":1,"geometries":0,"errors":0,"warnings":0,"notes":0,"status":0}
   {"kind":"column","index":0,"column":"a","state":"plain","type":"int64"}
+  {"kind":"file","read":true,"columns":1,"geometries":0,"errors":0,"warnings":0,"notes":0,"status":0}
   {"kind":"column","index":0,"column":"a","state":"plain","type":"int64"}
+  {"kind":"file","read":true,"columns":1,"geometries":0,"errors":0,"warnings":0,"notes":0,"status":0}
   {"kind":"column","index":0,"column":"a","state":"plain","type":"int64"}
+  {"kind":"file","read":true,"columns":1,"geometries":0,"errors":0,"warnings":0,"notes":0,"status":0}
 
   $ geoarrow_check --format github ../crates/geoarrow_check/data/stream.arrows ../examples/schema.jsonl ../crates/geoarrow_check/data/geo.parquet
   ::warning file=../examples/schema.jsonl,title=NullableInner::column outline, at item, field: found nullable; expected not null
   ::error file=../examples/schema.jsonl,title=WrongStorage::column label, field: found utf8; expected binary, large_binary or binary_view. For WKT use geoarrow.wkt.
   ::error file=../examples/schema.jsonl,title=EmptyUnion::column broken, field: found dense_union<>; expected union whose type ids are among 1 to 7, 11 to 17, 21 to 27 and 31 to 37. The union has no members.
   ::error file=../crates/geoarrow_check/data/geo.parquet,title=GeoTypes::column geom, geo /columns/geom/geometry_types/1: found "Dot"; expected Point, LineString, Polygon, MultiPoint, MultiLineString, MultiPolygon or GeometryCollection, alone or with " Z", each at most once
-  ::error file=../crates/geoarrow_check/data/geo.parquet,title=GeoBboxOrder::column geom, geo /columns/geom/bbox/1: found 3; expected at most the greatest bound (2). Only a box of a geographic CRS has an xmin above its xmax, where it crosses the antimeridian.
+  ::error file=../crates/geoarrow_check/data/geo.parquet,title=GeoBboxOrder::column geom, geo /columns/geom/bbox/1: found ymin 3, ymax 2; expected at most the greatest bound (2)
   ::warning file=../crates/geoarrow_check/data/geo.parquet,title=GeoColumnUndeclared::column place, geo /columns: found "place"; expected a member for the column. Readers of GeoParquet do not see the column.
   ::warning file=../crates/geoarrow_check/data/geo.parquet,title=GeoColumnUndeclared::column region, geo /columns: found "region"; expected a member for the column. Readers of GeoParquet do not see the column.
   [1]
@@ -1162,8 +1311,8 @@ Files that are refused, bad lines, and what is not met stand there too; nothing 
   > echo $?
   > cat said
   ::error file=lines,title=BadLine::line 2: found JSON that is no object; expected a JSON object
-  ::error file=lines,title=Expect::no column b
-  ::error file=lines,title=NoGeometry::no column of geometries
+  ::error file=lines,title=Expect::column b, arguments: expected point. No column has that name.
+  ::error file=lines,title=NoGeometry::file: found 1 column; expected a column of geometries. With --infer columns count whose types tell geometries, too.
   ::error file=cut.parquet,title=FooterLength::byte 0: found 827474256; expected a footer before its size
   ::error file=nowhere,title=CannotRead::found No such file or directory (os error 2); expected a file that can be read
   ::error title=EmptyFile::byte 0: found 0 bytes, or blanks alone; expected an Arrow file, an Arrow stream, a Parquet file or lines of fields. The writing or the copy broke off before its first byte
@@ -1185,7 +1334,7 @@ A log of SARIF: a result for each line of github, with its level, its file as a 
   {"$schema":"https://json.schemastore.org/sarif-2.1.0.json","version":"2.1.0","runs":[{"results":[
   {"ruleId":"BadLine","level":"error","message":{"text":"line 2: found JSON that is no object; expected a JSON object"},"locations":[{"physicalLocation":{"artifactLocation":{"uri":"a%20b%25c%3A%C3%A9%23%3F"},"region":{"startLine":2}}}]},
   {"ruleId":"ByteOrderMark","level":"note","message":{"text":"file, byte 0: expected lines without one. It is passed over."},"locations":[{"physicalLocation":{"artifactLocation":{"uri":"a%20b%25c%3A%C3%A9%23%3F"},"region":{"byteOffset":0}}}]},
-  {"ruleId":"NoGeometry","level":"error","message":{"text":"no column of geometries"},"locations":[{"physicalLocation":{"artifactLocation":{"uri":"a%20b%25c%3A%C3%A9%23%3F"}}}]},
+  {"ruleId":"NoGeometry","level":"error","message":{"text":"file: found 1 column; expected a column of geometries. With --infer columns count whose types tell geometries, too."},"locations":[{"physicalLocation":{"artifactLocation":{"uri":"a%20b%25c%3A%C3%A9%23%3F"}}}]},
   {"ruleId":"Truncated","level":"error","message":{"text":"byte 700: found 6e3a6e616d650000; expected ARROW1 at the end. The file is cut off, or still being written"},"locations":[{"physicalLocation":{"artifactLocation":{"uri":"cut.arrow"},"region":{"byteOffset":700}}}]},
   {"ruleId":"FooterLength","level":"error","message":{"text":"byte 0: found 827474256; expected a footer before its size"},"locations":[{"physicalLocation":{"artifactLocation":{"uri":"cut.parquet"},"region":{"byteOffset":0}}}]},
   {"ruleId":"Truncated","level":"error","message":{"text":"byte 700: found 6e3a6e616d650000; expected ARROW1 at the end. The file is cut off, or still being written"},"locations":[{"physicalLocation":{"artifactLocation":{"uri":"cut.arrow"},"region":{"byteOffset":700}}}]},
@@ -1194,7 +1343,7 @@ A log of SARIF: a result for each line of github, with its level, its file as a 
   ],"tool":{"driver":{"name":"geoarrow_check","rules":[
   {"id":"ByteOrderMark","shortDescription":{"text":"lines begin with a byte order mark"}},
   {"id":"BadLine","shortDescription":{"text":"a line is no column"}},
-  {"id":"NoGeometry","shortDescription":{"text":"a file has no column of geometries"}},
+  {"id":"NoGeometry","shortDescription":{"text":"no column holds geometries, where one is required"}},
   {"id":"Truncated","shortDescription":{"text":"a file, or the message of a stream, is cut off"}},
   {"id":"FooterLength","shortDescription":{"text":"a footer has no bytes, or more than stand before its size"}},
   {"id":"CannotRead","shortDescription":{"text":"the system does not give the file"}},
@@ -1337,11 +1486,13 @@ Differences as lines of JSON, behind all lines of their file; and as results of 
   > geoarrow_check --same --json --notes a.jsonl b.jsonl
   > geoarrow_check --same --format sarif a.jsonl b.jsonl | python3 -c 'import json, sys; run = json.load(sys.stdin)["runs"][0]; print([(it["ruleId"], it["level"], it["message"]["text"]) for it in run["results"]], run["tool"]["driver"]["rules"])'
   {"kind":"column","file":"a.jsonl","index":0,"column":"a","state":"plain","type":"int8"}
+  {"kind":"file","file":"a.jsonl","read":true,"columns":1,"geometries":0,"errors":0,"warnings":0,"notes":0,"status":0}
   {"kind":"column","file":"b.jsonl","index":0,"column":"a","state":"plain","type":"utf8"}
   {"kind":"column","file":"b.jsonl","index":1,"column":"b","state":"plain","type":"utf8"}
   {"kind":"finding","severity":"note","code":"ByteOrderMark","file":"b.jsonl","in":"file","byte":0,"expected":"lines without one","help":"It is passed over."}
   {"kind":"finding","severity":"error","code":"NotSame","file":"b.jsonl","column":"a","found":"utf8","expected":"int8","help":"The first file has another type."}
   {"kind":"finding","severity":"error","code":"NotSame","file":"b.jsonl","column":"b","found":"utf8","expected":"no such column","help":"The first file has no such column."}
+  {"kind":"file","file":"b.jsonl","read":true,"columns":2,"geometries":0,"errors":2,"warnings":0,"notes":1,"status":1}
   {"kind":"summary","files":2,"unread":0,"failed":1,"errors":2,"warnings":0,"notes":1,"status":1}
   [('NotSame', 'error', 'column a: found utf8; expected int8. The first file has another type.'), ('NotSame', 'error', 'column b: found utf8; expected no such column. The first file has no such column.')] [{'id': 'NotSame', 'shortDescription': {'text': 'a column is not as in the first file'}}]
 
@@ -1405,8 +1556,8 @@ Words that are answered at once
 Files whose names begin with a hyphen
 
   $ cd "$TMPDIR" && echo '{"name":"a","nullable":true,"type":"null"}' > -f && geoarrow_check ./-f
-  column  holds  CRS  edges
-  a       null
+    column  holds  CRS  edges
+    a       null
 
   $ cd "$TMPDIR" && echo '{"name":"a","nullable":true,"type":"null"}' > --json && geoarrow_check --lines -- --json
   {"name":"a","nullable":true,"type":"null"}
@@ -1417,8 +1568,8 @@ Options behind files, options that stand twice, and what is expected behind `=`,
   {"metadata":{"ARROW:extension:name":"geoarrow.linestring"},"name":"g","nullable":true,"type":{"list":{"name":"vertices","nullable":false,"type":{"fixed_size_list":{"name":"xym","nullable":false,"type":"float64"},"size":3}}}}
 
   $ geoarrow_check --quiet --expect=g=XY --expect --json=point --expect g=XYM ../crates/geoarrow_check/data/file.arrow
-  ../crates/geoarrow_check/data/file.arrow: error[Expect]: column g is not XY: linestring interleaved XYM, no CRS, planar
-  ../crates/geoarrow_check/data/file.arrow: error[Expect]: no column --json
+  ../crates/geoarrow_check/data/file.arrow: error[Expect] column g, arguments: found linestring interleaved XYM, no CRS, planar; expected XY
+  ../crates/geoarrow_check/data/file.arrow: error[Expect] column --json, arguments: expected point. No column has that name.
   [1]
 
 Words that are refused
@@ -1516,6 +1667,20 @@ Words that are refused
   error: the argument '--json' cannot be used with '--problems'
   error: the argument '--format json' cannot be used with '--quiet'
   error: the argument '--format json' cannot be used with '--problems'
+
+  $ for words in --canonical '--canonical --json' '--quiet --canonical' '--canonical --problems' '--format github --canonical' '--canonical --same' '--canonical --lines --ipc' '--canonical --lines --same' '--canonical --lines --json'
+  > do
+  >     geoarrow_check $words x 2>&1 | sed '/^$/,$d'
+  > done
+  error: the argument '--canonical' needs '--lines' or '--ipc'
+  error: the argument '--canonical' needs '--lines' or '--ipc'
+  error: the argument '--canonical' needs '--lines' or '--ipc'
+  error: the argument '--canonical' needs '--lines' or '--ipc'
+  error: the argument '--canonical' needs '--lines' or '--ipc'
+  error: the argument '--canonical' needs '--lines' or '--ipc'
+  error: the argument '--lines' cannot be used with '--ipc'
+  error: the argument '--lines' cannot be used with '--same'
+  error: the argument '--lines' cannot be used with '--json'
 
   $ for word in --format=jsn '--format xml' '--format=' '--fromat x'
   > do
@@ -1618,7 +1783,7 @@ The man page and the completions for bash are those that the help makes
   > completed ex | wc -w
   > END
   > bash "$TMPDIR/completed"
-  --color --codes
+  --canonical --color --codes
   text json github sarif
   never
   text json github sarif

@@ -31,9 +31,9 @@ export PATH="$TMPDIR/kit:$PATH"
 
 # Puts programs in place of the parts of bin/test: each has seven tests that pass, but for bin/runs where the file `says` asks for something else.
 parts() {
-    sed -E 's/\("([a-z /]+)", [0-9]+, ([0-9]+)\)/("\1", 7, \2)/g' "$top/bin/test" > bin/test
+    sed -E 's/\("([a-z_ /]+)", [0-9]+, ([0-9]+)\)/("\1", 7, \2)/g' "$top/bin/test" > bin/test
     mkdir interop native
-    for part in bin/runs bin/faults bin/examples interop/test native/test ../kit/ci
+    for part in bin/runs bin/faults bin/examples interop/test native/test native/test_records ../kit/ci
     do
         printf '#!/bin/sh\necho "7 passed, 0 failed"\n' > "$part"
         chmod +x "$part"

@@ -102,29 +102,29 @@ What runs all parts: a test that vanishes, one that fails, a status without a fa
   >     grep -e 'and not the' -e '^bin/runs  ' out
   >     tail -n 1 out
   > done
-  42 passed, 0 failed
+  49 passed, 0 failed
   one fewer: 1
   bin/runs has 6 tests, and not the 7 that bin/test tells
   bin/runs                 6       1        0
-  41 passed, 1 failed
+  48 passed, 1 failed
   one fails: 1
   bin/runs                 6       1        0
-  41 passed, 1 failed
+  48 passed, 1 failed
   ends with 1: 1
   bin/runs                 7       1        0
-  42 passed, 1 failed
+  49 passed, 1 failed
   fails and ends with 0: 1
   bin/runs                 6       2        0
-  41 passed, 2 failed
+  48 passed, 2 failed
   says nothing: 1
   bin/runs                 0       1        0
-  35 passed, 1 failed
+  42 passed, 1 failed
   says more: 1
   bin/runs                 0       1        0
-  35 passed, 1 failed
+  42 passed, 1 failed
   all skipped: 1
   bin/runs                 0       1        7
-  35 passed, 1 failed
+  42 passed, 1 failed
 
 What runs the examples of the docs: one that fails, one that does not compile, and one that is proved elsewhere
 
@@ -141,7 +141,7 @@ What runs the examples of the docs: one that fails, one that does not compile, a
   > bin/examples | tail -n 1
   2 passed, 0 failed
   test example_0 ... ok
-  test example_1 ... FAILED at src/lib.rt:40:1 (docs/USE.md:2)
+  test example_1 ... FAILED at src/lib.rt:41:1 (docs/USE.md:2)
   
   2 passed, 1 failed
   status 1

@@ -35,11 +35,11 @@ The other program, over files of one name, and names with an equals sign, a blan
   > c=d" - < "$top/runs/point.jsonl" 2> /dev/null | cmp - wanted
   > wc -l < wanted
   country=DE/part-0.parquet:
-  column  holds   CRS  edges
-  g       binary
+    column  holds   CRS  edges
+    g       binary
   country=FR/part-0.parquet:
-  column  holds    CRS        edges
-  geom    wkb - -  OGC:CRS84  planar
+    column  holds  CRS        edges
+  E geom    wkb    OGC:CRS84  planar
   6
 
 The status of the other program, and what it says
@@ -49,7 +49,7 @@ The status of the other program, and what it says
   geoarrow_check: this build is not proved, only checked while it runs; bin/geoarrow_check proves and builds the program
   ../examples/schema.jsonl: error[WrongStorage] column label, field: found utf8; expected binary, large_binary or binary_view. For WKT use geoarrow.wkt.
   ../examples/schema.jsonl: error[EmptyUnion] column broken, field: found dense_union<>; expected union whose type ids are among 1 to 7, 11 to 17, 21 to 27 and 31 to 37. The union has no members.
-  ../examples/schema.jsonl: error[Expect]: column outline is not XY: multipolygon interleaved XYZ, EPSG:4326, spherical
+  ../examples/schema.jsonl: error[Expect] column outline, arguments: found multipolygon interleaved XYZ, EPSG:4326, spherical; expected XY
   [1]
 
 Words of the four commands for which nothing is built, without `rt`

@@ -109,8 +109,8 @@ class Column(_OfALine):
 
     @property
     def is_error(self) -> bool:
-        """Whether it counts for the status: it is invalid, or one of its findings is an error."""
-        return self.is_invalid or any(one.is_error for one in self.findings)
+        """Whether it counts for the status: one of its findings is an error, as why it is invalid is."""
+        return any(one.is_error for one in self.findings)
 
     def __getattr__(self, name: str) -> Any:
         """An attribute that is not there yet: those of the line are made."""
@@ -159,7 +159,7 @@ class Columns(List[Column]):
 
 
 _json = json.JSONDecoder().raw_decode
-_COLUMN = '{"kind":"column",'
+COLUMN = '{"kind":"column",'  # with which the line of a column begins
 
 
 def columns_of(report: str) -> Columns:
@@ -167,7 +167,7 @@ def columns_of(report: str) -> Columns:
     lines = report.split("\n")
     lines.pop()  # behind the last line feed
     behind: List[str] = []
-    while lines and not lines[-1].startswith(_COLUMN):
+    while lines and not lines[-1].startswith(COLUMN):
         behind.append(lines.pop())
     columns = Columns(map(object.__new__, itertools.repeat(Column, len(lines))))
     collections.deque(map(_put_line, columns, lines), maxlen=0)  # (a loop, without a step of Python for each)
@@ -185,28 +185,29 @@ def _attributes(line: str) -> Dict[str, Any]:
         "name": said["column"], "index": said["index"], "state": said["state"], "type": said["type"], "extension": known("extension"),
         "edges": known("edges"), "crs_type": known("crs_type"), "crs": known("crs"), "crs_from": known("crs_from"), "edges_from": known("edges_from"),
         "type_from": known("type_from"), "verdicts": known("verdicts", {}), "bbox": tuple(known("bbox", ())), "epoch": known("epoch"),
-        "geometry_types": tuple(known("geometry_types", ())), "orientation": known("orientation"), "findings": tuple(_findings(line)) if "findings" in said else ()}
-
-
-def finding_of(line: str) -> Finding:
-    """The finding of a line."""
-    return _finding_of(_json(line)[0], line)
+        "geometry_types": tuple(known("geometry_types", ())), "orientation": known("orientation"), "findings": tuple(map(finding_of, parts_of(line)[1])) if "findings" in said else ()}
 
 
 _FINDINGS = ',"findings":['
 
 
-def _findings(line: str) -> Iterator[Finding]:
-    """The findings of the line of a column that has some: behind their array no member has such a key in it, as the CRS before it may."""
-    at = line.rindex(_FINDINGS) + len(_FINDINGS)
+def parts_of(line: str) -> Tuple[str, List[str], str]:
+    """The line of a column before its findings, the texts of these, and what stands behind them. Behind their array no member has such a key in it, as the CRS before
+    it may."""
+    texts: List[str] = []
+    if "findings" not in _json(line)[0]:
+        return line, texts, ""
+    before, at = line.rindex(_FINDINGS), line.rindex(_FINDINGS) + len(_FINDINGS)
     while line[at - 1] != "]":
-        said, end = _json(line, at)
-        yield _finding_of(said, line[at:end])
+        end = _json(line, at)[1]
+        texts.append(line[at:end])
         at = end + 1  # behind a comma, or the bracket
+    return line[:before], texts, line[at:]
 
 
-def _finding_of(said: Dict[str, Any], text: str) -> Finding:
+def finding_of(text: str) -> Finding:
     """The finding of an object, of which this is the text."""
+    said = _json(text)[0]
     known = said.get
     return Finding(
         said["severity"], said["code"], known("column"), tuple(known("path", ())), known("in"), known("pointer"), known("byte"), known("found"),
@@ -214,11 +215,15 @@ def _finding_of(said: Dict[str, Any], text: str) -> Finding:
 
 
 def _row(column: Column) -> tables.Row:
-    """What a table shows of a column: its cells, and the lines below them."""
+    """What a table shows of a column: how much the worst counts of what is found of it, its cells, and the lines below them."""
     holds = column.type
+    if column.state in ("geometry", "inferred"):
+        holds = holds.replace(" -", "")  # which its coordinate type and its dimension are where it has none
     if column.state in ("invalid", "extension"):
         holds = f"{column.state} {column.extension}"
     elif column.state == "inferred":
-        holds = f"taken for {column.type}"
+        holds = f"taken for {holds}"
+    found = {one.severity for one in column.findings}
+    mark = next((severity[0].upper() for severity in ("error", "warning", "note") if severity in found), " ")
     crs = "unknown" if column.crs is None and column.crs_from else tables.crs_name(column.crs)
-    return (column.name, holds, crs, column.edges or ""), [str(one) for one in column.findings]
+    return mark, (column.name, holds, crs, column.edges or ""), [str(one) for one in column.findings]

@@ -16,7 +16,7 @@ NAME = "libgeoarrow_c.so"
 VERSION = 20000
 
 DONE, SHORT, MEMORY = range(3)
-REFUSED = 5
+REFUSED, FIRST_REFUSED = 5, 6
 INFER_TYPES, NOTES = 1, 2
 _ROOM_OF_ANSWERS = 4096  # at first
 _ROOM_OF_REPORTS = 65536  # at first, and twice the bytes of the source, up to 64 MiB: enough for nearly all
@@ -72,7 +72,7 @@ def _call(name: str, numbers: int, texts: int) -> Any:
 
 
 def _called(name: str, numbers: Sequence[int], texts: Sequence[bytes], size: int) -> Tuple[int, memoryview]:
-    """The status of a call, DONE or REFUSED, with room of this size at first, and what it writes.
+    """The status of a call, DONE, REFUSED or FIRST_REFUSED, with room of this size at first, and what it writes.
 
     The room is this call's own, so any number of threads may call at once.
     """
@@ -82,7 +82,7 @@ def _called(name: str, numbers: Sequence[int], texts: Sequence[bytes], size: int
     while True:
         room = _room(size)
         status = call(*given, room, size, ctypes.byref(length))
-        if status in (DONE, REFUSED):
+        if status in (DONE, REFUSED, FIRST_REFUSED):
             return status, memoryview(room)[: length.value]
         if status == MEMORY:
             raise MemoryError
@@ -114,6 +114,20 @@ def report(name: bytes, given: bytes, infer: bool, notes: bool) -> Tuple[int, st
     """The status of a check of bytes, DONE or REFUSED, with the report, or the line that says why. The name is that of the file, in UTF-8; an empty one is none."""
     options = (INFER_TYPES if infer else 0) | (NOTES if notes else 0)
     status, text = _called("geoarrow_report", [options], [name, given], _first_room(given))
+    return status, str(text, "utf-8")
+
+
+def same(first: bytes, other: bytes, name: bytes, infer: bool, notes: bool) -> Tuple[int, str]:
+    """The status of a comparison of the bytes of two files, with the lines of what differs; or REFUSED, where the other is refused, or FIRST_REFUSED, with the line that says
+    why. The name is that of the other, in UTF-8; an empty one is none."""
+    options = (INFER_TYPES if infer else 0) | (NOTES if notes else 0)
+    status, text = _called("geoarrow_same", [options], [first, other, name], _ROOM_OF_REPORTS)
+    return status, str(text, "utf-8")
+
+
+def canonical(given: bytes) -> Tuple[int, str]:
+    """The status of the bytes of a file, DONE or REFUSED, with the lines of its columns in normal form, or the line that says why."""
+    status, text = _called("geoarrow_canonical", [], [given], _first_room(given))
     return status, str(text, "utf-8")
 
 

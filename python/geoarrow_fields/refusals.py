@@ -52,6 +52,15 @@ def moved_lines(text: str, left_out: int) -> str:
     return "".join(f"{moved(line, left_out)}\n" if line.startswith('{"kind":"finding"') else f"{line}\n" for line in text.split("\n")[:-1])
 
 
+def named(line: str, name: str) -> str:
+    """The line of a refused file with its name, if it has one: it stands behind the code."""
+    if not name:
+        return line
+    said = json.loads(line)
+    before = {key: said.pop(key) for key in ("kind", "severity", "code")}
+    return json.dumps({**before, "file": name, **said}, ensure_ascii=False, separators=(",", ":"))
+
+
 class InvalidColumns(ValueError):
     """Columns of which some are invalid: these are `columns`."""
 

@@ -15,7 +15,7 @@ _AT_ONCE = 1 << 20  # bytes that are asked for at once: a size that a file tells
 
 
 class Given(NamedTuple):
-    """What is given to `geoarrow_report` of the library for a source."""
+    """What is given to `geoarrow_report`, `geoarrow_same` and `geoarrow_canonical` of the library for a source."""
 
     content: bytes
     left_out: int = 0  # bytes of a file between its head and its end
@@ -25,6 +25,8 @@ class Given(NamedTuple):
 
 def given_of(source: Any) -> Given:
     """What is given to the library for a source; `TypeError` where it is none."""
+    if isinstance(source, Given):
+        return source
     if isinstance(source, (str, os.PathLike)):
         with open(source, "rb") as file:
             return _of_file(file, file.seekable())._replace(name=file_name(source).encode())

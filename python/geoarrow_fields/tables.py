@@ -4,7 +4,7 @@ import re
 import unicodedata
 from typing import Any, Iterable, List, Tuple
 
-Row = Tuple[Tuple[str, str, str, str], List[str]]  # the cells, and the lines below them
+Row = Tuple[str, Tuple[str, str, str, str], List[str]]  # the mark, the cells, and the lines below them
 
 HEAD = ("column", "holds", "CRS", "edges")
 _CELL = 40  # columns of a cell at most, as a terminal shows it
@@ -13,13 +13,14 @@ _HIDDEN = re.compile("[\x00-\x1f\x7f-\x9f\u200b-\u200f\u202a-\u202e\u2066-\u2069
 
 
 def text(rows: Iterable[Row], behind: Iterable[str] = ()) -> str:
-    """A table of text: a line for each row, with its cells below one another, and the lines below it set in; and the lines behind the table. A long cell is
-    cut, so that one long text does not make each line long."""
-    listed: List[Row] = [(HEAD, []), *((_shown_cells(cells), notes) for cells, notes in rows)]
-    widths = [max(map(_width, column)) for column in zip(*(cells for cells, _ in listed))]
+    """A table of text: a line for each row, with its mark before it and its cells below one another, and the lines below it set in; and the lines behind the
+    table. A long cell is cut, so that one long text does not make each line long."""
+    listed: List[Row] = [(" ", HEAD, []), *((mark, _shown_cells(cells), notes) for mark, cells, notes in rows)]
+    widths = [max(map(_width, column)) for column in zip(*(cells for _, cells, _ in listed))]
     lines = []
-    for cells, notes in listed:
-        lines.append("  ".join(cell + " " * (width - _width(cell)) for cell, width in zip(cells, widths)).rstrip())
+    for mark, cells, notes in listed:
+        line = "  ".join(cell + " " * (width - _width(cell)) for cell, width in zip(cells, widths))
+        lines.append(f"{mark} {line}".rstrip())
         lines.extend(f"    {shown(note).rstrip()}" for note in notes)
     lines.extend(map(shown, behind))
     return "\n".join(lines)
@@ -27,11 +28,11 @@ def text(rows: Iterable[Row], behind: Iterable[str] = ()) -> str:
 
 def html(rows: Iterable[Row], behind: Iterable[str] = ()) -> str:
     """A table of HTML, and the lines behind it as its last rows; every text is escaped."""
-    parts = ["<table><thead><tr>", *(f"<th>{name}</th>" for name in HEAD), "</tr></thead><tbody>"]
-    for cells, notes in rows:
-        parts.append("<tr>" + "".join(f"<td>{markup.escape(cell)}</td>" for cell in _shown_cells(cells)) + "</tr>")
-        parts.extend(f'<tr><td></td><td colspan="{len(HEAD) - 1}">{_escaped(note)}</td></tr>' for note in notes)
-    parts.extend(f'<tr><td colspan="{len(HEAD)}">{_escaped(line)}</td></tr>' for line in behind)
+    parts = ["<table><thead><tr>", *(f"<th>{name}</th>" for name in ("", *HEAD)), "</tr></thead><tbody>"]
+    for mark, cells, notes in rows:
+        parts.append("<tr>" + "".join(f"<td>{markup.escape(cell)}</td>" for cell in (mark.strip(), *_shown_cells(cells))) + "</tr>")
+        parts.extend(f'<tr><td></td><td colspan="{len(HEAD)}">{_escaped(note)}</td></tr>' for note in notes)
+    parts.extend(f'<tr><td colspan="{len(HEAD) + 1}">{_escaped(line)}</td></tr>' for line in behind)
     return "".join(parts) + "</tbody></table>"
 
 

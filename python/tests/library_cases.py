@@ -9,7 +9,7 @@ import unittest
 from unittest import mock
 
 import geoarrow_fields
-from geoarrow_fields import RefusedSource, check, library, read, write_schema
+from geoarrow_fields import RefusedSource, canonical, check, library, read, same, write_schema
 
 SIZES = (0, 1, 4095, 4096, 4097, 65535, 65536, 65537, (1 << 20) - 1, 1 << 20, (1 << 20) + 1, 5_000_000)
 KEYS = ("code", "file", "index", "source", "byte", "line", "found", "expected", "help")
@@ -45,12 +45,15 @@ class Cases(unittest.TestCase):
             self.assertEqual(read(f"n{size}"), "x" * size)
             self.assertEqual(write_schema([f"n{size}"]), b"x" * size)
             self.assertEqual(library.report(b"", b"n%d" % size, False, False), (library.DONE, "x" * size))
+            self.assertEqual(library.same(b"", b"n%d" % size, b"", False, False), (library.DONE, "x" * size))
+            self.assertEqual(library.canonical(b"n%d" % size), (library.DONE, "x" * size))
 
     def test_large_inputs(self):
         for size in (1 << 19, 1 << 20, 3_000_000):
             given = b"n7" + b" " * size
             self.assertEqual(write_schema([given]), b"x" * 7)
             self.assertEqual(library.report(b"", given, False, False), (library.DONE, "x" * 7))
+            self.assertEqual(library.canonical(given), (library.DONE, "x" * 7))
 
     def test_room_of_each_size(self):
         """No call is told of more room than there is, and no more than two are made: a text for which there is no room is asked for again, also the line of what
@@ -74,6 +77,8 @@ class Cases(unittest.TestCase):
             for size in SIZES:
                 for ask in (
                         lambda: read(f"n{size}"), lambda: write_schema([f"n{size}"]), lambda: library.report(b"name", b"n%d" % size, True, True),
+                        lambda: library.same(b"n1", b"n%d" % size, b"name", True, True), lambda: same(b"n1", b"r%d" % size), lambda: self.refused(same, b"r%d" % size, b"n1"),
+                        lambda: library.canonical(b"n%d" % size), lambda: self.refused(canonical, b"r%d" % size),
                         lambda: self.refused(check, b"r%d" % size), lambda: self.refused(write_schema, [b"r%d" % size])):
                     calls = []
                     ask()
@@ -91,6 +96,37 @@ class Cases(unittest.TestCase):
             check(b"o", True, False, True)
         self.assertEqual(asked, [(False, False), (True, False), (False, True), (True, True)])
         self.assertEqual([read("o"), geoarrow_fields.canon("o")], ["0", "2"])
+
+    def test_files_that_are_compared(self):
+        """Each with its options, the name of the other, and which of both is refused, with its name and its byte."""
+        found = {library.same(b"n1", b"o", b"", infer, notes)[1]: (infer, notes) for infer in (False, True) for notes in (False, True)}
+        self.assertEqual(found, {"0": (False, False), "1": (True, False), "2": (False, True), "3": (True, True)})
+        asked = []
+        with mock.patch.object(library, "same", lambda first, other, name, *options: asked.append((first, other, name, options)) or (library.DONE, "")):
+            self.assertEqual(same(b"a", self.file(b"b"), b"c", infer=True), [[], []])
+            self.assertEqual(same(self.path, b"a", notes=True), [[]])
+        name = str(self.path).encode()
+        self.assertEqual(asked, [(b"a", b"b", name, (True, False)), (b"a", b"c", b"", (True, False)), (b"b", b"a", b"", (False, True))])
+        self.assertEqual(library.same(b"n1", b"f", "\u00e9".encode(), False, False), (library.DONE, "\u00e9"))
+        path = self.file(arrow_file(b"r1b12", 1000))
+        other, = same(b"n1", path)
+        for error in (other.refused, self.refused(same, path, b"n1")):
+            self.assertEqual(said_of(error), {"code": "Code", "file": str(path), "byte": 1012, "found": "x", "expected": "y"})
+            self.assertEqual(error.json, f'{{"kind":"finding","severity":"error","code":"Code","file":"{path}","byte":1012,"found":"x","expected":"y"}}')
+        self.assertIs(self.refused(same, b"r1", path).file, None)
+
+    def test_columns_in_normal_form(self):
+        """Each line of what is written is one of the list; of a file that is refused the line has its name and its byte."""
+        asked = []
+        with mock.patch.object(library, "canonical", lambda given: asked.append(given) or (library.DONE, "a\n\u2028\u0085b\r\n\n")):
+            for source in (b"a", self.file(b"b"), ["c"], io.BytesIO(b"d")):
+                self.assertEqual(canonical(source), ["a", "\u2028\u0085b\r", ""])
+        self.assertEqual(asked, [b"a", b"b", b"c\n", b"d"])
+        path = self.file(arrow_file(b"r1b12", 1000))
+        error = self.refused(canonical, path)
+        self.assertEqual(error.json, f'{{"kind":"finding","severity":"error","code":"Code","file":"{path}","byte":1012,"found":"x","expected":"y"}}')
+        self.assertEqual(self.refused(canonical, io.BytesIO(path.read_bytes())).json, '{"kind":"finding","severity":"error","code":"Code","byte":1012,"found":"x","expected":"y"}')
+        self.assertEqual(said_of(self.refused(canonical, path.read_bytes())), {"code": "Code", "byte": 12, "found": "x", "expected": "y"})
 
     def test_names(self):
         """Of a path its name is given, of what is open none, and none of bytes and of lines."""
@@ -122,19 +158,23 @@ class Cases(unittest.TestCase):
                 ("r1i2", {**x, "index": 2}, " column 2"), ("r1b0", {**x, "byte": 0}, " byte 0"),
                 ("r3", {**x, "found": "xxx"}, ""), ("r200000", {**x, "found": "x" * 200_000}, ""),
                 ("r3000000b4", {**x, "found": "x" * 3_000_000, "byte": 4}, " byte 4")):
-            for call, given in ((check, words.encode()), (check, [words]), (check, io.BytesIO(words.encode())), (write_schema, [words])):
+            for call, given in (
+                    (check, words.encode()), (check, [words]), (check, io.BytesIO(words.encode())), (canonical, words.encode()), (canonical, [words]), (write_schema, [words])):
                 error = self.refused(call, given)
                 self.assertEqual(said_of(error), wanted)
                 self.assertEqual(str(error), f"error[Code]{place}: found {wanted['found']}; expected y")
                 self.assertEqual((error.json[:1], error.json[-1:]), ("{", "}"))  # (without a line feed)
-            self.assertEqual(said_of(self.refused(check, self.file(words.encode()))), {**wanted, "file": str(self.path)})
+            for call in (check, canonical):
+                self.assertEqual(said_of(self.refused(call, self.file(words.encode()))), {**wanted, "file": str(self.path)})
 
     def test_other_statuses(self):
-        for call in (lambda words: read(words), lambda words: check(words.encode()), lambda words: write_schema([words])):
+        for call in (
+                lambda words: read(words), lambda words: check(words.encode()), lambda words: same(b"n1", words.encode()), lambda words: canonical(words.encode()),
+                lambda words: write_schema([words])):
             with self.assertRaises(MemoryError):
                 call("s2")
-            for status in (3, 4, 6, 16, 255):
-                with self.assertRaisesRegex(RuntimeError, f"^geoarrow_(answer|report|write_schema) of libgeoarrow_c.so answers the status {status}$"):
+            for status in (3, 4, 7, 16, 255):
+                with self.assertRaisesRegex(RuntimeError, f"^geoarrow_(answer|report|same|canonical|write_schema) of libgeoarrow_c.so answers the status {status}$"):
                     call(f"s{status}")
 
     def test_the_byte_of_an_arrow_file(self):

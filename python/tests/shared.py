@@ -30,16 +30,13 @@ IS_EMPTY = f"error[EmptyFile] byte 0: found 0 bytes, or blanks alone; expected {
 IS_TEXT = f"error[ForeignFormat]: found text; expected {READ}. Lines have one JSON object each"
 NO_NAME = 'error[BadLine] line 1: found no string at "name"; expected a string at "name"'
 NO_GEO_METADATA = Finding("warning", "NoGeoMetadata", source="file", expected="metadata of GeoParquet at the key geo")
-# What is found in geo.parquet, in words (docs/FORMAT.md, 5.1).
+# What is found in the columns of geo.parquet, in words (docs/FORMAT.md, 5.1).
 TYPES = "Point, LineString, Polygon, MultiPoint, MultiLineString, MultiPolygon or GeometryCollection"
 FOUND = [
-    f'error[GeoTypes] column geom, geo /columns/geom/geometry_types/1: found "Dot"; expected {TYPES}, alone or with " Z", each at most once',
-    "error[GeoBboxOrder] column geom, geo /columns/geom/bbox/1: found 3; expected at most the greatest bound (2). "
-    "Only a box of a geographic CRS has an xmin above its xmax, where it crosses the antimeridian.",
-    'warning[GeoColumnUndeclared] column place, geo /columns: found "place"; expected a member for the column. '
-    "Readers of GeoParquet do not see the column.",
-    'warning[GeoColumnUndeclared] column region, geo /columns: found "region"; expected a member for the column. '
-    "Readers of GeoParquet do not see the column."]
+    f'error[GeoTypes] geo /columns/geom/geometry_types/1: found "Dot"; expected {TYPES}, alone or with " Z", each at most once',
+    "error[GeoBboxOrder] geo /columns/geom/bbox/1: found ymin 3, ymax 2; expected at most the greatest bound (2)",
+    'warning[GeoColumnUndeclared] geo /columns: found "place"; expected a member for the column. Readers of GeoParquet do not see the column.',
+    'warning[GeoColumnUndeclared] geo /columns: found "region"; expected a member for the column. Readers of GeoParquet do not see the column.']
 
 
 def said_of(finding, is_line=False):

@@ -98,6 +98,25 @@ uint8_t geoarrow_report(
     return answered(options, name, name_len, bytes, bytes_len, out, out_len, len);
 }
 
+/* What is answered is said by the bytes of the other file, unless those of the first say that it is refused. */
+uint8_t geoarrow_same(
+    uint8_t options, const uint8_t *first, size_t first_len, const uint8_t *other, size_t other_len, const uint8_t *name, size_t name_len, uint8_t *out,
+    size_t out_len, size_t *len) {
+    words said;
+    if (!first || !other || !name) abort();
+    read_words(first, first_len, &said);
+    if (said.is_there['r']) {
+        uint8_t status = refused(&said, NULL, 0, out, out_len, len);
+        return status == GEOARROW_REFUSED ? GEOARROW_FIRST_REFUSED : status;
+    }
+    return answered(options, name, name_len, other, other_len, out, out_len, len);
+}
+
+uint8_t geoarrow_canonical(const uint8_t *bytes, size_t bytes_len, uint8_t *out, size_t out_len, size_t *len) {
+    if (!bytes) abort();
+    return answered(0, NULL, 0, bytes, bytes_len, out, out_len, len);
+}
+
 uint8_t geoarrow_write_schema(const uint8_t *lines, size_t lines_len, uint8_t *out, size_t out_len, size_t *len) {
     return answered(0, NULL, 0, lines, lines_len, out, out_len, len);
 }

@@ -173,12 +173,15 @@ class Checks(unittest.TestCase):
 
     def test_the_findings_of_a_file_of_parquet(self):
         columns = check(DATA / "geo.parquet")
-        self.assertEqual([(one.severity, one.code, one.column, one.source, one.pointer, one.found) for one in columns.findings[:2]], [
-            ("error", "GeoTypes", "geom", "geo", "/columns/geom/geometry_types/1", '"Dot"'),
-            ("error", "GeoBboxOrder", "geom", "geo", "/columns/geom/bbox/1", "3")])
-        self.assertEqual([one.is_error for one in columns.findings], [True, True, False, False])
+        self.assertEqual(columns.findings, ())
+        self.assertEqual([len(one.findings) for one in columns], [2, 1, 1])
+        found = [one for column in columns for one in column.findings]
+        self.assertEqual([(one.severity, one.code, one.column, one.source, one.pointer, one.found) for one in found[:2]], [
+            ("error", "GeoTypes", None, "geo", "/columns/geom/geometry_types/1", '"Dot"'),
+            ("error", "GeoBboxOrder", None, "geo", "/columns/geom/bbox/1", "ymin 3, ymax 2")])
+        self.assertEqual([one.is_error for one in found], [True, True, False, False])
         self.assertEqual([one.type for one in columns], ["wkb - -", "wkb - -", "wkb - -"])
-        self.assertEqual(repr(columns).split("\n")[4:], FOUND)
+        self.assertEqual([line.strip() for line in repr(columns).split("\n") if line.startswith("    ")], FOUND)
         self.assertIn(html.escape(FOUND[0]), columns._repr_html_())
         for file in (check(DATA / "plain.parquet"), check(DATA / "file.arrow")):
             self.assertEqual(file.findings, ())
@@ -193,7 +196,7 @@ class Checks(unittest.TestCase):
                 file, wanted = bytes.fromhex(digits), next(rows)
                 columns = check(file, notes=command == "report_file_noted")
                 self.assertEqual(" & ".join(one.json for one in (*columns, *columns.findings)), wanted)
-                noted |= {one.code for one in columns.findings if one.severity == "note"}
+                noted |= {one.code for one in (*columns.findings, *(each for column in columns for each in column.findings)) if one.severity == "note"}
                 self.assertFalse([one for one in check(file).findings if one.severity == "note"])
                 for is_line, found in ((True, columns.findings), (False, [one for column in columns for one in column.findings])):
                     self.assertEqual([said_of(one, is_line) for one in found], [one.json for one in found])

@@ -25,6 +25,10 @@ def unread(words):
     return f"error[CannotRead]: found {words}; expected a file that can be read"
 
 
+# The line behind a file that is not read (docs/FORMAT.md, 2.7).
+UNREAD = '{"kind":"file"%s,"read":false,"status":2}\n'
+
+
 class Command(unittest.TestCase):
     def test_files_and_statuses(self):
         with tempfile.TemporaryDirectory() as folder:
@@ -32,15 +36,15 @@ class Command(unittest.TestCase):
             pathlib.Path(good).write_text(f"{TEXT}\n")
             pathlib.Path(bad).write_text(f"{BROKEN}\n")
             pathlib.Path(none).write_text("{}\n")
-            self.assertEqual(printed(["check", good]), ("column  holds  CRS  edges\nt       utf8\n", "", 0))
+            self.assertEqual(printed(["check", good]), ("  column  holds  CRS  edges\n  t       utf8\n", "", 0))
             self.assertEqual(printed(["check", good, bad])[1:], ("", 1))
             out, err, status = printed(["check", none, bad])
-            self.assertEqual((out.split(f"{bad}:\n")[0], err, status), (f"{none}:\ncolumn  holds  CRS  edges\n{none}: {NO_NAME}\n", "", 2))
+            self.assertEqual((out.split(f"{bad}:\n")[0], err, status), (f"{none}:\n  column  holds  CRS  edges\n{none}: {NO_NAME}\n", "", 2))
             self.assertEqual(printed(["check", "--json", none])[1:], ("", 2))
             line = '{"kind":"finding","severity":"error","code":"CannotRead","file":"%s/no","found":"%s","expected":"a file that can be read"}\n' % (folder, NO_FILE)
             words = f"{folder}/no: {unread(NO_FILE)}\n"
             self.assertEqual(printed(["check", folder + "/no"]), (words, "", 2))
-            self.assertEqual(printed(["check", "--json", folder + "/no"]), (line, "", 2))
+            self.assertEqual(printed(["check", "--json", folder + "/no"]), (line + UNREAD % f',"file":"{folder}/no"', "", 2))
 
     def test_a_folder_stands_for_its_files(self):
         with tempfile.TemporaryDirectory() as folder:
@@ -68,18 +72,18 @@ class Command(unittest.TestCase):
             line = (
                 '{"kind":"finding","severity":"error","code":"EmptyFile"%s,"byte":0,"found":"0 bytes, or blanks alone","expected":"' + READ
                 + '","help":"The writing or the copy broke off before its first byte"}\n')
-            refused = "".join(line % f',"file":"{path}"' for path in (empty, blank))
+            refused = "".join((line + UNREAD) % ((f',"file":"{path}"',) * 2) for path in (empty, blank))
             words = f"{empty}: {IS_EMPTY}\n{blank}: {IS_EMPTY}\n"
-            plain, inferred = "column  holds  CRS  edges\nwkt     utf8\n", "column  holds              CRS  edges\nwkt     taken for wkt - -       planar\n"
+            plain, inferred = "  column  holds  CRS  edges\n  wkt     utf8\n", "  column  holds          CRS  edges\n  wkt     taken for wkt       planar\n"
             for options, table, geometries in (([], plain, 0), (["--infer", "--notes"], inferred, 1)):
                 behind = f"3 files: 1 column, {geometries} of geometries; no findings; 2 files not read\n"
                 self.assertEqual(printed(["check", *options, empty, blank, good]), (f"{words}{good}:\n{table}{behind}", "", 2))
             out, err, status = printed(["check", "--json", empty, blank, good])
             behind = '{"kind":"summary","files":3,"unread":2,"failed":0,"errors":0,"warnings":0,"notes":0,"status":2}\n'
             self.assertTrue(out.endswith(behind), out)
-            self.assertEqual((out[:len(refused)], out[len(refused):].count("\n"), err, status), (refused, 2, "", 2))
+            self.assertEqual((out[:len(refused)], out[len(refused):].count("\n"), err, status), (refused, 3, "", 2))
         words = f"-: {IS_EMPTY}\n"
-        for options, out in (([], words), (["--json"], line % "")):
+        for options, out in (([], words), (["--json"], (line + UNREAD) % ("", ""))):
             for text in (b"", b"\n"):
                 found = self.run_in_data(sys.executable, "-m", "geoarrow_fields", "check", *options, "-", given=text)
                 self.assertEqual((found.stdout.decode(), found.stderr, found.returncode), (out, b"", 2))
@@ -123,12 +127,12 @@ class Command(unittest.TestCase):
             for name in names:
                 pathlib.Path(name).write_text(f"{TEXT}\n")
             shown = [f"{folder}/a\\u{{1b}}[2J\\u{{a}}b", f"{folder}/c\\u{{7f}}\\u{{85}}d"]
-            table = "column  holds  CRS  edges\nt       utf8\n"
+            table = "  column  holds  CRS  edges\n  t       utf8\n"
             behind = "2 files: 2 columns, 0 of geometries; no findings\n"
             self.assertEqual(printed(["check", *names]), ("".join(f"{name}:\n{table}" for name in shown) + behind, "", 0))
             for name in names:
                 pathlib.Path(name).write_text("{}\n")
-            head = "column  holds  CRS  edges\n"
+            head = "  column  holds  CRS  edges\n"
             behind = "2 files: 0 columns, 0 of geometries; 2 errors in 2 files\n"
             self.assertEqual(printed(["check", *names]), ("".join(f"{name}:\n{head}{name}: {NO_NAME}\n" for name in shown) + behind, "", 2))
             self.assertEqual(printed(["check", names[0] + "\t"]), (f"{shown[0]}\\u{{9}}: {unread(NO_FILE)}\n", "", 2))
@@ -157,7 +161,7 @@ class Command(unittest.TestCase):
             path.write_text(TEXT.replace('"t"', '"\u65e5"'), encoding="utf-8")
             command = [sys.executable, "-m", "geoarrow_fields", "check", str(path)]
             found = self.run_in_data(*command, encoding="latin-1")
-            self.assertEqual((found.stdout.decode(), found.stderr, found.returncode), ("column  holds  CRS  edges\n\u65e5      utf8\n", b"", 0))
+            self.assertEqual((found.stdout.decode(), found.stderr, found.returncode), ("  column  holds  CRS  edges\n  \u65e5      utf8\n", b"", 0))
 
     @unittest.skipUnless(os.path.exists("/dev/full"), "there is no /dev/full")
     def test_an_output_that_is_full(self):
@@ -169,7 +173,7 @@ class Command(unittest.TestCase):
             words = "a: error[OutOfMemory]: found out of memory; expected more memory\n"
             line = '{"kind":"finding","severity":"error","code":"OutOfMemory","file":"a","found":"out of memory","expected":"more memory"}\n'
             self.assertEqual(printed(["check", "a"]), (words, "", 2))
-            self.assertEqual(printed(["check", "--json", "a"]), (line, "", 2))
+            self.assertEqual(printed(["check", "--json", "a"]), (line + UNREAD % ',"file":"a"', "", 2))
 
     def test_options_of_the_program_alone(self):
         for word in OF_THE_PROGRAM:
@@ -224,15 +228,17 @@ class Printed(unittest.TestCase):
         error = '{"kind":"finding","severity":"error","code":"GeoBbox","column":"g","in":"geo","pointer":"/columns/g/bbox","expected":"m"}'
         warning = '{"kind":"finding","severity":"warning","code":"NoGeoMetadata","expected":"w"}'
         doubtful, wrong = (column.replace("}", ',"findings":[%s]}' % one.replace('"kind":"finding",', "")) for one in (warning, error))
-        for report, status, counted, numbers in (
-                (f"{column}\n{column}\n{warning}\n", 0, "4 columns, 0 of geometries; 2 warnings", (0, 0, 2)),
-                (f"{column}\n{error}\n{error}\n{warning}\n", 1, "2 columns, 0 of geometries; 4 errors and 2 warnings", (2, 4, 2)),
-                (f"{doubtful}\n{warning}\n", 0, "2 columns, 0 of geometries; 4 warnings", (0, 0, 4)),
-                (f"{doubtful}\n{wrong}\n{column}\n{warning}\n", 1, "6 columns, 0 of geometries; 2 errors and 4 warnings", (2, 2, 4))):
+        for report, status, counted, of_file, numbers in (
+                (f"{column}\n{column}\n{warning}\n", 0, "4 columns, 0 of geometries; 2 warnings", (2, 0, 1), (0, 0, 2)),
+                (f"{column}\n{error}\n{error}\n{warning}\n", 1, "2 columns, 0 of geometries; 4 errors and 2 warnings", (1, 2, 1), (2, 4, 2)),
+                (f"{doubtful}\n{warning}\n", 0, "2 columns, 0 of geometries; 4 warnings", (1, 0, 2), (0, 0, 4)),
+                (f"{doubtful}\n{wrong}\n{column}\n{warning}\n", 1, "6 columns, 0 of geometries; 2 errors and 4 warnings", (3, 1, 2), (2, 2, 4))):
             with mock.patch("geoarrow_fields.__main__.check", lambda *given, **more: columns_of(report)):
-                self.assertEqual(printed(["check", "--json", "a"]), (report, "", status))
+                behind = '{"kind":"file","file":"%s","read":true,"columns":%d,"geometries":0,"errors":%d,"warnings":%d,"notes":0,"status":%d}\n'
+                reports = [report + behind % (name, *of_file, status) for name in "ab"]
+                self.assertEqual(printed(["check", "--json", "a"]), (reports[0], "", status))
                 line = '{"kind":"summary","files":2,"unread":0,"failed":%d,"errors":%d,"warnings":%d,"notes":0,"status":%d}\n' % (*numbers, status)
-                self.assertEqual(printed(["check", "--json", "a", "b"]), (f"{report * 2}{line}", "", status))
+                self.assertEqual(printed(["check", "--json", "a", "b"]), (f"{''.join(reports)}{line}", "", status))
                 behind = ["warning[NoGeoMetadata]: expected w", f"2 files: {counted} in 2 files", ""]
                 self.assertEqual(printed(["check", "a", "b"])[0].split("\n")[-3:], behind)
 
@@ -244,7 +250,7 @@ class Printed(unittest.TestCase):
             named = check(path)
             for ours, others in ((named, unnamed), (named.findings, unnamed.findings)):
                 self.assertEqual([json.loads(one.json) for one in ours], [{**json.loads(one.json), "file": path} for one in others])
-            self.assertEqual(printed(["check", "--json", path])[0], "".join(f"{one.json}\n" for one in (*named, *named.findings)))
+            self.assertEqual(printed(["check", "--json", path])[0].splitlines()[:-1], [one.json for one in (*named, *named.findings)])
             self.assertNotIn('"file"', "".join(one.json for one in (*unnamed, *unnamed.findings)))
 
 

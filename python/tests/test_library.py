@@ -48,7 +48,7 @@ class Header(unittest.TestCase):
     def test_the_numbers_of_the_header(self):
         said = (TOP / "include/geoarrow.h").read_text()
         found = {name: int(number) for name, number in re.findall(r"GEOARROW_(\w+)(?: =)? (\d+)", said)}
-        for name in ("VERSION", "DONE", "SHORT", "MEMORY", "REFUSED", "INFER_TYPES", "NOTES"):
+        for name in ("VERSION", "DONE", "SHORT", "MEMORY", "REFUSED", "FIRST_REFUSED", "INFER_TYPES", "NOTES"):
             self.assertEqual(getattr(library, name), found[name], name)
         for one in library.Command:
             self.assertEqual(one, found[one.name])

@@ -18,6 +18,9 @@ from geoarrow_fields import files
 
 from .shared import BROKEN, BROKEN_FOUND, CRS, DATA, FOUND, IS_EMPTY, IS_TEXT, TEXT, TOP, WKT
 
+# What is found in geo.parquet, where each finding names its column.
+NAMED = [one.replace("] ", f"] column {name}, ", 1) for one, name in zip(FOUND, ("geom", "geom", "place", "region"))]
+
 SCRIPT = TOP / "examples/many_files.py"
 HAS_DASK = all(importlib.util.find_spec(name) for name in ("dask", "distributed"))
 
@@ -49,7 +52,7 @@ class ManyFiles(unittest.TestCase):
                 f"error[Truncated] byte {(DATA / 'file.arrow').stat().st_size - 1}: found {(DATA / 'file.arrow').read_bytes()[-9:-1].hex()}; expected ARROW1 at the end. "
                 "The file is cut off, or still being written")),
             self.report("g", error="No such file or directory"),
-            self.report("h", 3, ["geom: wkb - -", "place: wkb - -", "region: wkb - -"], FOUND[:2], FOUND[2:])]
+            self.report("h", 3, ["geom: wkb - -", "place: wkb - -", "region: wkb - -"], NAMED[:2], NAMED[2:])]
 
     def report(self, name, columns=0, geometries=(), errors=(), warnings=(), invalid=(), error=None):
         return {

@@ -114,8 +114,9 @@ class Shared(InAFolder):
         for content, said in cases():
             with self.subTest(content[:80], said=said):
                 path, words = str(self.file(content)), words_of(said)
+                behind = json.dumps({"kind": "file", "file": path, "read": False, "status": 2}, ensure_ascii=False, separators=(",", ":"))
                 self.assertEqual(printed(["check", path]), (f"{path}: {words}\n", "", 2))
-                self.assertEqual(printed(["check", "--json", path]), (f"{line_of({**said, 'file': path})}\n", "", 2))
+                self.assertEqual(printed(["check", "--json", path]), (f"{line_of({**said, 'file': path})}\n{behind}\n", "", 2))
                 self.assertEqual(files.report(path)["error"], words)
 
     def test_large_files(self):
@@ -159,7 +160,7 @@ class BadLines(InAFolder):
             with self.subTest(content[:80], said=said):
                 path, words = str(self.file(content)), words_of(said)
                 out, err, status = printed(["check", "--json", path])
-                self.assertEqual((out.splitlines()[-1], err, status), (line_of({**said, "file": path}), "", 2))
+                self.assertEqual((out.splitlines()[-2], err, status), (line_of({**said, "file": path}), "", 2))
                 out, err, status = printed(["check", path])
                 self.assertEqual((out, err, status), (f"{check(path).table()}\n{path}: {words}\n", "", 2))
                 report = files.report(path)

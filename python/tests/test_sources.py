@@ -225,7 +225,7 @@ class Lines(unittest.TestCase):
         for source in ([], (), Schema([])):
             found = check(source, infer=True, strict=True)
             self.assertEqual((found, found.findings), ([], ()))
-            self.assertEqual(repr(found), "column  holds  CRS  edges")
+            self.assertEqual(repr(found), "  column  holds  CRS  edges")
 
     def test_what_is_no_line(self):
         for line in (3, 10**9, None, 1.5, {"name": "t"}, [TEXT], object(), array.array("B", b"{}")):

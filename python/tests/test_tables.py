@@ -39,13 +39,13 @@ class Cells(html.parser.HTMLParser):
 class Tables(unittest.TestCase):
     def test_a_table(self):
         self.assertEqual(repr(check([CRS, BROKEN, WKT], infer=True, notes=True)), """\
-column  holds                        CRS        edges
-g       wkb - -                      OGC:CRS84  spherical
+  column  holds                        CRS        edges
+N g       wkb                          OGC:CRS84  spherical
     %s
-b       invalid geoarrow.linestring
+E b       invalid geoarrow.linestring
     %s
     %s
-wkt     taken for wkt - -                       planar""" % (NOT_WHOLE, *BROKEN_FOUND))
+  wkt     taken for wkt                           planar""" % (NOT_WHOLE, *BROKEN_FOUND))
 
     def test_the_table_of_the_readme(self):
         readme = (TOP / "README.md").read_text()
@@ -67,7 +67,7 @@ wkt     taken for wkt - -                       planar""" % (NOT_WHOLE, *BROKEN_
                 *((crs, "") for crs in malformed), ("[1]", "a CRS"), ("4326", "a CRS"), ("null", "")):
             with self.subTest(crs):
                 row = repr(check([with_crs(crs)])).split("\n")[1]
-                self.assertEqual(re.fullmatch(r"g +wkb - - +(.*?) *planar", row)[1], name)
+                self.assertEqual(re.fullmatch(r"[EW ] g +wkb +(.*?) *planar", row)[1], name)
 
     def test_cells_that_are_cut(self):
         name = "n" * 1_000_000
@@ -75,23 +75,33 @@ wkt     taken for wkt - -                       planar""" % (NOT_WHOLE, *BROKEN_
         self.assertEqual(columns[0].name, name)
         lines = repr(columns).split("\n")
         self.assertEqual([lines[1], lines[2], lines[-2], lines[-1]], [
-            "n" * 38 + "..  utf8", "t" + " " * 41 + "utf8", "é" * 38 + "..  utf8", "é" * 40 + "  utf8"])
+            "  " + "n" * 38 + "..  utf8", "  t" + " " * 41 + "utf8", "  " + "é" * 38 + "..  utf8", "  " + "é" * 40 + "  utf8"])
         self.assertLess(len(repr(columns)), 60_000)
         other = '{"name":"o","nullable":true,"type":{"other":"%s"}}' % ("x" * 41)
-        self.assertEqual(repr(check([other])).split("\n")[1], "o       " + "x" * 38 + "..")
-        self.assertEqual(Cells(check([other])._repr_html_()).cells[4:], ["o", "x" * 38 + "..", "", ""])
+        self.assertEqual(repr(check([other])).split("\n")[1], "  o       " + "x" * 38 + "..")
+        self.assertEqual(Cells(check([other])._repr_html_()).cells[5:], ["", "o", "x" * 38 + "..", "", ""])
 
     def test_characters_of_two_columns_and_of_none(self):
         cells = (
             ("東" * 20, "東" * 20, 40), ("東" * 21, "東" * 19 + "..", 40), ("x" + "東" * 20, "x" + "東" * 18 + "..", 39), ("東京", "東京", 4),
             ("e\u0301" * 40, "e\u0301" * 40, 40), ("e\u0301" * 41, "e\u0301" * 38 + "..", 40), ("\u2764\ufe0f", "\u2764\ufe0f", 2))
         lines = repr(check([TEXT.replace('"t"', f'"{name}"') for name, _, _ in cells])).split("\n")
-        self.assertEqual(lines[1:], [cell + " " * (42 - columns) + "utf8" for _, cell, columns in cells])
+        self.assertEqual(lines[1:], ["  " + cell + " " * (42 - columns) + "utf8" for _, cell, columns in cells])
 
     def test_hidden_characters(self):
         cell = r"a\u{1b}[2J\u{85}\u{a}\u{202e}b\u{feff}"
         table = repr(check([TEXT.replace('"t"', r'"a\u001b[2J\u0085\n\u202eb\ufeff"')]))
-        self.assertEqual(table, f"{'column':<{len(cell)}}  holds  CRS  edges\n{cell}  utf8")
+        self.assertEqual(table, f"  {'column':<{len(cell)}}  holds  CRS  edges\n  {cell}  utf8")
+
+
+    def test_the_mark_is_the_worst_severity(self):
+        said = '{"severity":"%s","code":"C","in":"field","found":"f","expected":"e"}'
+        column = COLUMN[:-1] + ',"findings":[%s]}'
+        for severities, mark in (
+                ((), " "), (("note",), "N"), (("warning",), "W"), (("error",), "E"), (("note", "warning", "note"), "W"), (("warning", "error", "note"), "E"), (("error", "note"), "E")):
+            with self.subTest(severities):
+                found = columns_of((column % ",".join(said % severity for severity in severities) if severities else COLUMN) + "\n")
+                self.assertEqual(repr(found).split("\n")[1], f"{mark} t       utf8")
 
 
 class Behind(unittest.TestCase):
@@ -118,7 +128,7 @@ class Behind(unittest.TestCase):
         self.assertEqual(repr(columns).split("\n")[2:], behind)
         self.assertEqual([one.is_error for one in columns.findings], [True, False, True, False])
         found = Cells(columns._repr_html_())
-        self.assertEqual((found.cells[-4:], found.spans), (behind, [4] * 6))
+        self.assertEqual((found.cells[-4:], found.spans), (behind, [5] * 6))
 
 
 class Html(unittest.TestCase):
@@ -126,11 +136,11 @@ class Html(unittest.TestCase):
         found = Cells(check([CRS, BROKEN, WKT], infer=True, notes=True)._repr_html_())
         self.assertEqual(found.tags, {"table", "thead", "tbody", "tr", "th", "td"})
         self.assertEqual(found.cells, [
-            "column", "holds", "CRS", "edges",
-            "g", "wkb - -", "OGC:CRS84", "spherical", "", NOT_WHOLE,
-            "b", "invalid geoarrow.linestring", "", "", "", BROKEN_FOUND[0], "", BROKEN_FOUND[1],
-            "wkt", "taken for wkt - -", "", "planar"])
-        self.assertEqual(found.spans, [4] * 7)
+            "", "column", "holds", "CRS", "edges",
+            "N", "g", "wkb", "OGC:CRS84", "spherical", "", NOT_WHOLE,
+            "E", "b", "invalid geoarrow.linestring", "", "", "", BROKEN_FOUND[0], "", BROKEN_FOUND[1],
+            "", "wkt", "taken for wkt", "", "planar"])
+        self.assertEqual(found.spans, [5] * 7)
 
     def test_each_text_is_escaped(self):
         name = "<script>\\\"&amp;'</td>"

@@ -28,12 +28,12 @@ use Rattle.arrow_columns.specs.Nested.{all_known, known_fields}
 use Rattle.arrow_columns.specs.declared.nested.ListForm.TheVariants.{Fixed}
 use Rattle.arrow_ipc.specs.Fault.{◌>>=◌}
 use Rattle.arrow_ipc.specs.Kinds.{int_at, number_at, kind_at}
-use Rattle.arrow_ipc.specs.Types.{type_of}
+use Rattle.arrow_kinds.specs.Types.{type_of}
 use Rattle.arrow_ipc.specs.Shapes.{Shape, column_of, member_ids, are_ids, member_fields, nested_columns, shape_of, tag_of, bytes_of, has_table}
 use Rattle.arrow_ipc.specs.declared.fault.IpcFault.{IpcFault}
-use Rattle.arrow_ipc.specs.declared.parts.Kind.{Kind}
+use Rattle.arrow_kinds.specs.declared.kind.Kind.{Kind}
 use Rattle.arrow_ipc.specs.declared.wire.Table.{Table as Opened}
-use Rattle.arrow_ipc.specs.declared.parts.Kind.TheVariants.{Plain, List as ListOf, Struct, Union}
+use Rattle.arrow_kinds.specs.declared.kind.Kind.TheVariants.{Plain, List as ListOf, Struct, Union}
 use Rattle.arrow_values.specs.declared.tree.DataType.TheVariants.{Null}
 use Rattle.arrow_ipc.specs.Rooms.{is_sound, table_room, Refuses, Makes, Gives, are_sound, members_sound, fields_room, members_room, nested_room, column_room, texts_room, room_of, columns_room, IsUnfit, IsUnfitType, AreUnfit}
 use Rattle.std.specs.Ordering.{ordering_reverse, match_ordering}

@@ -16,7 +16,7 @@ use Rattle.arrow_ipc.specs.Parts.{zone_or_ids, parts_in}
 use Rattle.arrow_ipc.specs.Columns.{entry_in, entry_price, texts_at, typed, columns_by, column_at, finished, priced}
 use Rattle.arrow_ipc.specs.declared.fault.IpcFault.{IpcFault}
 use Rattle.arrow_ipc.specs.declared.fault.IpcRule.TheVariants.{Depth}
-use Rattle.arrow_ipc.specs.declared.parts.Kind.{Kind}
+use Rattle.arrow_kinds.specs.declared.kind.Kind.{Kind}
 use Rattle.arrow_ipc.specs.declared.wire.Table.{Table}
 use Rattle.arrow_ipc.specs.declared.schema.Endianness.{Endianness}
 use Rattle.arrow_ipc.specs.declared.schema.Endianness.TheVariants.{Little, Big}

@@ -11,12 +11,12 @@ use Rattle.arrow_ipc.specs.Fault.{◌>>=◌, breaks}
 use Rattle.arrow_ipc.specs.Wire.{opened_at, integer_at, target_at, utf8_at}
 use Rattle.arrow_ipc.specs.Slots.{table_in}
 use Rattle.arrow_ipc.specs.Parts.{Own, parts_at}
-use Rattle.arrow_ipc.specs.Types.{type_of, with_dictionary}
+use Rattle.arrow_kinds.specs.Types.{type_of, with_dictionary}
 use Rattle.arrow_ipc.specs.Tells.{◌>>+◌, gather}
 use Rattle.arrow_ipc.specs.declared.fault.IpcFault.{IpcFault}
 use Rattle.arrow_ipc.specs.declared.fault.IpcRule.TheVariants.{Children, TypeIds, Depth}
-use Rattle.arrow_ipc.specs.declared.parts.Kind.{Kind}
-use Rattle.arrow_ipc.specs.declared.parts.Kind.TheVariants.{Union}
+use Rattle.arrow_kinds.specs.declared.kind.Kind.{Kind}
+use Rattle.arrow_kinds.specs.declared.kind.Kind.TheVariants.{Union}
 
 -- an entry of metadata: slot 0 of its table is its key, slot 1 its text. The last text of a key counts
 unfoldable pub entry_in : List ℕ → ℕ → Result (Text × Text) IpcFault

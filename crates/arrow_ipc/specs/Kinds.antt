@@ -10,11 +10,11 @@ use Rattle.arrow_values.specs.declared.tree.DataType.{DataType}
 use Rattle.arrow_values.specs.declared.tree.DataType.TheVariants.{Null, Boolean, Int8, Int16, Int32, Int64, UInt8, UInt16, UInt32, UInt64, Float16, Float32, Float64, Date32, Date64, Binary, LargeBinary, BinaryView, Utf8, LargeUtf8, Utf8View}
 use Rattle.arrow_values.specs.declared.tree.UnionMode.TheVariants.{Sparse, Dense}
 use Rattle.arrow_columns.specs.declared.nested.ListForm.TheVariants.{Small, Large, Fixed}
-use Rattle.arrow_ipc.specs.declared.parts.Named as named
-use Rattle.arrow_ipc.specs.declared.parts.Named.TheVariants.{Decimal, Time, Timestamp, Duration, Interval, FixedSizeBinary}
+use Rattle.arrow_kinds.specs.declared.kind.Named as named
+use Rattle.arrow_kinds.specs.declared.kind.Named.TheVariants.{Decimal, Time, Timestamp, Duration, Interval, FixedSizeBinary}
 use Rattle.arrow_ipc.specs.declared.wire.Table.{Table}
-use Rattle.arrow_ipc.specs.declared.parts.Kind.{Kind}
-use Rattle.arrow_ipc.specs.declared.parts.Kind.TheVariants.{Plain, Named, List as ListOf, Struct, Union, Map, RunEndEncoded, ListView, LargeListView}
+use Rattle.arrow_kinds.specs.declared.kind.Kind.{Kind}
+use Rattle.arrow_kinds.specs.declared.kind.Kind.TheVariants.{Plain, Named, List as ListOf, Struct, Union, Map, RunEndEncoded, ListView, LargeListView}
 
 unfoldable pub int_at : List ℕ → Table → Result DataType IpcFault
 int_at bytes table = do

@@ -3,7 +3,6 @@ pub mod Wire
 pub mod Slots
 pub mod Kinds
 pub mod Parts
-pub mod Types
 pub mod Tells
 pub mod Columns
 pub mod Schema

@@ -10,10 +10,10 @@ use Rattle.arrow_ipc.specs.Kinds.{int_at, kind_at}
 use Rattle.arrow_ipc.specs.declared.fault.IpcFault.{IpcFault}
 use Rattle.arrow_ipc.specs.declared.wire.Table.{Table}
 use Rattle.arrow_ipc.specs.declared.fault.IpcRule.TheVariants.{Missing, Tag}
-use Rattle.arrow_ipc.specs.declared.parts.Kind.{Kind}
+use Rattle.arrow_kinds.specs.declared.kind.Kind.{Kind}
 use Rattle.arrow_values.specs.declared.tree.DataType.{DataType}
 use Rattle.arrow_values.specs.declared.tree.DataType.TheVariants.{Int32}
-use Rattle.arrow_ipc.specs.declared.parts.Index.{Index}
+use Rattle.arrow_kinds.specs.declared.kind.Index.{Index}
 use Rattle.arrow_ipc.specs.declared.parts.Parts.{Parts}
 
 -- the tag of a type is 1 to 26

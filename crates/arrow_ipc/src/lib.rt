@@ -8,7 +8,6 @@ pub mod laws;
 mod nesting;
 mod parts;
 mod schema;
-mod types;
 mod wire;
 mod write;
 

@@ -12,35 +12,8 @@ use crate::wire::{
     vector_in,
 };
 use arrow_columns::ListForm;
+use arrow_kinds::{Index, Kind, Named};
 use arrow_values::{DataType, UnionMode};
-
-/// A type that has a text in place of a data type. A unit is 0 for seconds, 1 for milliseconds, 2 for microseconds, 3 for nanoseconds.
-#[derive(Clone, Copy)]
-pub(crate) enum Named {
-    /// Width in bits, precision, and scale.
-    Decimal(usize, usize, i32),
-    Time(usize),
-    Timestamp(usize),
-    Duration(usize),
-    /// 0 for months, 1 for days with milliseconds, 2 for all three with nanoseconds.
-    Interval(usize),
-    FixedSizeBinary(i32),
-}
-
-/// A type with its own parts, without what is nested in it.
-#[derive(Drop)]
-pub(crate) enum Kind {
-    /// A data type that nests nothing.
-    Plain(DataType),
-    Named(Named),
-    List(ListForm),
-    Struct,
-    Union(UnionMode),
-    Map,
-    RunEndEncoded,
-    ListView,
-    LargeListView,
-}
 
 /// An integer by its width and sign.
 #[tactic(auto, unfolding(crate::specs::Kinds::int_at))]
@@ -146,15 +119,6 @@ pub(crate) fn kind_at(bytes: &[u8], tag: usize, table: &Table) -> Found<Kind>
         (26, _) => Ok(Kind::LargeListView),
         _ => Err(broken(IpcRule::Parameter, table.at)),
     }
-}
-
-/// How the values of a dictionary are looked up: by integers of that type, and whether their order is one of the values.
-#[derive(Drop)]
-pub(crate) struct Index {
-    /// The type of the integers.
-    pub integers: DataType,
-    /// Whether the order of the values is that of the integers.
-    pub ordered: bool,
 }
 
 /// What a column's table says of the column itself.

@@ -10,12 +10,12 @@ ghost use Rattle.arrow_ipc.specs.Columns.{entry_at, put_entry, texts_at, is_new,
 ghost use Rattle.arrow_ipc.specs.Schema.{head_at, message_at, footer_at, cut, size_at, message_of, message_in, footer_in, schema_of, Meets, MeetsIn, schema_of_message, schema_of_footer};
 
 use crate::fault::{Found, IpcError, IpcRule, broken, ensure};
-use crate::parts::{Kind, Parts, parts_at};
-use crate::types::{type_of, with_dictionary};
+use crate::parts::{Parts, parts_at};
 use crate::wire::{
     Vector, integer_at, integer_in, open, table_in, target_at, utf8_at, vector_at, vector_in,
 };
 use arrow_columns::SchemaColumn;
+use arrow_kinds::{Kind, type_of, with_dictionary};
 use std::alloc::Global;
 use std::collections::BTreeMap;
 

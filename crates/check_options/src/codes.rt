@@ -1,6 +1,6 @@
 //! The codes of findings, as they are printed without a file (docs/FORMAT.md, 2.7).
 use column_check::WarningCode;
-use column_reports::Code;
+use column_reports::{AskedCode, Code};
 use file_check::{NOT_SAME, REFUSALS, Rule};
 use geoparquet::{GeoCode, Version};
 use parquet_columns::FileCode;
@@ -26,6 +26,11 @@ enum Known {
 }
 
 impl Known {
+    /// Whether its findings count whatever is said of it.
+    fn always_counts(self) -> bool {
+        matches!(self, Known::Refused(_) | Known::Found(Code::Asked(_)))
+    }
+
     /// The code as a word.
     fn word(self) -> &'static str {
         match self {
@@ -38,6 +43,7 @@ impl Known {
     fn section(self) -> &'static str {
         match self {
             Known::Found(Code::Column(_)) => "2.6",
+            Known::Found(Code::Asked(_)) => "2.7",
             Known::Refused(_) => "2.8",
             Known::Compared(_) => "2.9",
             Known::Found(Code::Text(_)) => "4.3",
@@ -57,12 +63,15 @@ impl Known {
     }
 }
 
-/// Returns each code, in the order of docs/FORMAT.md: those of columns, of refused files, of files that
+/// Returns each code, in the order of docs/FORMAT.md: those of columns, of what is asked, of refused files, of files that
 /// are to be the same, of footers, of the other parts of a Parquet file, and of GeoParquet metadata. Errs only when out of memory.
 fn all_codes(alloc: Global) -> Result<Vec<Known>, AllocError> {
     let mut codes = Vec::new(alloc);
     for code in &WarningCode::ALL {
         codes.push(Known::Found(Code::Column(*code)))?;
+    }
+    for code in &AskedCode::ALL {
+        codes.push(Known::Found(Code::Asked(*code)))?;
     }
     for rule in &REFUSALS {
         codes.push(Known::Refused(*rule))?;
@@ -122,12 +131,21 @@ fn known_text(alloc: Global, known: Known) -> Result<String, AllocError> {
 /// Returns whether a code of findings is so called. Errs only when out of memory.
 pub(crate) fn is_code(alloc: Global, word: &str) -> Result<bool, AllocError> {
     let codes = all_codes(alloc)?;
-    Ok(codes.iter().any(|code| !matches!(code, Known::Refused(_)) && code.word() == word))
+    Ok(
+        codes
+            .iter()
+            .any(|code| !code.always_counts() && code.word() == word),
+    )
 }
 
 /// Returns whether a code with which files are refused is so called.
 pub(crate) fn is_refusal(word: &str) -> bool {
     REFUSALS.iter().any(|rule| rule.code == word)
+}
+
+/// Returns whether a code of what is asked of a file is so called.
+pub(crate) fn is_asked(word: &str) -> bool {
+    AskedCode::ALL.iter().any(|code| code.word() == word)
 }
 
 /// Returns why a word that is no code is refused: with the code that it is most like, if it is like

@@ -21,6 +21,9 @@ text the rows of columns and the names of files of which nothing is found; githu
 findings alone. What is asked and not met, and why a file is refused, is said with both. Both exclude
 --json, --lines and --ipc.
 
+--canonical writes each column of geometries as GeoArrow does, with its CRS as it is written
+(docs/FORMAT.md, 2.10); the status is that of the columns as they stand in the file.
+
 --expect may stand several times. COLUMN is the name of a column, WANT what it is to hold, with
 commas between: a kind, a coordinate type, a dimension, an encoding (native, WKB, WKT), the edges,
 a CRS; as outline=point,XY,EPSG:4326. Words are met in any letters, and a CRS by one that agrees with
@@ -31,8 +34,8 @@ names: their types, encodings, edges and CRSs (docs/FORMAT.md, 2.9). It excludes
 
 --deny and --allow may stand several times. CODE is one that --codes prints (docs/FORMAT.md 2.6,
 2.8, 2.9, 4.3, 4.5 and 5), or warnings for all that are warnings; what is said of a code counts before
-what is said of warnings, and of two words on the same the later. An invalid column always counts,
-whatever is said of the codes of why it is; why a file is refused counts too, and cannot be allowed.
+what is said of warnings, and of two words on the same the later. Why a file is refused, and what is
+asked and not met, always counts, and cannot be allowed.
 
 A folder stands for its files whose names end in .parquet, .geoparquet, .arrow, .feather, .arrows,
 .jsonl or .ndjson, down all folders, in the order of the bytes of their paths; names that begin with
@@ -41,7 +44,7 @@ _ or . are left out. --ipc takes one file, and is refused where the output is a 
 On a terminal the severities have colours, unless NO_COLOR is set, and a table has the columns that
 COLUMNS says, if it is set.
 
-Status: 0 if no column is invalid, no finding counts as an error and all that is expected is met, 1
+Status: 0 if no finding counts as an error and all that is expected is met, 1
 otherwise, 2 if a file or the words cannot be read or the output fails. Where nobody reads the
 output any more, the status is that of the files so far.";
 
@@ -58,6 +61,7 @@ fn with_outputs<'a>(alloc: Global, command: Command<'a>) -> Result<Command<'a>, 
     let json = "Print a line of JSON for each column: --format json";
     let lines = "Print the columns as lines of fields, in place of what they hold";
     let ipc = "Print the columns of one file as an Arrow stream of its schema alone";
+    let canonical = "With --lines or --ipc: print columns of geometries in normal form";
     command
         .arg(format(alloc)?)?
         .arg(flag(alloc, "json", json).overrides_with("format")?)?
@@ -71,7 +75,8 @@ fn with_outputs<'a>(alloc: Global, command: Command<'a>) -> Result<Command<'a>, 
                 .conflicts_with("format")?
                 .conflicts_with("json")?
                 .conflicts_with("lines")?,
-        )
+        )?
+        .arg(flag(alloc, "canonical", canonical))
 }
 
 /// The option that takes a format.

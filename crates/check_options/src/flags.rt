@@ -8,6 +8,9 @@ const QUIET_JSON: &str = "the argument '--format json' cannot be used with '--qu
 /// Why lines of JSON are not those of problems alone.
 const PROBLEMS_JSON: &str = "the argument '--format json' cannot be used with '--problems'";
 
+/// Why columns in normal form are not said to hold something.
+const CANONICAL_ALONE: &str = "the argument '--canonical' needs '--lines' or '--ipc'";
+
 /// The options among what is read.
 pub(crate) fn flags_of(matches: &ArgMatches<'_>) -> Flags {
     Flags {
@@ -19,6 +22,7 @@ pub(crate) fn flags_of(matches: &ArgMatches<'_>) -> Flags {
         problems: matches.get_flag("problems"),
         require_geometry: matches.get_flag("require-geometry"),
         same: matches.get_flag("same"),
+        canonical: matches.get_flag("canonical"),
     }
 }
 
@@ -35,8 +39,12 @@ fn format_of(matches: &ArgMatches<'_>) -> Format {
     }
 }
 
-/// Why options exclude one another, where a format does. What stands alone is excluded by the command.
+/// Why options exclude one another, where a format does, or one needs another. What stands alone is
+/// excluded by the command.
 pub(crate) fn excluded(flags: Flags) -> Option<&'static str> {
+    if flags.canonical && !flags.lines && !flags.ipc {
+        return Some(CANONICAL_ALONE);
+    }
     match flags.format {
         Format::Json if flags.quiet => Some(QUIET_JSON),
         Format::Json if flags.problems => Some(PROBLEMS_JSON),

@@ -1,5 +1,5 @@
 //! Which findings are shown and how much each counts: `--notes`, `--deny` and `--allow`.
-use crate::codes::{is_code, is_refusal, no_code};
+use crate::codes::{is_asked, is_code, is_refusal, no_code};
 use clap::ArgMatches;
 use column_reports::{CodeWeight, Weight, Weights};
 use std::alloc::{AllocError, Global};
@@ -19,8 +19,7 @@ struct Said<'a> {
 }
 
 /// Returns what is asked of findings, or why it cannot be: a word that is no
-/// code, or one that is allowed and with which files are refused. Errs only when out
-/// of memory.
+/// code, or one that is allowed and always counts. Errs only when out of memory.
 pub(crate) fn weights_of(
     alloc: Global,
     matches: &ArgMatches<'_>,
@@ -34,7 +33,7 @@ pub(crate) fn weights_of(
                 code: String::from_str(alloc, said.word)?,
                 weight: said.weight,
             })?;
-        } else if !is_refusal(said.word) {
+        } else if !is_refusal(said.word) && !is_asked(said.word) {
             return Ok(Err(no_code(alloc, said.word)?));
         } else if matches!(said.weight, Weight::Allow) {
             return Ok(Err(not_allowed(alloc, said.word)?));
@@ -43,9 +42,15 @@ pub(crate) fn weights_of(
     Ok(Ok(weights))
 }
 
-/// Returns why a code with which files are refused is not allowed. Errs only when out of memory.
+/// Returns why a code with which files are refused, or of what is asked of them, is not allowed.
+/// Errs only when out of memory.
 fn not_allowed(alloc: Global, word: &str) -> Result<String, AllocError> {
-    format!(in alloc; "'{word}' cannot be allowed: no report is made of such a file")
+    let why = if is_asked(word) {
+        "it is found only where it is asked for"
+    } else {
+        "no report is made of such a file"
+    };
+    format!(in alloc; "'{word}' cannot be allowed: {why}")
 }
 
 /// The words behind both options, the last first.

@@ -18,4 +18,5 @@ pub mod KeyWarnings
 pub mod ReasonFindings
 pub mod Warnings
 pub mod Walk
+pub mod Meant
 pub mod WarningWords

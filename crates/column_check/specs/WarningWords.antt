@@ -1,8 +1,9 @@
 -- What is found of a column (docs/FORMAT.md, 2.6): the codes, how much each weighs, what is wrong or doubtful, what is expected, and what helps.
-use Rattle.std.specs.Prelude.{codes, Option, None, Some}
+use Rattle.std.specs.Prelude.{◌==◌, Bool, false, List, [], ◌∷◌, codes, Option, None, Some, if◌then◌else◌}
 use Rattle.arrow_values.specs.Tree.{Text}
 use Rattle.geoarrow_layout.specs.Faults.{fault_text}
 use Rattle.geoarrow_layout.specs.declared.names.ExtensionName.{ExtensionName}
+use Rattle.column_check.specs.Meant.{crs_type_names, edges_names, extension_names, meant_or}
 use Rattle.column_check.specs.LayoutWords.{fault_code, fault_help, layout_text, storage_help}
 use Rattle.column_check.specs.declared.code.Severity.{Severity}
 use Rattle.column_check.specs.declared.code.Severity.TheVariants.{Error, Warning, Note}
@@ -139,7 +140,7 @@ warning_help warnings.UnknownCrsType = None
 warning_help warnings.UnknownEdges = Some (codes "Leave it out where edges are planar.")
 warning_help warnings.EdgesPlanar = Some (codes "Leave it out; planar is the default.")
 warning_help warnings.CrsMalformed = Some (codes "projinfo -o PROJJSON prints it, as of EPSG:4326.")
-warning_help warnings.CrsEmpty = Some (codes "It is read as no CRS.")
+warning_help warnings.CrsEmpty = Some (codes "Of a field it is read as no CRS, of an element as the default.")
 warning_help warnings.CrsTypeContradicts = Some (codes "Name the form in crs_type, or leave it out.")
 warning_help warnings.CrsWkt1 = Some (codes "projinfo -o WKT2:2019 prints it.")
 warning_help warnings.CrsWithoutType = None
@@ -153,7 +154,24 @@ abbrev pub expected_at : WarningCode → Option ExtensionName → Text
 expected_at code (Some name) = layout_text name
 expected_at code None = warning_expected code
 
+-- the names of which one is expected, each with its question
+abbrev pub names_of : WarningCode → List (Text × Text)
+names_of warnings.UnknownExtension = extension_names
+names_of warnings.UnknownCrsType = crs_type_names
+names_of warnings.UnknownEdges = edges_names
+names_of code = []
+
+-- the type that would be right, where what was found is an object
+abbrev pub is_of_object : Text → Bool
+is_of_object [] = false
+is_of_object (b ∷ rest) = b == 123
+
+abbrev pub type_help : Option Text → Option Text
+type_help None = warning_help warnings.CrsTypeContradicts
+type_help (Some found) = if is_of_object found then Some (codes "The crs_type of an object is projjson.") else warning_help warnings.CrsTypeContradicts
+
 -- what helps, by what is wanted and what was found
 abbrev pub help_at : WarningCode → Option ExtensionName → Option Text → Option Text
 help_at warnings.WrongStorage wanted found = storage_help wanted found
-help_at code wanted found = warning_help code
+help_at warnings.CrsTypeContradicts wanted found = type_help found
+help_at code wanted found = meant_or (names_of code) (warning_help code) found

@@ -259,7 +259,9 @@ impl WarningCode {
             WarningCode::UnknownEdges => Some("Leave it out where edges are planar."),
             WarningCode::EdgesPlanar => Some("Leave it out; planar is the default."),
             WarningCode::CrsMalformed => Some("projinfo -o PROJJSON prints it, as of EPSG:4326."),
-            WarningCode::CrsEmpty => Some("It is read as no CRS."),
+            WarningCode::CrsEmpty => {
+                Some("Of a field it is read as no CRS, of an element as the default.")
+            },
             WarningCode::CrsTypeContradicts => Some("Name the form in crs_type, or leave it out."),
             WarningCode::CrsWkt1 => Some("projinfo -o WKT2:2019 prints it."),
             WarningCode::CrsNotWhole => Some(NOT_WHOLE_HELP),

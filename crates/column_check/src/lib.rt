@@ -18,6 +18,7 @@ mod key_case;
 pub mod laws;
 mod layout;
 mod malformed;
+mod meant;
 mod metadata;
 mod not_whole;
 mod numbers;

@@ -5,13 +5,14 @@ ghost use Rattle.arrow_values.specs.View.{tree};
 ghost use Rattle.arrow_columns.specs.Column.{column_tree, type_tree};
 ghost use Rattle.column_check.specs.Said.{said};
 ghost use Rattle.column_check.specs.Warnings.{name_warnings, is_empty_text, text_warnings, axis_warnings, nullable_warnings, layout_warnings, type_warnings, geometry_metadata_warnings, nested_warnings, type_findings, metadata_findings, AreWarnings};
-ghost use Rattle.column_check.specs.WarningWords.{expected_at, help_at};
+ghost use Rattle.column_check.specs.WarningWords.{expected_at, help_at, is_of_object, names_of, type_help};
 
 use crate::code::WarningCode;
 use crate::crs::push_crs;
 use crate::finding::{Finding, Geometry};
 use crate::key_case::push_keys;
 use crate::layout::{layout_text, storage_help};
+use crate::meant::{crs_type_names, edges_names, extension_names, meant_or};
 use crate::numbers::push_numbers;
 use crate::old_names::is_old_name;
 use crate::reasons::{push_metadata_reasons, push_type_reason};
@@ -58,8 +59,44 @@ impl Warning {
     {
         match self.code {
             WarningCode::WrongStorage => storage_help(self.wanted, self.found.as_deref()),
-            code => code.help(),
+            WarningCode::CrsTypeContradicts => type_help(self.found.as_deref()),
+            code => meant_or(names_of(code), code.help(), self.found.as_deref()),
         }
+    }
+}
+
+/// What helps where the type of a CRS is that of another form: the type that would be right, where what
+/// is found is an object.
+fn type_help(found: Option<&str>) -> Option<&'static str>
+    ensures { text_of result ≡ type_help (text_of found.entry) }
+{
+    match found {
+        Some(found) if is_of_object(found.as_bytes()) => {
+            Some("The crs_type of an object is projjson.")
+        }
+        _ => WarningCode::CrsTypeContradicts.help(),
+    }
+}
+
+/// Whether what is found is an object.
+fn is_of_object(found: &[u8]) -> bool
+    ensures { result ≡ is_of_object found.now }
+{
+    match found {
+        [first, ..] => *first == b'{',
+        [] => false,
+    }
+}
+
+/// The names of which one is expected where a code is found, each with its question.
+fn names_of(code: WarningCode) -> &'static [(&'static str, &'static str)]
+    ensures { map (λ name. (name.0.now, name.1.now)) result.now ≡ names_of code }
+{
+    match code {
+        WarningCode::UnknownExtension => extension_names(),
+        WarningCode::UnknownCrsType => crs_type_names(),
+        WarningCode::UnknownEdges => edges_names(),
+        _ => &[],
     }
 }
 

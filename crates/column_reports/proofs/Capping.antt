@@ -1,5 +1,5 @@
 -- Findings that are counted together, and those of them that are kept.
-use Rattle.std.proofs.Common.{◌≡◌, ◌≢◌, ◌⊎◌, inl, inr, ℕ, zero, suc, min, nat_lt, ◌+◌, ◌-◌, ◌<◌, ◌≤◌, ◌||◌, ◌==◌, Bool, true, false, cond, bytes_eq, List, [], ◌∷◌, ◌++◌, Option, None, Some, append-nil, append_assoc, drop, length, unwrap_or, refl, sym, ap, ap₂, subst, ◌∙◌, arith, if◌then◌else◌, length-append, string_bytes, String, Global, codes, option_map}
+use Rattle.std.proofs.Common.{◌≡◌, ℕ, zero, suc, min, nat_lt, ◌+◌, ◌<◌, ◌≤◌, ◌||◌, ◌==◌, Bool, true, false, cond, bytes_eq, List, [], ◌∷◌, ◌++◌, Option, None, Some, append-nil, append_assoc, drop, length, unwrap_or, refl, sym, ap, ap₂, subst, ◌∙◌, arith, if◌then◌else◌, length-append, string_bytes, codes, option_map}
 use Rattle.std.specs.List.{filter, list_any}
 use Rattle.std.specs.BTreeMap.{get_by_text, UpdatesBy}
 use Rattle.std.specs.Cmp.Lexicographic.{slice_cmp}

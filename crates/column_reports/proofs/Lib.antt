@@ -1,4 +1,5 @@
 mod Adding
+mod ByColumn
 pub mod Capping
 mod Joined
 pub mod Reported

@@ -1,5 +1,5 @@
 -- What is said of a column, as one value.
-use Rattle.std.specs.Prelude.{◌≡◌, ◌&&◌, ◌++◌, Bool, true, not, List}
+use Rattle.std.specs.Prelude.{◌≡◌, ◌&&◌, ◌++◌, Bool, true, not, List, []}
 use Rattle.arrow_columns.specs.Column.{column_tree}
 use Rattle.arrow_columns.specs.Types.{ColumnTree}
 use Rattle.column_check.specs.Finding.{IsFinding}
@@ -30,9 +30,17 @@ IsFoundBy by infer c f = IsFinding infer c f
 abbrev pub infers : Bool → FactsOf → Bool
 infers infer fs = infer && not fs.covered
 
--- the report of a column of which that is known, alone or in a file that tells what is found of its claims, where types are inferred or not and that is asked of findings: the column itself, by whom it has its name,
--- what is said of it, its facts, and those of what is found of it that are told and shown, as many of one code as are kept
-pub record IsColumnReport (infer : Bool) (w : Weighing) (alone : Bool) (c : ColumnTree) (k : Known) (r : ColumnReport) : Type 0 where
+-- what the file tells of a column, before what is found of the column itself and behind it
+abbrev pub Told : Type 0
+Told = List Found × List Found
+
+-- of a column alone nothing
+abbrev pub nothing_told : Told
+nothing_told = ([], [])
+
+-- the report of a column of which that is known, and of which a file tells that, alone or in a file that tells what is found of its claims, where types are inferred or not and that is asked of findings: the column
+-- itself, by whom it has its name, what is said of it, its facts, and those of what is found of it that are told and shown, as many of one code as are kept
+pub record IsColumnReport (infer : Bool) (w : Weighing) (alone : Bool) (c : ColumnTree) (k : Known) (t : Told) (r : ColumnReport) : Type 0 where
   pub column : column_tree r.column ≡ c
   pub by : r.by ≡ k.by
   pub finding : IsFoundBy k.by (infers infer k.facts) c r.finding
@@ -43,4 +51,4 @@ pub record IsColumnReport (infer : Bool) (w : Weighing) (alone : Bool) (c : Colu
   pub are_beside : AreBeside k.beside beside
   pub claims : List Found
   pub are_claims : AreClaims alone c claims
-  pub findings : r.findings.items ≡ kept_of_column (weighed w (of_column k c warnings beside ++ claims))
+  pub findings : r.findings.items ≡ kept_of_column (weighed w (t.0 ++ of_column k c warnings beside ++ claims ++ t.1))

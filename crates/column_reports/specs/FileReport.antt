@@ -24,10 +24,11 @@ use Rattle.geoparquet.specs.declared.finding.GeoReport.{GeoReport}
 use Rattle.parquet_columns.specs.Budget.{budget}
 use Rattle.parquet_columns.specs.Layouts.{root_element}
 use Rattle.column_reports.specs.Capped.{kept_of_file}
-use Rattle.column_reports.specs.Columns.{IsColumnReport}
+use Rattle.column_reports.specs.ByColumn.{names_of}
+use Rattle.column_reports.specs.Columns.{IsColumnReport, Told}
 use Rattle.column_reports.specs.Faults.{kept_text}
 use Rattle.column_reports.specs.FindingLines.{findings_text}
-use Rattle.column_reports.specs.Gathered.{of_file}
+use Rattle.column_reports.specs.Gathered.{of_file, told_before, told_behind}
 use Rattle.column_reports.specs.Named.{Known, all_known, all_named, nobody_where}
 use Rattle.column_reports.specs.Report.{report}
 use Rattle.column_reports.specs.Summary.{IsSummary}
@@ -37,10 +38,10 @@ use Rattle.column_reports.specs.declared.file.FileReport.{FileReport}
 use Rattle.column_reports.specs.declared.report.ColumnReport.{ColumnReport}
 use Rattle.column_reports.specs.declared.report.Options.{Options}
 
--- each of the columns, of which that is known, has its report
-abbrev pub AreReported : Bool → Weighing → Bool → List (ColumnTree × Known) → List ColumnReport → Type 0
+-- each of the columns, of which that is known, and of which the file tells that, has its report
+abbrev pub AreReported : Bool → Weighing → Bool → List ((ColumnTree × Known) × Told) → List ColumnReport → Type 0
 AreReported infer w alone [] [] = ⊤
-AreReported infer w alone (x ∷ xs) (r ∷ rs) = IsColumnReport infer w alone x.0 x.1 r × AreReported infer w alone xs rs
+AreReported infer w alone (x ∷ xs) (r ∷ rs) = IsColumnReport infer w alone x.0.0 x.0.1 x.1 r × AreReported infer w alone xs rs
 AreReported infer w alone _ _ = ⊥
 
 -- lines tell nothing of a column but in its report
@@ -61,15 +62,18 @@ source_in form (Schema text) = value (string_bytes text)
 -- the report of a file that was opened, where types are inferred or not and that is asked of findings
 pub record IsReport (infer : Bool) (w : Weighing) (opened : File) (r : FileReport) : Type 0 where
   pub form : r.form ≡ opened.form
-  -- its columns by the metadata, each with its report, which has the facts of the columns that the file denotes, and tells of whoever names them
-  pub by : List ColumnTree
-  pub are_by : AreColumnsBy (source_in opened.form opened.geo) (map column_tree opened.columns.items) (map root_element opened.elements.items) by
-  pub columns : AreReported infer w (is_lines opened.form) (zip by (all_known (facts_of (source_in opened.form opened.geo) (map column_tree opened.columns.items) (map root_element opened.elements.items))
-      (nobody_where opened.refuted.items (all_named (map column_tree opened.columns.items) (map root_element opened.elements.items))))) r.columns.items
   -- what the metadata are found to be, of the columns that the file denotes
   pub geo : GeoReport
   pub is_geo : AreGeoFindings (source_in opened.form opened.geo) (map column_tree opened.columns.items) (map root_element opened.elements.items) geo.version (map finding geo.findings.items)
-  pub findings : r.findings.items ≡ kept_of_file (weighed w (of_file opened.form opened.texts.items opened.findings.items geo))
+  -- its columns by the metadata, each with its report, which has the facts of the columns that the file denotes, and tells of whoever names them, and what is found of them in the footer, in its schemas and in the
+  -- metadata
+  pub by : List ColumnTree
+  pub are_by : AreColumnsBy (source_in opened.form opened.geo) (map column_tree opened.columns.items) (map root_element opened.elements.items) by
+  pub columns : AreReported infer w (is_lines opened.form) (zip (zip by (all_known (facts_of (source_in opened.form opened.geo) (map column_tree opened.columns.items) (map root_element opened.elements.items))
+      (nobody_where opened.refuted.items (all_named (map column_tree opened.columns.items) (map root_element opened.elements.items)))))
+      (zip (told_before (names_of by) opened.findings.items) (told_behind opened.form (names_of by) opened.findings.items geo))) r.columns.items
+  -- and what is found of no column
+  pub findings : r.findings.items ≡ kept_of_file (weighed w (of_file opened.form (names_of by) opened.texts.items opened.findings.items geo))
   pub bad_lines : r.bad_lines ≡ opened.bad_lines
   pub summary : IsSummary r.columns.items r.findings.items r.bad_lines.first.items r.summary
 

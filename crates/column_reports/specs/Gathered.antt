@@ -1,6 +1,7 @@
 -- What is found by each source, one behind another.
 use Rattle.std.specs.Prelude.{◌&&◌, ◌||◌, Bool, true, false, List, [], ◌∷◌, ◌++◌, flat_map, map, if◌then◌else◌}
 use Rattle.arrow_columns.specs.Types.{ColumnTree}
+use Rattle.arrow_values.specs.Tree.{Text}
 use Rattle.std.specs.List.{list_any}
 use Rattle.column_files.specs.declared.form.Form.{Form}
 use Rattle.column_files.specs.declared.form.Form.TheVariants.{Lines}
@@ -16,9 +17,11 @@ use Rattle.geoparquet.specs.declared.code.GeoCode.TheVariants.{NoMetadata}
 use Rattle.geoparquet.specs.declared.finding.GeoFinding.{GeoFinding}
 use Rattle.geoparquet.specs.declared.finding.GeoReport.{GeoReport}
 use Rattle.geoparquet.specs.declared.finding.Version.{Version}
+use Rattle.column_reports.specs.ByColumn.{by_columns, of_no_column}
 use Rattle.column_reports.specs.Named.{Known, is_told}
 use Rattle.column_reports.specs.declared.finding.Finding.{Finding}
-use Rattle.column_reports.specs.declared.finding.Finding.TheVariants.{Column, Text, File, Geo}
+use Rattle.column_reports.specs.declared.finding.Finding.TheVariants.{Column, File, Geo}
+use Rattle.column_reports.specs.declared.finding.Finding.TheVariants as of
 use Rattle.column_reports.specs.declared.named.NamedBy.TheVariants.{Element}
 
 -- what is found of a column of which that is known, and is told of it
@@ -79,7 +82,7 @@ is_no_metadata code = false
 
 -- what is found of the texts of a footer, of its schemas and keys, and of GeoParquet metadata
 abbrev pub of_texts : List FooterFinding → List Finding
-of_texts fs = map Text fs
+of_texts fs = map of.Text fs
 
 abbrev pub of_footer : List FileFinding → List Finding
 of_footer fs = map File fs
@@ -99,6 +102,17 @@ abbrev pub geo_told : Form → Bool → GeoReport → List Finding
 geo_told Lines said report = []
 geo_told form said report = of_geo said report
 
--- all that is found of a file, beside its columns
-abbrev pub of_file : Form → List FooterFinding → List FileFinding → GeoReport → List Finding
-of_file form texts found report = of_texts texts ++ (of_footer found ++ geo_told form (list_any is_of_letters found) report)
+abbrev pub told_of_geo : Form → List FileFinding → GeoReport → List Finding
+told_of_geo form found report = geo_told form (list_any is_of_letters found) report
+
+-- what the report of each of the columns of those names tells before what is found of the column itself, and behind it
+abbrev pub told_before : List Text → List FileFinding → List (List Finding)
+told_before names found = by_columns names (of_footer found)
+
+abbrev pub told_behind : Form → List Text → List FileFinding → GeoReport → List (List Finding)
+told_behind form names found report = by_columns names (told_of_geo form found report)
+
+-- what is told of the file itself
+abbrev pub of_file : Form → List Text → List FooterFinding → List FileFinding → GeoReport → List Finding
+of_file form names texts found report =
+    of_texts texts ++ (of_no_column names (of_footer found) ++ of_no_column names (told_of_geo form found report))

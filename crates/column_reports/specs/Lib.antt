@@ -1,8 +1,10 @@
+pub mod Asked
 pub mod Codes
 pub mod Found
 pub mod Beside
 pub mod Capped
 pub mod Claims
+pub mod ByColumn
 pub mod Columns
 pub mod Objects
 pub mod FindingLines

@@ -4,6 +4,7 @@ ghost use Rattle.arrow_values.specs.Texts.{text_of};
 ghost use Rattle.column_reports.specs.Codes.{word_of, as_of_columns, severity_of, rule_of};
 ghost use Rattle.column_reports.specs.Codes.{expected_of, help_of};
 
+use crate::asked::AskedCode;
 use column_check::{Severity, WarningCode};
 use geoparquet::{GeoCode, Version};
 use parquet_columns::FileCode;
@@ -20,6 +21,8 @@ pub enum Code {
     File(FileCode),
     /// Of GeoParquet metadata (docs/FORMAT.md, 5).
     Geo(GeoCode),
+    /// Of what is asked of a file and not met (docs/FORMAT.md, 2.7).
+    Asked(AskedCode),
 }
 
 /// A severity of the footer, as those of columns are.
@@ -48,6 +51,7 @@ impl Code {
             Code::Text(code) => code.code(),
             Code::File(code) => code.code(),
             Code::Geo(code) => code.code(),
+            Code::Asked(code) => code.word(),
         }
     }
 
@@ -65,6 +69,7 @@ impl Code {
             Code::Text(code) => as_of_columns(code.severity()),
             Code::File(code) => as_of_columns(code.severity()),
             Code::Geo(code) => code.severity(),
+            Code::Asked(_) => Severity::Error,
         }
     }
 
@@ -81,6 +86,7 @@ impl Code {
             Code::Text(code) => code.rule(),
             Code::File(code) => code.rule(),
             Code::Geo(code) => code.rule(),
+            Code::Asked(code) => code.rule(),
         }
     }
 
@@ -99,6 +105,7 @@ impl Code {
             Code::Text(code) => code.expected(),
             Code::File(code) => code.expected(),
             Code::Geo(code) => code.expected(version),
+            Code::Asked(code) => code.expected(),
         }
     }
 
@@ -117,6 +124,7 @@ impl Code {
             Code::Text(code) => Some(code.help()),
             Code::File(code) => Some(code.help()),
             Code::Geo(code) => code.advice(version),
+            Code::Asked(code) => Some(code.help()),
         }
     }
 }

@@ -3,7 +3,7 @@ ghost use Rattle.std.specs.Prelude.{◌≡◌, ◌==◌, ◌||◌, IfOk, is_some
 ghost use Rattle.std.specs.List.{list_any, zip};
 ghost use Rattle.arrow_values.specs.Texts.{text_of};
 ghost use Rattle.arrow_columns.specs.Column.{column_tree};
-ghost use Rattle.column_check.specs.States.{is_invalid, geometry_in};
+ghost use Rattle.column_check.specs.States.{geometry_in};
 ghost use Rattle.geoparquet.specs.Facts.{facts_view};
 ghost use Rattle.column_reports.specs.Named.{all_known, named_view};
 ghost use Rattle.column_reports.specs.FileReport.{AreReported, is_lines, IsReport, Reports};
@@ -11,7 +11,8 @@ ghost use Rattle.column_reports.specs.Summary.{has_error};
 ghost use Rattle.column_reports.specs.Weights.{plain, weighing};
 
 use crate::capped::kept_of_file;
-use crate::gathered::of_file;
+use crate::finding::Finding;
+use crate::gathered::{FileTold, told_of_file};
 use crate::geo::source_of;
 use crate::lines::json_lines;
 use crate::named::{Named, named_in};
@@ -21,7 +22,7 @@ use crate::weighed::{Weighed, weigh};
 use crate::weights::Weights;
 use arrow_columns::SchemaColumn;
 use column_files::{BadLine, BadLines, File, FileFault, Form, open};
-use geoparquet::{ColumnFacts, inspect_geo};
+use geoparquet::{ColumnFacts, GeoAnswer, inspect_geo};
 use json::Scratch;
 use parquet_columns::report_budget;
 use std::alloc::{AllocError, Global};
@@ -33,9 +34,9 @@ pub struct FileReport<'a> {
     pub form: Form,
     /// Its columns, by its GeoParquet metadata (docs/FORMAT.md, 5.2), each with what is said of it.
     pub columns: Vec<ColumnReport>,
-    /// What is found of the file and shown: of the texts of its footer (docs/FORMAT.md, 4.3), then of its
-    /// schemas and keys (4.5), then of its GeoParquet metadata (5). Of one code at most a hundred, and
-    /// sixteen that name one column.
+    /// What is found of the file, of none of its columns, and shown: of the texts of its footer
+    /// (docs/FORMAT.md, 4.3), then of its schemas and keys (4.5), then of its GeoParquet metadata (5).
+    /// Of one code at most a hundred, and sixteen that name one column that is not there.
     pub findings: Vec<Weighed<'a>>,
     /// Of lines, those that are not blank and denote no column (docs/FORMAT.md, 2.7).
     pub bad_lines: BadLines,
@@ -53,7 +54,7 @@ pub struct FileReport<'a> {
 /// let Ok(opened) = open(alloc, bytes) else { return Ok(()); };
 /// let report = report_of(alloc, opened, Options { infer: false, notes: false })?;
 /// assert_eq!(rt; report.columns.len(), 1);
-/// assert!(rt; !report.summary.has_invalid);
+/// assert!(rt; !report.summary.has_failed);
 /// ```
 pub fn report_of<'a>(
     alloc: Global,
@@ -91,12 +92,26 @@ pub fn weighed_report<'a>(
     let flags = refuted.as_slice();
     let named = named_in(alloc, columns.as_slice(), elements.as_slice(), flags)?;
     let answer = inspect_geo(alloc, source, columns, elements.as_slice())?;
-    let found = of_file(alloc, form, texts, findings, answer.report)?;
-    let shown = weigh(alloc, weights, found)?;
+    let GeoAnswer {
+        report,
+        facts,
+        columns,
+    } = answer;
+    let FileTold {
+        before,
+        behind,
+        of_file,
+    } = told_of_file(alloc, form, columns.as_slice(), texts, findings, report)?;
+    let shown = weigh(alloc, weights, of_file)?;
     let findings = kept_of_file(alloc, shown)?;
-    let alone = is_lines(form);
-    let (columns, facts) = (answer.columns, answer.facts);
-    let columns = report_columns(alloc, columns, facts, named, alone, infer, weights)?;
+    let about = Abouts {
+        facts,
+        named,
+        before,
+        behind,
+        alone: is_lines(form),
+    };
+    let columns = report_columns(alloc, columns, about, infer, weights)?;
     let bad = bad_lines.first.as_slice();
     let summary = summary_of(columns.as_slice(), findings.as_slice(), bad);
     Ok(FileReport {
@@ -115,27 +130,50 @@ fn is_lines(form: Form) -> bool
     matches!(form, Form::Lines)
 }
 
-/// Returns the reports of columns of those facts, which have their extension names by those, in order,
-/// each alone or in a file that tells what is found of its claims.
-/// Errs only when out of memory.
+/// What is known of columns beside themselves, each in order.
+#[derive(Drop)]
+struct Abouts<'e> {
+    /// Their facts.
+    facts: Vec<ColumnFacts>,
+    /// Who gives each its extension name, and what its element says beside that.
+    named: Vec<Named<'e>>,
+    /// What the report of each tells before what is found of the column itself.
+    before: Vec<Vec<Finding<'static>>>,
+    /// What it tells behind that.
+    behind: Vec<Vec<Finding<'static>>>,
+    /// Whether their reports tell what is found of their claims.
+    alone: bool,
+}
+
+/// Returns the reports of columns of which that is known, in order. Errs only when out of memory.
 fn report_columns(
     alloc: Global,
     columns: Vec<SchemaColumn>,
-    facts: Vec<ColumnFacts>,
-    named: Vec<Named<'_>>,
-    alone: bool,
+    about: Abouts<'_>,
     infer: bool,
     weights: &Weights,
 ) -> Result<Vec<ColumnReport>, AllocError>
-    ensures { IfOk result (λ reported. AreReported infer (weighing weights.now) alone (zip (map column_tree columns.items) (all_known (map facts_view facts.items) (map named_view named.entry.items))) reported.items) }
+    ensures { IfOk result (λ reported. AreReported infer (weighing weights.now) about.entry.alone (zip (zip (map column_tree columns.items) (all_known (map facts_view about.entry.facts.items) (map named_view about.entry.named.items)))
+        (zip (map (λ own. own.items) about.entry.before.items) (map (λ own. own.items) about.entry.behind.items))) reported.items) }
 {
+    let Abouts {
+        facts,
+        named,
+        before,
+        behind,
+        alone,
+    } = about;
     let mut scratch = Scratch::new(alloc);
     let mut reported = Vec::new(alloc);
     let known = facts.into_iter().zip(named.into_iter());
-    for (column, (facts, named)) in columns.into_iter().zip(known) {
+    let told = before.into_iter().zip(behind.into_iter());
+    let known = columns.into_iter().zip(known);
+    for ((column, (facts, named)), (before, behind)) in known.zip(told) {
         let about = Known {
             facts,
             named,
+            before,
+            behind,
             alone,
         };
         let said = column_with(alloc, &mut scratch, column, about, infer, weights)?;
@@ -146,24 +184,15 @@ fn report_columns(
 
 /// Returns what counts of columns, of what is found of a file, and of its bad lines.
 fn summary_of(columns: &[ColumnReport], findings: &[Weighed<'_>], bad: &[BadLine]) -> Summary
-    ensures invalid { result.has_invalid ≡ list_any (λ r. is_invalid r.finding) columns.now }
     ensures geometry { result.has_geometry ≡ list_any (λ r. is_some (geometry_in r.finding)) columns.now }
     ensures failed { result.has_failed ≡ (list_any (λ r. has_error r.findings.items) columns.now || has_error findings.now) }
     ensures bad { result.has_bad_lines ≡ not (length bad.now == 0) }
 {
     Summary {
-        has_invalid: is_one_invalid(columns),
         has_geometry: is_one_geometry(columns),
         has_failed: is_one_failed(columns) | has_error(findings),
         has_bad_lines: !bad.is_empty(),
     }
-}
-
-/// Whether one of some columns is invalid.
-fn is_one_invalid(columns: &[ColumnReport]) -> bool
-    ensures { result ≡ list_any (λ r. is_invalid r.finding) columns.now }
-{
-    columns.iter().any(|said| said.finding.is_invalid())
 }
 
 /// Whether one of some columns holds geometries, or is taken for some.

@@ -4,6 +4,7 @@ ghost use Rattle.arrow_values.specs.Texts.{text_of};
 ghost use Rattle.column_reports.specs.Found.{code_in, column_in, path_in};
 ghost use Rattle.column_reports.specs.Found.{column_part, own_pointer, geo_part, geo_pointer, part_in, pointer_in, byte_in, more_in};
 
+use crate::asked::AskedFinding;
 use crate::code::Code;
 use crate::named::NamedBy;
 use column_check::Warning;
@@ -24,6 +25,8 @@ pub enum Finding<'a> {
     /// What is found in GeoParquet metadata, and the version by which they are judged
     /// (docs/FORMAT.md, 5).
     Geo(Version, GeoFinding),
+    /// What is asked of the file and not met (docs/FORMAT.md, 2.7).
+    Asked(AskedFinding),
 }
 
 impl<'a> Finding<'a> {
@@ -36,6 +39,7 @@ impl<'a> Finding<'a> {
             Finding::Text(finding) => Code::Text(finding.code),
             Finding::File(finding) => Code::File(finding.code),
             Finding::Geo(_, finding) => Code::Geo(finding.code),
+            Finding::Asked(finding) => Code::Asked(finding.code),
         }
     }
 
@@ -48,6 +52,7 @@ impl<'a> Finding<'a> {
             Finding::Column(_, _) | Finding::Text(_) => None,
             Finding::File(finding) => finding.column.as_deref(),
             Finding::Geo(_, finding) => finding.column.as_deref(),
+            Finding::Asked(finding) => finding.column.as_deref(),
         }
     }
 
@@ -59,12 +64,12 @@ impl<'a> Finding<'a> {
         match self {
             Finding::Column(_, warning) => warning.path.as_slice(),
             Finding::File(finding) => finding.path.as_slice(),
-            Finding::Text(_) | Finding::Geo(_, _) => &[],
+            Finding::Text(_) | Finding::Geo(_, _) | Finding::Asked(_) => &[],
         }
     }
 
     /// Returns the part of the file or of the column, as reports have it: `footer`, `ARROW:schema`,
-    /// `field`, `extension metadata`, `elements` or `geo`, and what else `FilePart::text` of
+    /// `field`, `extension metadata`, `elements`, `geo` or `arguments`, and what else `FilePart::text` of
     /// `parquet_columns` returns.
     pub fn part(&self) -> Option<&'static str>
         ensures { text_of result ≡ part_in self.now }
@@ -74,6 +79,7 @@ impl<'a> Finding<'a> {
             Finding::Text(finding) => Some(finding.code.part()),
             Finding::File(finding) => Some(finding.place.part.text()),
             Finding::Geo(_, finding) => Some(geo_part(finding.source, finding.code)),
+            Finding::Asked(finding) => Some(finding.code.part()),
         }
     }
 
@@ -84,7 +90,7 @@ impl<'a> Finding<'a> {
     {
         match self {
             Finding::Column(_, warning) => warning.pointer.as_deref(),
-            Finding::Text(_) | Finding::File(_) => None,
+            Finding::Text(_) | Finding::File(_) | Finding::Asked(_) => None,
             Finding::Geo(_, finding) => {
                 geo_pointer(finding.source, finding.code, finding.pointer.as_str())
             }
@@ -98,7 +104,7 @@ impl<'a> Finding<'a> {
         match self {
             Finding::Text(finding) => Some(finding.text.byte as u64),
             Finding::File(finding) => wide(finding.place.byte),
-            Finding::Column(_, _) | Finding::Geo(_, _) => None,
+            Finding::Column(_, _) | Finding::Geo(_, _) | Finding::Asked(_) => None,
         }
     }
 
@@ -109,7 +115,7 @@ impl<'a> Finding<'a> {
         match self {
             Finding::Column(_, warning) => warning.more,
             Finding::Geo(_, finding) => finding.more,
-            Finding::Text(_) | Finding::File(_) => 0,
+            Finding::Text(_) | Finding::File(_) | Finding::Asked(_) => 0,
         }
     }
 }

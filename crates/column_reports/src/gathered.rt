@@ -1,11 +1,14 @@
 //! What is found by each source, one behind another.
-ghost use Rattle.std.specs.Prelude.{◌≡◌, ◌++◌, IfOk, OnOk, flat_map};
+ghost use Rattle.std.specs.Prelude.{◌≡◌, ◌++◌, IfOk, OnOk, flat_map, map};
 ghost use Rattle.std.specs.List.{list_any};
 ghost use Rattle.arrow_columns.specs.Column.{column_tree};
 ghost use Rattle.geoparquet.specs.Facts.{facts_view};
 ghost use Rattle.column_reports.specs.Named.{is_told, is_told_beside_geo, known, named_view};
-ghost use Rattle.column_reports.specs.Gathered.{if_told, if_before, if_empty, if_behind, if_malformed, if_empty_beside, is_empty, is_behind, of_column, of_texts, of_footer, is_of_letters, if_first, of_geo, geo_told, of_file};
+ghost use Rattle.column_reports.specs.ByColumn.{names_of};
+ghost use Rattle.column_reports.specs.Gathered.{if_told, if_before, if_empty, if_behind, if_malformed, if_empty_beside, is_empty, is_behind, of_column};
+ghost use Rattle.column_reports.specs.Gathered.{of_texts, of_footer, is_of_letters, if_first, of_geo, geo_told, told_before, told_behind, of_file};
 
+use crate::by_column::by_columns;
 use crate::finding::Finding;
 use crate::named::{Named, NamedBy};
 use arrow_columns::SchemaColumn;
@@ -154,8 +157,8 @@ fn is_behind(code: WarningCode) -> bool
 }
 
 /// Adds findings behind others.
-fn add_behind(
-    all: &mut Vec<Finding<'static>>,
+fn add_behind<'a>(
+    all: &mut Vec<Finding<'a>>,
     behind: Vec<Finding<'static>>,
 ) -> Result<(), AllocError>
     ensures { OnOk result (all.new.items ≡ all.old.items ++ behind.entry.items) }
@@ -189,39 +192,59 @@ fn is_told(named: Named<'_>, facts: &ColumnFacts, column: &SchemaColumn, warning
     }
 }
 
-/// Returns what is found of a file of that format beside its columns: of the texts of its footer, of
-/// its schemas and keys, and, but of lines, of its GeoParquet metadata. Errs only when out of memory.
-pub(crate) fn of_file<'a>(
+/// What is told of a file: by its columns, and of itself.
+#[derive(Drop)]
+pub(crate) struct FileTold<'a> {
+    /// What the report of each column tells before what is found of the column itself.
+    pub(crate) before: Vec<Vec<Finding<'static>>>,
+    /// What it tells behind that.
+    pub(crate) behind: Vec<Vec<Finding<'static>>>,
+    /// What is told of the file itself.
+    pub(crate) of_file: Vec<Finding<'a>>,
+}
+
+/// Returns what is told of a file of that format and these columns: of its schemas and keys and, but
+/// of lines, of its GeoParquet metadata by the columns that it names; and of the file, of the texts of
+/// its footer, too, what names none. Errs only when out of memory.
+pub(crate) fn told_of_file<'a>(
     alloc: Global,
     form: Form,
+    columns: &[SchemaColumn],
     texts: Vec<FooterFinding<'a>>,
     found: Vec<FileFinding>,
     report: GeoReport,
-) -> Result<Vec<Finding<'a>>, AllocError>
-    ensures { IfOk result (λ all. all.items ≡ of_file form texts.entry.items found.items report) }
+) -> Result<FileTold<'a>, AllocError>
+    ensures before { IfOk result (λ told. map (λ own. own.items) told.before.items ≡ told_before (names_of (map column_tree columns.now)) found.items) }
+    ensures behind { IfOk result (λ told. map (λ own. own.items) told.behind.items ≡ told_behind form (names_of (map column_tree columns.now)) found.items report) }
+    ensures file { IfOk result (λ told. told.of_file.items ≡ of_file form (names_of (map column_tree columns.now)) texts.entry.items found.items report) }
 {
-    let mut all = of_texts(alloc, texts.as_slice())?;
     let said = has_letters(found.as_slice());
-    add_footer(&mut all, found)?;
-    add_geo_of(&mut all, form, said, report)?;
-    Ok(all)
+    let footer = of_footer(alloc, found)?;
+    let geo = geo_told(alloc, form, said, report)?;
+    let footer = by_columns(alloc, columns, footer)?;
+    let geo = by_columns(alloc, columns, geo)?;
+    let mut of_file = of_texts(alloc, texts.as_slice())?;
+    add_behind(&mut of_file, footer.others)?;
+    add_behind(&mut of_file, geo.others)?;
+    Ok(FileTold {
+        before: footer.of_columns,
+        behind: geo.of_columns,
+        of_file,
+    })
 }
 
-/// Adds what is found in GeoParquet metadata, and against them; of lines nothing.
-fn add_geo_of<'a>(
-    all: &mut Vec<Finding<'a>>,
+/// What is found in GeoParquet metadata, and against them; of lines nothing.
+fn geo_told(
+    alloc: Global,
     form: Form,
     said: bool,
     report: GeoReport,
-) -> Result<(), AllocError>
-    ensures { OnOk result (all.new.items ≡ all.old.items ++ geo_told form said report) }
+) -> Result<Vec<Finding<'static>>, AllocError>
+    ensures { IfOk result (λ all. all.items ≡ geo_told form said report) }
 {
     match form {
-        Form::Lines => {
-            drop(report);
-            Ok(())
-        }
-        _ => add_geo(all, said, report),
+        Form::Lines => Ok(Vec::new(alloc)),
+        _ => of_geo(alloc, said, report),
     }
 }
 
@@ -236,14 +259,15 @@ fn of_texts<'a>(alloc: Global, texts: &[FooterFinding<'a>]) -> Result<Vec<Findin
     Ok(all)
 }
 
-/// Adds what is found of schemas and keys.
-fn add_footer<'a>(all: &mut Vec<Finding<'a>>, found: Vec<FileFinding>) -> Result<(), AllocError>
-    ensures { OnOk result (all.new.items ≡ all.old.items ++ of_footer found.items) }
+/// What is found of schemas and keys.
+fn of_footer(alloc: Global, found: Vec<FileFinding>) -> Result<Vec<Finding<'static>>, AllocError>
+    ensures { IfOk result (λ all. all.items ≡ of_footer found.items) }
 {
+    let mut all = Vec::new(alloc);
     for finding in found {
         all.push(Finding::File(finding))?;
     }
-    Ok(())
+    Ok(all)
 }
 
 /// Whether a finding is of a key that is `geo` but for its letters.
@@ -260,20 +284,21 @@ fn has_letters(found: &[FileFinding]) -> bool
     found.iter().any(|finding| is_of_letters(finding))
 }
 
-/// Adds what is found of GeoParquet metadata, but that they are missing, where that is said.
-fn add_geo<'a>(all: &mut Vec<Finding<'a>>, said: bool, report: GeoReport) -> Result<(), AllocError>
-    ensures { OnOk result (all.new.items ≡ all.old.items ++ of_geo said report) }
+/// What is found of GeoParquet metadata, but that they are missing, where that is said.
+fn of_geo(alloc: Global, said: bool, report: GeoReport) -> Result<Vec<Finding<'static>>, AllocError>
+    ensures { IfOk result (λ all. all.items ≡ of_geo said report) }
 {
     let GeoReport { version, findings } = report;
+    let mut all = Vec::new(alloc);
     for finding in findings {
-        add_first(all, said, version, finding)?;
+        add_first(&mut all, said, version, finding)?;
     }
-    Ok(())
+    Ok(all)
 }
 
 /// Adds a finding, but that metadata are missing, where that is said.
-fn add_first<'a>(
-    all: &mut Vec<Finding<'a>>,
+fn add_first(
+    all: &mut Vec<Finding<'static>>,
     said: bool,
     version: Version,
     finding: GeoFinding,

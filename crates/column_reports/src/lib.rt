@@ -7,8 +7,10 @@
 //! [`Weights`] say which findings are shown, and how much each counts.
 #![tactic(auto)]
 
+mod asked;
 mod bad_lines;
 mod beside;
+mod by_column;
 mod bytes;
 mod capped;
 mod claims;
@@ -33,6 +35,7 @@ mod weighed;
 mod weights;
 mod words;
 
+pub use asked::{AskedCode, AskedFinding};
 pub use bad_lines::bad_line_lines;
 pub use capped::{all_findings_count, few_findings_stay};
 pub use code::Code;

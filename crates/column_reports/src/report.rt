@@ -1,15 +1,16 @@
 //! What is said of a column, as one value.
-ghost use Rattle.std.specs.Prelude.{IfOk, true};
+ghost use Rattle.std.specs.Prelude.{◌≡◌, ◌++◌, IfOk, true};
 ghost use Rattle.arrow_columns.specs.Column.{column_tree};
 ghost use Rattle.geoparquet.specs.Facts.{facts_view};
 ghost use Rattle.column_reports.specs.Claims.{AreClaims};
-ghost use Rattle.column_reports.specs.Columns.{IsFoundBy, IsColumnReport};
+ghost use Rattle.column_reports.specs.Columns.{IsFoundBy, IsColumnReport, nothing_told};
 ghost use Rattle.column_reports.specs.Named.{known, known_alone, named_view};
 ghost use Rattle.column_reports.specs.Weights.{plain, weighing};
 
 use crate::beside::warnings_beside;
 use crate::capped::kept_of_column;
 use crate::claims::{Claimed, claims_of};
+use crate::finding::Finding as Found;
 use crate::gathered::of_column;
 use crate::named::{Named, NamedBy};
 use crate::weighed::{Weighed, weigh};
@@ -42,10 +43,11 @@ pub struct ColumnReport {
     pub finding: column_check::Finding,
     /// What counts of its CRS, its edges and its encoding, and which source says it.
     pub facts: ColumnFacts,
-    /// What is found of it and shown: of why it is invalid and of what is doubtful, as `warnings` of
-    /// `column_check` answers it; and that the CRS that its element says beside it is no PROJJSON.
-    /// Of a column of lines what is found of its claims, too (docs/FORMAT.md, 5). Of one code at most
-    /// sixteen.
+    /// What is found of it and shown: first what its file finds of it in its footer and its schemas
+    /// (docs/FORMAT.md, 4.5); then of why it is invalid and of what is doubtful, as `warnings` of
+    /// `column_check` answers it, and that the CRS that its element says beside it is no PROJJSON; then
+    /// what is found of it in GeoParquet metadata and against them, or of a column of lines of its
+    /// claims (docs/FORMAT.md, 5). Of one code at most sixteen.
     pub findings: Vec<Weighed<'static>>,
 }
 
@@ -71,7 +73,7 @@ pub fn report_column(
     column: SchemaColumn,
     options: Options,
 ) -> Result<ColumnReport, AllocError>
-    ensures { IfOk result (IsColumnReport options.infer (plain options.notes) true (column_tree column) (known_alone (column_tree column))) }
+    ensures { IfOk result (IsColumnReport options.infer (plain options.notes) true (column_tree column) (known_alone (column_tree column)) nothing_told) }
 {
     let weights = Weights::new(alloc, options.notes);
     weighed_column(alloc, scratch, column, options.infer, &weights)
@@ -87,7 +89,7 @@ pub fn weighed_column(
     infer: bool,
     weights: &Weights,
 ) -> Result<ColumnReport, AllocError>
-    ensures { IfOk result (IsColumnReport infer (weighing weights.now) true (column_tree column) (known_alone (column_tree column))) }
+    ensures { IfOk result (IsColumnReport infer (weighing weights.now) true (column_tree column) (known_alone (column_tree column)) nothing_told) }
 {
     let facts = field_facts(alloc, &column)?;
     let named = Named {
@@ -97,6 +99,8 @@ pub fn weighed_column(
     let about = Known {
         facts,
         named,
+        before: Vec::new(alloc),
+        behind: Vec::new(alloc),
         alone: true,
     };
     column_with(alloc, scratch, column, about, infer, weights)
@@ -109,6 +113,10 @@ pub(crate) struct Known<'e> {
     pub(crate) facts: ColumnFacts,
     /// Who gives it its extension name, and what its element says beside that.
     pub(crate) named: Named<'e>,
+    /// What its report tells before what is found of the column itself.
+    pub(crate) before: Vec<Found<'static>>,
+    /// What it tells behind that.
+    pub(crate) behind: Vec<Found<'static>>,
     /// Whether its report tells what is found of its claims, as no file does.
     pub(crate) alone: bool,
 }
@@ -123,14 +131,15 @@ pub(crate) fn column_with(
     infer: bool,
     weights: &Weights,
 ) -> Result<ColumnReport, AllocError>
-    ensures { IfOk result (IsColumnReport infer (weighing weights.now) about.entry.alone (column_tree column) (known (facts_view about.entry.facts, named_view about.entry.named))) }
+    ensures { IfOk result (IsColumnReport infer (weighing weights.now) about.entry.alone (column_tree column) (known (facts_view about.entry.facts, named_view about.entry.named)) (about.entry.before.items, about.entry.behind.items)) }
 {
     let claimed = claims_of(alloc, about.alone, column)?;
     claimed_column(alloc, scratch, claimed, about, infer, weights)
 }
 
 /// Returns a column of which that is known with what is said of it and what is found of it, behind
-/// which stands what is found of its claims. Errs only when out of memory.
+/// which stand what is found of its claims and what its file tells behind it. Errs only when out of
+/// memory.
 fn claimed_column(
     alloc: Global,
     scratch: &mut Scratch,
@@ -140,17 +149,22 @@ fn claimed_column(
     weights: &Weights,
 ) -> Result<ColumnReport, AllocError>
     ensures { AreClaims about.entry.alone (column_tree claimed.column) claimed.findings.items
-        → IfOk result (IsColumnReport infer (weighing weights.now) about.entry.alone (column_tree claimed.column) (known (facts_view about.entry.facts, named_view about.entry.named))) }
+        → IfOk result (IsColumnReport infer (weighing weights.now) about.entry.alone (column_tree claimed.column) (known (facts_view about.entry.facts, named_view about.entry.named)) (about.entry.before.items, about.entry.behind.items)) }
 {
     let Claimed { column, findings } = claimed;
-    let Known { facts, named, .. } = about;
+    let Known {
+        facts,
+        named,
+        before,
+        behind,
+        ..
+    } = about;
     let inferred = infer && !facts.covered;
     let finding = said_of(alloc, scratch, &column, named.by, inferred)?;
     let own = warnings(alloc, &column, &finding, true)?;
     let beside = warnings_beside(alloc, scratch, named.beside)?;
-    let mut told = of_column(alloc, named, &facts, &column, own, beside)?;
-    let mut claims = findings;
-    told.append(&mut claims)?;
+    let told = of_column(alloc, named, &facts, &column, own, beside)?;
+    let told = in_order(before, told, findings, behind)?;
     let shown = weigh(alloc, weights, told)?;
     let findings = kept_of_column(alloc, shown)?;
     Ok(ColumnReport {
@@ -160,6 +174,22 @@ fn claimed_column(
         facts,
         findings,
     })
+}
+
+/// Returns findings of four sorts, one sort behind another. Errs only when out of memory.
+fn in_order(
+    before: Vec<Found<'static>>,
+    own: Vec<Found<'static>>,
+    claims: Vec<Found<'static>>,
+    behind: Vec<Found<'static>>,
+) -> Result<Vec<Found<'static>>, AllocError>
+    ensures { IfOk result (λ all. all.items ≡ before.entry.items ++ own.entry.items ++ claims.entry.items ++ behind.entry.items) }
+{
+    let (mut all, mut own, mut claims, mut behind) = (before, own, claims, behind);
+    claims.append(&mut behind)?;
+    own.append(&mut claims)?;
+    all.append(&mut own)?;
+    Ok(all)
 }
 
 /// Returns what is said of a column which has its extension name by that: one that is not read is

@@ -26,6 +26,7 @@ impl<'a> Finding<'a> {
             Finding::Text(finding) => Ok(Some(bytes_shown(alloc, finding.text.bytes)?)),
             Finding::File(finding) => copied(alloc, finding.found.as_deref()),
             Finding::Geo(_, finding) => copied(alloc, finding.found.as_deref()),
+            Finding::Asked(finding) => copied(alloc, finding.found.as_deref()),
         }
     }
 
@@ -42,6 +43,7 @@ impl<'a> Finding<'a> {
                 bracketed(alloc, finding.code.expected(), finding.wanted.as_deref())
             }
             Finding::Geo(version, finding) => finding.expected(alloc, *version),
+            Finding::Asked(finding) => String::from_str(alloc, finding.expected.as_str()),
         }
     }
 
@@ -54,6 +56,7 @@ impl<'a> Finding<'a> {
             Finding::Text(finding) => copied(alloc, Some(finding.code.help())),
             Finding::File(finding) => copied(alloc, Some(finding.code.help())),
             Finding::Geo(version, finding) => finding.help(alloc, *version),
+            Finding::Asked(finding) => copied(alloc, finding.help.as_deref()),
         }
     }
 }

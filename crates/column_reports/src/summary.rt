@@ -1,6 +1,6 @@
 //! What counts of a file for its status.
 ghost use Rattle.std.specs.Prelude.{◌≡◌, ◌||◌, false, is_some};
-ghost use Rattle.column_check.specs.States.{is_invalid, geometry_in};
+ghost use Rattle.column_check.specs.States.{geometry_in};
 ghost use Rattle.column_reports.specs.Summary.{has_error, status};
 
 use crate::report::ColumnReport;
@@ -11,8 +11,6 @@ use column_check::Finding;
 /// its bad lines.
 #[derive(Debug, Clone, Copy)]
 pub struct Summary {
-    /// Whether a column is invalid.
-    pub has_invalid: bool,
     /// Whether a column holds geometries, or is taken for some: its state is `geometry` or `inferred`.
     pub has_geometry: bool,
     /// Whether a finding, of a column or of the file, counts as an error.
@@ -24,13 +22,11 @@ pub struct Summary {
 impl Summary {
     /// Returns that of no column and no finding.
     pub fn new() -> Summary
-        ensures invalid { result.has_invalid ≡ false }
         ensures geometry { result.has_geometry ≡ false }
         ensures failed { result.has_failed ≡ false }
         ensures bad { result.has_bad_lines ≡ false }
     {
         Summary {
-            has_invalid: false,
             has_geometry: false,
             has_failed: false,
             has_bad_lines: false,
@@ -39,19 +35,17 @@ impl Summary {
 
     /// Adds what is said of one more column, and what is found of it.
     pub fn add(&mut self, said: &ColumnReport)
-        ensures invalid { self.new.has_invalid ≡ (self.old.has_invalid || is_invalid said.now.finding) }
         ensures geometry { self.new.has_geometry ≡ (self.old.has_geometry || is_some (geometry_in said.now.finding)) }
         ensures failed { self.new.has_failed ≡ (self.old.has_failed || has_error said.now.findings.items) }
         ensures bad { self.new.has_bad_lines ≡ self.old.has_bad_lines }
     {
-        self.has_invalid = self.has_invalid | said.finding.is_invalid();
         self.has_geometry = self.has_geometry | holds_geometries(&said.finding);
         self.has_failed = self.has_failed | has_error(said.findings.as_slice());
     }
 
     /// Returns the status of a file that is reported to its end (`docs/FORMAT.md`, 2.7): 2 where a
-    /// line is bad; otherwise 1 where a column is invalid, where a finding counts as an error, or where
-    /// what is asked of the file is not met, and else 0.
+    /// line is bad; otherwise 1 where a finding counts as an error, as each that says why a column is
+    /// invalid unless it is allowed, or where what is asked of the file is not met, and else 0.
     ///
     /// ```rust
     /// let summary = Summary::new();
@@ -67,7 +61,7 @@ impl Summary {
     {
         if self.has_bad_lines {
             2
-        } else if self.has_invalid || self.has_failed || is_unmet {
+        } else if self.has_failed || is_unmet {
             1
         } else {
             0

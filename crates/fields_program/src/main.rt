@@ -1,17 +1,11 @@
-//! The program: reads lines on standard input, and writes the answer to each on standard output.
+//! The program: [`geoarrow_fields::answer_all`] over standard input and output.
 #![tactic(auto)]
 
-use geoarrow_fields::{RunEnd, serve, status_of};
+use geoarrow_fields::{answer_all, exit_status};
 use std::alloc::AllocError;
 use std::env;
-use std::io::{BufWriter, ErrorKind, Write};
+use std::io::{ErrorKind, Write};
 use std::process::ExitCode;
-
-/// What is written if the arguments are not exactly one word that names a command.
-const USAGE: &[u8] = b"usage: geoarrow_fields read|infer|canon|columns\n";
-
-/// The size of the write buffer, in bytes.
-const BUFFER_BYTES: usize = 65_536;
 
 /// The words after the program's name; no words if one of them is not UTF-8.
 fn words_of(rt: &HostRuntime) -> Result<Vec<String>, AllocError> {
@@ -28,30 +22,18 @@ fn words_of(rt: &HostRuntime) -> Result<Vec<String>, AllocError> {
     Ok(found)
 }
 
-/// Serves the command that the arguments name, if any, on standard input and output, and returns how it ended.
-fn end_of(rt: &HostRuntime) -> Result<Option<RunEnd>, AllocError> {
-    let words = words_of(rt)?;
-    let mut reader = rt.stdin();
-    let Ok(mut writer) = BufWriter::with_capacity(rt.alloc(), BUFFER_BYTES, rt.stdout()) else {
-        return Err(AllocError);
-    };
-    let end = serve(rt.alloc(), words.as_slice(), &mut reader, &mut writer);
-    // What a failed write left in the buffer is not tried again.
-    let _unwritten = writer.into_parts();
-    Ok(end)
-}
-
 fn main(rt: HostRuntime) -> ExitCode {
-    match end_of(&rt) {
-        Ok(end) => {
-            if end.is_none() {
-                let _ = rt.stderr().write_all(USAGE);
-            }
-            ExitCode::from(status_of(end))
-        }
-        Err(AllocError) => {
-            let _ = rt.stdout().write_all(b"error memory\n");
-            ExitCode::from(1)
-        }
-    }
+    let (mut input, mut output, mut errors) = (rt.stdin(), rt.stdout(), rt.stderr());
+    let Ok(words) = words_of(&rt) else {
+        let _ = output.write_all(b"error memory\n");
+        return ExitCode::from(1);
+    };
+    let end = answer_all(
+        rt.alloc(),
+        words.as_slice(),
+        &mut input,
+        &mut output,
+        &mut errors,
+    );
+    ExitCode::from(exit_status(end))
 }

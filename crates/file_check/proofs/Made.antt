@@ -23,7 +23,7 @@ module _ (asked : Asked) (file : Text) where
 
   -- it is printed
   pub reported : {E : Type 0} (form : Form) (start : ℕ) (end : List ℕ) (old new : Option (List ℕ)) (made : Made) (r : Result ℕ E) → MakesOfEnd asked file form start end (Ok made)
-      → IfOk r (Prints (output_of asked.flags) asked made old new) → IfOk r (IsAnswered asked file form start end old new)
+      → IfOk r (Prints (output_of asked.flags) asked file made old new) → IfOk r (IsAnswered asked file form start end old new)
   reported form start end old new made (Ok status) is prints = inl (record { made = made; is = is; prints = prints })
   reported form start end old new made (Err error) is prints = prints
 

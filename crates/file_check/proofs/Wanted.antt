@@ -12,10 +12,10 @@ module _ (name want : Text) where
   -- one more column
   pub found_more : (rs : List ColumnReport) (r : ColumnReport) (old new : Found) → IsFoundIn name want rs old → IsFound name want r old new
       → IsFoundIn name want (rs ++ r ∷ []) new
-  found_more rs r NoColumn new none (inl (other, is)) =
-      subst (IsFoundIn name want (rs ++ r ∷ [])) (sym is) (All-push (λ (t : ColumnReport). string_bytes t.column.name ≡ name → ⊥) rs r none other)
-  found_more rs r NoColumn NoColumn none (inr (same, looked)) = absurd looked
-  found_more rs r NoColumn (Looked said) none (inr (same, looked)) =
+  found_more rs r (NoColumn near) (NoColumn other_near) none (inl (other, is)) = All-push (λ (t : ColumnReport). string_bytes t.column.name ≡ name → ⊥) rs r none other
+  found_more rs r (NoColumn near) (Looked said) none (inl (other, is)) = absurd (cc)
+  found_more rs r (NoColumn near) (NoColumn other_near) none (inr (same, looked)) = absurd looked
+  found_more rs r (NoColumn near) (Looked said) none (inr (same, looked)) =
       (r, record { before = rs; rest = []; are = refl; others = none; name_is = same }, looked)
   found_more rs r (Looked said) new (first, is, looked) same =
       let more : IsFirstNamed name (rs ++ r ∷ []) first = record {

@@ -5,6 +5,7 @@ pub mod Shown
 pub mod Findings
 pub mod Names
 pub mod Wants
+pub mod Unmet
 pub mod Counted
 pub mod Made
 pub mod Printed

@@ -1,5 +1,5 @@
 -- What is printed of a file, and the status.
-use Rattle.std.specs.Prelude.{◌≡◌, ◌⊎◌, ◌++◌, ℕ, ⊤, List, Option, None, Ok, Err, codes, string_bytes}
+use Rattle.std.specs.Prelude.{◌≡◌, ◌⊎◌, ◌++◌, ℕ, ⊤, List, Option, None, Ok, Err, codes, map, string_bytes}
 use Rattle.std.specs.Io.KnownBytes.{Appends}
 use Rattle.arrow_values.specs.Tree.{Text}
 use Rattle.column_files.specs.Forms.{IsForm, head_bytes}
@@ -14,13 +14,16 @@ use Rattle.column_files.specs.declared.form.Form.{Form}
 use Rattle.column_files.specs.declared.form.Form.TheVariants as forms
 use Rattle.column_files.specs.declared.refusal.Place.TheVariants.{File as OfFile}
 use Rattle.column_reports.specs.Faults.{fault_line}
+use Rattle.column_reports.specs.FindingLines.{findings_text}
+use Rattle.column_reports.specs.declared.asked.AskedFinding.{AskedFinding}
 use Rattle.file_check.specs.Asked.{output_of}
 use Rattle.file_check.specs.Counted.{status_of}
 use Rattle.file_check.specs.Made.{MakesOfEnd}
 use Rattle.file_check.specs.Names.{name_of}
+use Rattle.file_check.specs.Unmet.{as_error, asked_view, unmet_of}
 use Rattle.file_check.specs.declared.asked.Asked.{Asked}
 use Rattle.file_check.specs.declared.asked.Output.{Output}
-use Rattle.file_check.specs.declared.asked.Output.TheVariants.{Json, Errors, Table, Github, Sarif, Lines, Ipc}
+use Rattle.file_check.specs.declared.asked.Output.TheVariants.{Json, Errors, Table, Github, Sarif, Ipc}
 use Rattle.file_check.specs.declared.print.Made.{Made}
 
 -- ---- a file that is refused
@@ -64,22 +67,25 @@ abbrev pub PrintsText : Output → List ℕ → Option (List ℕ) → Option (Li
 PrintsText Sarif text old new = ⊤
 PrintsText output text old new = Appends old new text
 
--- what is printed of what is made, and the status: its text, and no more but with --lines and --ipc the columns behind it, and with lines of findings what is asked
--- and not met, of which nothing is said here; with --ipc the status is 2 where no message holds the columns
-abbrev pub Prints : Output → Asked → Made → Option (List ℕ) → Option (List ℕ) → ℕ → Type 0
-Prints Lines asked made old new status = status ≡ status_of asked.flags made.counted
-Prints Ipc asked made old new status = (status ≡ status_of asked.flags made.counted) ⊎ (status ≡ 2)
-Prints Table asked made old new status = status ≡ status_of asked.flags made.counted
-Prints Errors asked made old new status = status ≡ status_of asked.flags made.counted
-Prints Github asked made old new status = status ≡ status_of asked.flags made.counted
-Prints Sarif asked made old new status = status ≡ status_of asked.flags made.counted
-Prints output asked made old new status = Appends old new (string_bytes made.text) × (status ≡ status_of asked.flags made.counted)
+-- with --json its text, and behind it the lines of what is asked and not met
+pub record PrintsJson (asked : Asked) (file : Text) (made : Made) (old new : Option (List ℕ)) (status : ℕ) : Type 0 where
+  pub unmet : List AskedFinding
+  pub are_unmet : map asked_view unmet ≡ unmet_of asked made.counted
+  pub prints : Appends old new (string_bytes made.text ++ findings_text (name_of file) (map as_error unmet))
+  pub status_is : status ≡ status_of asked.flags made.counted
+
+-- what is printed of what is made, and the status: of what is printed in another format nothing is said here; with --ipc the status is 2 where no message
+-- holds the columns
+abbrev pub Prints : Output → Asked → Text → Made → Option (List ℕ) → Option (List ℕ) → ℕ → Type 0
+Prints Json asked file made old new status = PrintsJson asked file made old new status
+Prints Ipc asked file made old new status = (status ≡ status_of asked.flags made.counted) ⊎ (status ≡ 2)
+Prints output asked file made old new status = status ≡ status_of asked.flags made.counted
 
 -- of the end of a file in that format, before which so many bytes stand: it is reported, or refused
 pub record IsReported (asked : Asked) (file : Text) (form : Form) (start : ℕ) (end : List ℕ) (old new : Option (List ℕ)) (status : ℕ) : Type 0 where
   pub made : Made
   pub is : MakesOfEnd asked file form start end (Ok made)
-  pub prints : Prints (output_of asked.flags) asked made old new status
+  pub prints : Prints (output_of asked.flags) asked file made old new status
 
 pub record IsRefused (asked : Asked) (file : Text) (form : Form) (start : ℕ) (end : List ℕ) (old new : Option (List ℕ)) (status : ℕ) : Type 0 where
   pub fault : FileFault

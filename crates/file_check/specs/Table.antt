@@ -1,13 +1,16 @@
 -- The table of the columns of a file, as text.
-use Rattle.std.specs.Prelude.{ℕ, ◌-◌, ◌==◌, false, max, unwrap_or, List, [], ◌∷◌, ◌++◌, replicate, nat_lt, codes, map, flat_map, string_bytes, if◌then◌else◌}
+use Rattle.std.specs.Prelude.{ℕ, ◌-◌, ◌==◌, false, max, unwrap_or, Option, None, Some, List, [], ◌∷◌, ◌++◌, replicate, nat_lt, codes, map, flat_map, string_bytes, if◌then◌else◌}
 use Rattle.std.specs.Str.{chars, encode_utf8_all, trim_end}
 use Rattle.arrow_values.specs.Tree.{Text}
+use Rattle.column_check.specs.declared.code.Severity.{Severity}
+use Rattle.column_check.specs.declared.code.Severity.TheVariants.{Error, Warning, Note}
 use Rattle.unicode_width.specs.Width.{char_width, str_width}
 use Rattle.file_check.specs.declared.table.Row.{Row}
 use Rattle.file_check.specs.declared.table.Rooms.{Rooms}
 
--- the cells of a line, and the notes below it
+-- the mark and the cells of a line, and the notes below it
 pub record Line : Type 0 where
+  pub mark : Option Severity
   pub name : Text
   pub holds : Text
   pub crs : Text
@@ -16,6 +19,7 @@ pub record Line : Type 0 where
 
 abbrev pub line_of : Row → Line
 line_of row = record {
+  mark = row.mark;
   name = string_bytes row.name;
   holds = string_bytes row.holds;
   crs = string_bytes row.crs;
@@ -25,7 +29,7 @@ line_of row = record {
 
 -- the line at the head
 abbrev pub head : Line
-head = record { name = codes "column"; holds = codes "holds"; crs = codes "CRS"; edges = codes "edges"; notes = [] }
+head = record { mark = None; name = codes "column"; holds = codes "holds"; crs = codes "CRS"; edges = codes "edges"; notes = [] }
 
 -- how many columns of a terminal a text takes
 abbrev pub width : Text → ℕ
@@ -61,6 +65,13 @@ rooms_of lines = record {
   crs = widest (map (λ line. line.crs) lines);
 }
 
+-- how much the worst of a column's findings counts, and a blank
+abbrev pub mark_text : Option Severity → Text
+mark_text None = codes "  "
+mark_text (Some Error) = codes "E "
+mark_text (Some Warning) = codes "W "
+mark_text (Some Note) = codes "N "
+
 -- a cell with blanks behind it: as many as it lacks to the width of its column, and two
 abbrev pub padded : ℕ → Text → Text
 padded room cell = cell ++ (replicate (room - width cell) 32 ++ codes "  ")
@@ -72,9 +83,9 @@ trimmed text = trim_end text ++ codes "\n"
 abbrev pub note_text : Text → Text
 note_text note = codes "    " ++ trimmed note
 
--- a line: its cells below those of the other lines, and its notes
+-- a line: its mark, its cells below those of the other lines, and its notes
 abbrev pub cells_text : Rooms → Line → Text
-cells_text rooms line = padded rooms.name line.name ++ (padded rooms.holds line.holds ++ (padded rooms.crs line.crs ++ line.edges))
+cells_text rooms line = mark_text line.mark ++ (padded rooms.name line.name ++ (padded rooms.holds line.holds ++ (padded rooms.crs line.crs ++ line.edges)))
 
 abbrev pub line_text : Rooms → Line → Text
 line_text rooms line = trimmed (cells_text rooms line) ++ flat_map note_text line.notes

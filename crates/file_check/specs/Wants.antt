@@ -12,12 +12,15 @@ use Rattle.column_check.specs.declared.finding.Geometry.{Geometry as GeometryCol
 use Rattle.geoparquet.specs.Facts.{CrsOf, FactsOf, facts_view}
 use Rattle.same_columns.specs.Aspects.{is_of_crs}
 use Rattle.file_check.specs.declared.asked.Want.{Want}
-use Rattle.column_reports.specs.Report.{kind_text}
+use Rattle.arrow_columns.specs.Column.{column_tree}
+use Rattle.arrow_columns.specs.Types.{ColumnTree}
+use Rattle.column_reports.specs.Report.{kind_text, type_word}
 use Rattle.column_reports.specs.declared.report.ColumnReport.{ColumnReport}
 use Rattle.file_check.specs.declared.wants.Found.{Found}
+use Rattle.file_check.specs.declared.wants.Unlike.{Unlike}
 use Rattle.file_check.specs.declared.wants.Found.TheVariants.{NoColumn, Looked}
 use Rattle.file_check.specs.Crs.{crs_that_counts, edges_that_count}
-use Rattle.file_check.specs.Shown.{shown}
+use Rattle.column_check.specs.Shown.{shown}
 
 -- the parts of an expectation stand between commas
 abbrev pub parts_of : Text → List Text
@@ -46,36 +49,52 @@ is_crs (Some crs) part = is_of_crs crs part
 abbrev pub Meets : Kind → FactsOf → Text → Type 0
 Meets k fs part = IsTrue (is_crs fs.crs part) ⊎ (IsAlike part (edges_that_count fs) ⊎ IsWord k part)
 
--- what is said where a column holds no geometries
-abbrev pub no_geometries : Text → Text
-no_geometries name = codes "column " ++ (shown name ++ codes " holds no geometries")
+-- what a column is that is not what is expected: what it holds, beside what is wanted
+pub record UnlikeOf : Type 0 where
+  pub held : Text
+  pub wanted : Text
 
--- what is said of a part that is not met
+abbrev pub unlike_view : Unlike → UnlikeOf
+unlike_view u = record { held = string_bytes u.held; wanted = string_bytes u.wanted }
+
+-- of geometries: their kind, their CRS and their edges, beside a part that is not met
 abbrev pub crs_or_none : Text → Text
 crs_or_none crs = if length crs == 0 then codes "no CRS" else crs
 
-abbrev pub unmet : Text → Kind → FactsOf → Text → Text
-unmet name k fs part = codes "column " ++ (shown name ++ (codes " is not " ++ (shown part ++ (codes ": " ++ (kind_text k ++ (codes ", " ++ (crs_or_none (crs_that_counts fs) ++ (codes ", " ++ edges_that_count fs))))))))
+abbrev pub unmet : Kind → FactsOf → Text → UnlikeOf
+unmet k fs part = record {
+  held = kind_text k ++ (codes ", " ++ (crs_or_none (crs_that_counts fs) ++ (codes ", " ++ edges_that_count fs)));
+  wanted = part;
+}
 
--- what is said of the first part that is not met
-abbrev pub IsUnmet : Text → Kind → FactsOf → List Text → Option Text → Type 0
-IsUnmet name k fs [] said = said ≡ None
-IsUnmet name k fs (part ∷ parts) said = (Meets k fs part × IsUnmet name k fs parts said) ⊎ ((Meets k fs part → ⊥) × (said ≡ Some (unmet name k fs part)))
+-- beside the first part that is not met
+abbrev pub IsUnmet : Kind → FactsOf → List Text → Option UnlikeOf → Type 0
+IsUnmet k fs [] said = said ≡ None
+IsUnmet k fs (part ∷ parts) said = (Meets k fs part × IsUnmet k fs parts said) ⊎ ((Meets k fs part → ⊥) × (said ≡ Some (unmet k fs part)))
 
--- what is said of a column of that name that is expected to hold this, if it does not
-abbrev pub IsUnmetText : Text → Option GeometryColumn → FactsOf → Text → Option Text → Type 0
-IsUnmetText name None fs want said = said ≡ Some (no_geometries name)
-IsUnmetText name (Some g) fs want said = IsUnmet name g.kind fs (parts_of want) said
+-- of another column: its type, beside all that is wanted
+abbrev pub no_geometries : ColumnTree → Text → UnlikeOf
+no_geometries c want = record { held = shown (type_word c None); wanted = want }
+
+-- what a column is that is expected to hold this, if it does not
+abbrev pub IsUnlike : ColumnTree → Option GeometryColumn → FactsOf → Text → Option UnlikeOf → Type 0
+IsUnlike c None fs want said = said ≡ Some (no_geometries c want)
+IsUnlike c (Some g) fs want said = IsUnmet g.kind fs (parts_of want) said
 
 -- what was found of a column that was looked at
 abbrev pub IsLooked : Text → ColumnReport → Found → Type 0
-IsLooked want r (Looked said) = IsUnmetText (string_bytes r.column.name) (geometry_in r.finding) (facts_view r.facts) want (option_map string_bytes said)
-IsLooked want r NoColumn = ⊥
+IsLooked want r (Looked said) = IsUnlike (column_tree r.column) (geometry_in r.finding) (facts_view r.facts) want (option_map unlike_view said)
+IsLooked want r (NoColumn near) = ⊥
+
+-- no column of the name was looked at, whatever name is like it
+abbrev pub is_none : Found → Bool
+is_none (NoColumn near) = true
+is_none (Looked said) = false
 
 -- what is found of an expectation once one more column is looked at: only the first column of the name counts; for private contracts
 abbrev pub IsFound : Text → Text → ColumnReport → Found → Found → Type 0
 IsFound name want r (Looked said) new = new ≡ Looked said
-IsFound name want r NoColumn new = ((string_bytes r.column.name ≡ name → ⊥) × (new ≡ NoColumn)) ⊎ ((string_bytes r.column.name ≡ name) × IsLooked want r new)
+IsFound name want r (NoColumn near) new = ((string_bytes r.column.name ≡ name → ⊥) × (is_none new ≡ true)) ⊎ ((string_bytes r.column.name ≡ name) × IsLooked want r new)
 
 -- the first of the columns that has the name
 pub record IsFirstNamed (name : Text) (rs : List ColumnReport) (r : ColumnReport) : Type 0 where
@@ -87,7 +106,7 @@ pub record IsFirstNamed (name : Text) (rs : List ColumnReport) (r : ColumnReport
 
 -- what is found of an expectation once all of the columns were looked at
 abbrev pub IsFoundIn : Text → Text → List ColumnReport → Found → Type 0
-IsFoundIn name want rs NoColumn = All (λ r. string_bytes r.column.name ≡ name → ⊥) rs
+IsFoundIn name want rs (NoColumn near) = All (λ r. string_bytes r.column.name ≡ name → ⊥) rs
 IsFoundIn name want rs (Looked said) = (r : ColumnReport) × IsFirstNamed name rs r × IsLooked want r (Looked said)
 
 abbrev pub AreFoundIn : List Want → List ColumnReport → List Found → Type 0
@@ -95,13 +114,8 @@ AreFoundIn [] rs [] = ⊤
 AreFoundIn (w ∷ ws) rs (f ∷ fs) = IsFoundIn (string_bytes w.column) (string_bytes w.want) rs f × AreFoundIn ws rs fs
 AreFoundIn ws rs fs = ⊥
 
--- the expectation is not met: no column has the name, or something is said of the first that has it
+-- the expectation is not met: no column has the name, or the first that has it is not what is expected
 abbrev pub is_unmet : Found → Bool
-is_unmet NoColumn = true
+is_unmet (NoColumn near) = true
 is_unmet (Looked None) = false
 is_unmet (Looked (Some said)) = true
-
--- what is said of it once all columns were looked at, if it is not met
-abbrev pub said_of : Text → Found → Option Text
-said_of name NoColumn = Some (codes "no column " ++ shown name)
-said_of name (Looked said) = option_map string_bytes said

@@ -63,6 +63,8 @@ pub struct Flags {
     pub require_geometry: bool,
     /// `--same`: each file has the columns of the first.
     pub same: bool,
+    /// `--canonical`: columns that are printed as lines or as a stream are in normal form.
+    pub canonical: bool,
 }
 
 /// A format of a report: `--format`.

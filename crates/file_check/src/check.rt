@@ -34,7 +34,7 @@ pub struct Answer {
 /// `--json`, and the status whatever is printed; of lines it says neither.
 ///
 /// ```rust
-/// let flags = Flags { format: file_check::Format::Json, lines: false, ipc: false, infer: false, quiet: false, problems: false, require_geometry: false, same: false };
+/// let flags = Flags { format: file_check::Format::Json, lines: false, ipc: false, infer: false, quiet: false, problems: false, require_geometry: false, same: false, canonical: false };
 /// let weights = Weights::new(alloc, false);
 /// let screen = file_check::Screen { is_colored: false, width: None };
 /// let asked = Asked { flags, weights, wants: Vec::new(alloc), files: Vec::new(alloc), screen };

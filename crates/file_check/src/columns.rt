@@ -1,12 +1,14 @@
 //! What is said of a column, as a row of a table.
 ghost use Rattle.std.specs.Prelude.{◌≡◌, ◌++◌, [], None, Some, IfOk, OnOk, map, option_map, string_bytes};
+ghost use Rattle.std.specs.List.{list_any};
 ghost use Rattle.std.specs.Option.{unwrap_or};
+ghost use Rattle.column_check.specs.Severities.{is_error_of};
 ghost use Rattle.arrow_columns.specs.Column.{column_tree};
 ghost use Rattle.geoparquet.specs.Facts.{facts_view};
 ghost use Rattle.column_reports.specs.FindingWords.{finding_words};
 ghost use Rattle.column_reports.specs.Report.{type_word};
 ghost use Rattle.file_check.specs.Table.{line_of, cut};
-ghost use Rattle.file_check.specs.Columns.{extension_word, facts_of, held, row_of};
+ghost use Rattle.file_check.specs.Columns.{behind, extension_word, facts_of, held, kind_shown, is_warning_of, row_of, worst_of};
 ghost use Rattle.file_check.specs.Crs.{crs_that_counts, edges_that_count};
 ghost use Rattle.file_check.specs.Shown.{shown};
 
@@ -16,20 +18,23 @@ use crate::crs::{crs_that_counts, edges_that_count};
 use crate::table::Row;
 use crate::text::shown;
 use arrow_columns::SchemaColumn;
-use column_check::{Finding, Reasons};
+use column_check::{Finding, Reasons, Severity};
 use column_reports::{ColumnReport, Weighed, finding_words, type_word};
+use geoarrow_layout::{Kind, coord_type_word, dimension_word, kind_word};
 use geoparquet::ColumnFacts;
 use std::alloc::{AllocError, Global};
 
-/// Returns the row of a column: its name; the kind, coordinate type and dimension of geometries, or
-/// the type of another column, and `invalid` or `extension` with the extension name; the CRS and the
-/// edges of geometries that count; and below it what is found of it (`docs/FORMAT.md`, 2.5 to 2.7).
-/// Cells are cut by [`cut`], and hidden characters shown by their numbers. Errs only when out of memory.
+/// Returns the row of a column: the worst severity of what is found of it; its name; of geometries
+/// the kind, with the coordinate type and the dimension that it has, or the type of another
+/// column, and `invalid` or `extension` with the extension name; the CRS and the edges of
+/// geometries that count; and below it what is found of it (`docs/FORMAT.md`, 2.5 to 2.7). Cells
+/// are cut by [`cut`], and hidden characters shown by their numbers. Errs only when out of memory.
 pub fn row_of(alloc: Global, report: &ColumnReport) -> Result<Row, AllocError>
     ensures { IfOk result (λ row. line_of row ≡ row_of report.now) }
 {
     let finding = &report.finding;
     Ok(Row {
+        mark: worst_of(report.findings.as_slice()),
         name: name_cell(alloc, &report.column)?,
         holds: held_cell(alloc, &report.column, finding)?,
         crs: crs_cell(alloc, facts_of(report))?,
@@ -38,10 +43,41 @@ pub fn row_of(alloc: Global, report: &ColumnReport) -> Result<Row, AllocError>
     })
 }
 
-/// Whether a column has a row in a table: with `--problems` only where it is invalid, or something is
-/// found of it and shown.
+/// Whether a column has a row in a table: with `--problems` only where it is invalid, or something
+/// is found of it and shown.
 pub(crate) fn is_in_table(asked: &Asked, report: &ColumnReport) -> bool {
     !asked.flags.problems || report.finding.is_invalid() || !report.findings.is_empty()
+}
+
+/// The worst severity of findings, if there are any.
+fn worst_of(found: &[Weighed<'_>]) -> Option<Severity>
+    ensures { result ≡ worst_of found.now }
+{
+    if found.is_empty() {
+        None
+    } else if has_error(found) {
+        Some(Severity::Error)
+    } else if has_warning(found) {
+        Some(Severity::Warning)
+    } else {
+        Some(Severity::Note)
+    }
+}
+
+/// Whether a finding is an error.
+fn has_error(found: &[Weighed<'_>]) -> bool
+    ensures { result ≡ list_any (λ w. is_error_of w.severity) found.now }
+{
+    found.iter().any(|one| one.severity.is_error())
+}
+
+/// Whether a finding is a warning.
+fn has_warning(found: &[Weighed<'_>]) -> bool
+    ensures { result ≡ list_any (λ w. is_warning_of w.severity) found.now }
+{
+    found
+        .iter()
+        .any(|one| matches!(one.severity, Severity::Warning))
 }
 
 /// The name of a column, as a cell.
@@ -65,9 +101,9 @@ fn held(alloc: Global, column: &SchemaColumn, finding: &Finding) -> Result<Strin
     ensures { IfOk result (λ text. string_bytes text ≡ held (column_tree column.now) finding.now) }
 {
     match finding {
-        Finding::Geometry(geometry) => type_word(alloc, column, Some(geometry)),
+        Finding::Geometry(geometry) => kind_shown(alloc, geometry.kind),
         Finding::Inferred(geometry) => {
-            let word = type_word(alloc, column, Some(geometry))?;
+            let word = kind_shown(alloc, geometry.kind)?;
             joined(alloc, "taken for ", word.as_str())
         }
         Finding::Plain => type_shown(alloc, column),
@@ -75,6 +111,28 @@ fn held(alloc: Global, column: &SchemaColumn, finding: &Finding) -> Result<Strin
         Finding::Invalid(_) => extension_shown(alloc, "invalid ", column),
         Finding::Extension => extension_shown(alloc, "extension ", column),
     }
+}
+
+/// The kind of geometries, their coordinate type and their dimension, where they have these.
+fn kind_shown(alloc: Global, kind: Kind) -> Result<String, AllocError>
+    ensures { IfOk result (λ text. string_bytes text ≡ kind_shown kind) }
+{
+    let mut text = String::from_str(alloc, kind_word(kind))?;
+    if let Some(coord_type) = kind.coord_type() {
+        push_behind(&mut text, coord_type_word(Some(coord_type)))?;
+    }
+    if let Some(dimension) = kind.dimension() {
+        push_behind(&mut text, dimension_word(Some(dimension)))?;
+    }
+    Ok(text)
+}
+
+/// Adds a word behind a blank.
+fn push_behind(text: &mut String, word: &str) -> Result<(), AllocError>
+    ensures { OnOk result (string_bytes text.new ≡ string_bytes text.old ++ behind word.now) }
+{
+    text.push_str(" ")?;
+    text.push_str(word)
 }
 
 /// The type of a column that holds no geometries.

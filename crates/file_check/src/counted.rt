@@ -6,8 +6,6 @@ ghost use Rattle.file_check.specs.Counted.{misses, status_of};
 
 use crate::asked::{Asked, Want};
 use crate::numbers::Numbers;
-use crate::rules::{EXPECT, NO_GEOMETRY};
-use crate::told::Told;
 use crate::wants::Found;
 use column_reports::{ColumnReport, Summary};
 use std::alloc::{AllocError, Global};
@@ -35,20 +33,6 @@ impl Counted {
         ensures { result ≡ status_of asked.now.flags self.now }
     {
         self.summary.status(self.is_unmet(asked))
-    }
-
-    /// What is told of what is asked of the file and not met.
-    pub(crate) fn unmet(&self, alloc: Global, asked: &Asked) -> Result<Vec<Told>, AllocError> {
-        let mut unmet = Vec::new(alloc);
-        for (want, found) in asked.wants.iter().zip(self.found.iter()) {
-            if let Some(said) = found.said(alloc, want.column.as_str())? {
-                unmet.push(Told::error(alloc, EXPECT, said.as_str())?)?;
-            }
-        }
-        if asked.flags.require_geometry && !self.summary.has_geometry {
-            unmet.push(Told::error(alloc, NO_GEOMETRY, "no column of geometries")?)?;
-        }
-        Ok(unmet)
     }
 }
 
@@ -78,7 +62,7 @@ pub(crate) fn found_in(
 fn found_of(alloc: Global, want: &Want, columns: &[ColumnReport]) -> Result<Found, AllocError>
     ensures { IfOk result (IsFoundIn (string_bytes want.now.column) (string_bytes want.now.want) columns.now) }
 {
-    let mut found = Found::NoColumn;
+    let mut found = Found::NoColumn(None);
     for said in columns {
         found.look_at(alloc, want, said)?;
     }

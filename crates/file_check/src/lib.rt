@@ -2,10 +2,11 @@
 //! what its columns hold, as lines of JSON or as a table, or what is found of it, as commands of a
 //! workflow, say why it is refused or what is asked of it and not met, and return the status;
 //! [`check_bytes`] does so of bytes. Beside them the words: of columns as rows and as their table, of
-//! findings, and of expectations.
+//! findings.
 #![tactic(auto)]
 
 mod asked;
+mod canonical;
 mod cell;
 mod check;
 mod columns;
@@ -16,6 +17,7 @@ mod github;
 mod lines;
 mod names;
 mod numbers;
+mod object;
 mod print;
 mod refusal;
 mod rules;
@@ -28,6 +30,7 @@ mod summary;
 mod table;
 mod text;
 mod told;
+mod unmet;
 mod wants;
 
 pub use asked::{Asked, Flags, Format, Output, Screen, Want};
@@ -40,7 +43,6 @@ pub use numbers::{Numbers, Tally};
 pub use refusal::refuse;
 pub use rules::{NOT_SAME, REFUSALS, Rule};
 pub use same::compare_columns;
-pub use summary::{begin_output, end_output, summary_line};
+pub use summary::{begin_output, end_file, end_output, summary_line};
 pub use table::{Row, table_text};
 pub use text::shown;
-pub use wants::{Found, unmet_text};

@@ -1,16 +1,18 @@
 //! The report of lines, of which one at a time is kept.
 
 use crate::asked::{Asked, Output};
+use crate::canonical::as_asked;
 use crate::columns::{is_in_table, row_of};
 use crate::counted::Counted;
 use crate::names::named;
 use crate::numbers::{Numbers, Tally};
 use crate::print::{KEPT_BYTES, Made, named_table, print_made, push_line};
 use crate::refusal::{refuse, tell_bad_lines};
-use crate::said::{print_text, say};
+use crate::said::print_text;
 use crate::screen::shown_findings;
 use crate::table::{Row, row_bytes};
 use crate::told::{push_column, push_findings};
+use crate::unmet::{tell_unmet, unmet_of};
 use crate::wants::Found;
 use arrow_columns::SchemaColumn;
 use column_files::{
@@ -92,7 +94,11 @@ impl<'a> LineReport<'a> {
             summary,
             ..
         } = weighed_report(alloc, opened, asked.flags.infer, &asked.weights)?;
-        let found = asked.wants.iter().map(|_| Found::NoColumn).collect(alloc)?;
+        let found = asked
+            .wants
+            .iter()
+            .map(|_| Found::NoColumn(None))
+            .collect(alloc)?;
         let mut numbers = Numbers::new();
         numbers.add_findings(findings.as_slice());
         Ok(LineReport {
@@ -166,10 +172,14 @@ impl<'a> LineReport<'a> {
     fn keep(&mut self, said: ColumnReport) -> Result<(), AllocError> {
         match self.asked.flags.output() {
             Output::Lines => {
-                let line = column_line(self.alloc, said.column)?;
+                let column = as_asked(self.alloc, self.asked, &mut self.scratch, said)?;
+                let line = column_line(self.alloc, column)?;
                 push_line(&mut self.text, line.as_str())?;
             }
-            Output::Ipc => self.columns.push(said.column)?,
+            Output::Ipc => {
+                let column = as_asked(self.alloc, self.asked, &mut self.scratch, said)?;
+                self.columns.push(column)?;
+            }
             Output::Json | Output::Table | Output::Errors | Output::Github | Output::Sarif => {
                 if self.asked.flags.same {
                     self.reported.push(said)?;
@@ -276,9 +286,9 @@ impl<'a> LineReport<'a> {
         print_text(asked, made.text.as_str(), tally, out)?;
         tell_bad_lines(alloc, asked, file, &bad_lines, tally, out, err)?;
         print_text(asked, found.as_str(), tally, out)?;
-        let unmet = made.counted.unmet(alloc, asked)?;
+        let unmet = unmet_of(alloc, asked, &made.counted)?;
         tally.add_file(made.counted.numbers, unmet.len());
-        say(alloc, asked, file, unmet.as_slice(), tally, out, err)?;
+        tell_unmet(alloc, asked, file, unmet, tally, out, err)?;
         Ok(made.counted.status(asked))
     }
 

@@ -104,8 +104,8 @@ pub struct Tally {
     pub(crate) first: Option<Vec<ColumnReport>>,
     /// With `--same` the columns of the file that was read last, until they are compared.
     pub(crate) last: Option<Vec<ColumnReport>>,
-    /// Whether something is found of the file that was read last.
-    is_last_found: bool,
+    /// The columns and findings of the last file, if it is read to its end.
+    of_last: Option<Numbers>,
 }
 
 impl Tally {
@@ -121,7 +121,7 @@ impl Tally {
             has_results: false,
             first: None,
             last: None,
-            is_last_found: false,
+            of_last: None,
         }
     }
 
@@ -150,21 +150,28 @@ impl Tally {
         let mut numbers = numbers;
         numbers.add_errors(unmet);
         raise(&mut self.files, 1);
-        self.is_last_found = false;
+        self.of_last = Some(Numbers::new());
         self.add_found(numbers);
     }
 
     /// Adds what is found of the file that was read last.
     pub(crate) fn add_found(&mut self, numbers: Numbers) {
-        if numbers.has_findings() && !self.is_last_found {
-            self.is_last_found = true;
+        let mut of_last = self.of_last.unwrap_or(Numbers::new());
+        if numbers.has_findings() && !of_last.has_findings() {
             raise(&mut self.found_in, 1);
         }
+        of_last.add(numbers);
+        self.of_last = Some(of_last);
         self.numbers.add(numbers);
     }
 
+    /// Returns how many columns and findings the last file has, if it is read to its end.
+    pub(crate) fn of_last(&self) -> Option<Numbers> {
+        self.of_last
+    }
+
     /// Adds the status of a file, as it is behind all that is said of it.
-    pub fn add_status(&mut self, status: u8) {
+    pub(crate) fn add_status(&mut self, status: u8) {
         if status == 1 {
             raise(&mut self.failed, 1);
         }
@@ -174,5 +181,6 @@ impl Tally {
     pub(crate) fn add_unread(&mut self) {
         raise(&mut self.files, 1);
         raise(&mut self.unread, 1);
+        self.of_last = None;
     }
 }

@@ -12,6 +12,7 @@ use crate::screen::dress;
 use crate::table::{Row, table_text};
 use crate::text::shown;
 use crate::told::Told;
+use crate::unmet::{say_unmet, unmet_of, with_unmet};
 use arrow_columns::SchemaColumn;
 use arrow_ipc::{Endianness, Schema, write_schema};
 use column_files::{column_line, write_fault};
@@ -45,30 +46,35 @@ pub(crate) fn print_made<W: Write, E: Write>(
     out: &mut W,
     err: &mut E,
 ) -> io::Result<u8>
-    ensures { IfOk result (Prints (output_of asked.now.flags) asked.now made (W.contents out.old) (W.contents out.new)) }
+    ensures { IfOk result (Prints (output_of asked.now.flags) asked.now file.now made (W.contents out.old) (W.contents out.new)) }
 {
     let Made {
         text,
         columns,
         counted,
     } = made;
-    let unmet = counted.unmet(alloc, asked)?;
+    let unmet = unmet_of(alloc, asked, &counted)?;
     tally.add_file(counted.numbers, unmet.len());
-    let unmet = unmet.as_slice();
     let status = counted.status(asked);
-    print_text(asked, text.as_str(), tally, out)?;
     match asked.flags.output() {
+        Output::Json => {
+            let text = with_unmet(alloc, file, text, unmet)?;
+            print_text(asked, text.as_str(), tally, out)?;
+            Ok(status)
+        }
         Output::Lines => {
+            print_text(asked, text.as_str(), tally, out)?;
             print_lines(alloc, columns, out)?;
-            say(alloc, asked, file, unmet, tally, out, err)?;
+            say_unmet(alloc, asked, file, unmet, tally, out, err)?;
             Ok(status)
         }
         Output::Ipc => {
-            say(alloc, asked, file, unmet, tally, out, err)?;
+            say_unmet(alloc, asked, file, unmet, tally, out, err)?;
             Ok(print_stream(alloc, asked, file, columns, tally, out, err)?.max(status))
         }
-        Output::Json | Output::Github | Output::Sarif | Output::Table | Output::Errors => {
-            say(alloc, asked, file, unmet, tally, out, err)?;
+        Output::Github | Output::Sarif | Output::Table | Output::Errors => {
+            print_text(asked, text.as_str(), tally, out)?;
+            say_unmet(alloc, asked, file, unmet, tally, out, err)?;
             Ok(status)
         }
     }

@@ -15,18 +15,6 @@ pub(crate) const CANNOT_READ: Rule = Rule {
     words: "the system does not give the file",
 };
 
-/// An expectation that is not met.
-pub(crate) const EXPECT: Rule = Rule {
-    code: "Expect",
-    words: "a column does not hold what is expected of it",
-};
-
-/// A file without geometries, where some are required.
-pub(crate) const NO_GEOMETRY: Rule = Rule {
-    code: "NoGeometry",
-    words: "a file has no column of geometries",
-};
-
 /// A line that is no column.
 pub(crate) const BAD_LINE: Rule = Rule {
     code: "BadLine",

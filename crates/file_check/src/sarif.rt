@@ -4,6 +4,7 @@ ghost use Rattle.std.specs.Str.{IsUtf8};
 
 use crate::names::named;
 use crate::numbers::Tally;
+use crate::object::{put_number, put_text};
 use crate::rules::Rule;
 use crate::text::shown;
 use crate::told::{Region, Told};
@@ -88,14 +89,6 @@ fn behind_comma(alloc: Global, out: Writer) -> Result<String, AllocError>
     format!(in alloc; ",\n{text}")
 }
 
-/// Writes a member whose value is a string.
-fn put_text(out: &mut Writer, key: &str, text: &str) -> Result<(), AllocError>
-    ensures { OnOk result (out.new.before ≡ out.old.before) }
-{
-    out.key(key)?;
-    out.string(text)
-}
-
 /// Writes a member whose value is an object with a text.
 fn put_message(out: &mut Writer, key: &str, text: &str) -> Result<(), AllocError>
     ensures { OnOk result (out.new.before ≡ out.old.before) }
@@ -148,8 +141,7 @@ fn put_place(out: &mut Writer, key: &str, number: u64) -> Result<(), AllocError>
 {
     out.key("region")?;
     out.begin_object()?;
-    out.key(key)?;
-    out.u64(number)?;
+    put_number(out, key, number)?;
     out.end_object()
 }
 

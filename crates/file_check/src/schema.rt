@@ -3,6 +3,7 @@ ghost use Rattle.std.specs.Prelude.{IfErr};
 ghost use Rattle.file_check.specs.Made.{IsPastTable, MakesText, MakesOf, MakesOfEnd};
 
 use crate::asked::{Asked, Output};
+use crate::canonical::as_asked;
 use crate::columns::{is_in_table, row_of};
 use crate::counted::{Counted, found_in};
 use crate::names::named;
@@ -14,6 +15,7 @@ use crate::told::{push_column, push_findings};
 use arrow_columns::SchemaColumn;
 use column_files::{FileFault, Form, open_end};
 use column_reports::{ColumnReport, FileReport, json_lines, report_budget, weighed_report};
+use json::Scratch;
 use std::alloc::{AllocError, Global};
 
 /// What is made of a file in that format by its end, before which so many bytes stand.
@@ -108,8 +110,9 @@ fn kept_columns(
     let mut columns = Vec::new(alloc);
     match asked.flags.output() {
         Output::Lines | Output::Ipc => {
+            let mut scratch = Scratch::new(alloc);
             for said in reported {
-                columns.push(said.column)?;
+                columns.push(as_asked(alloc, asked, &mut scratch, said)?)?;
             }
         }
         Output::Json | Output::Table | Output::Errors | Output::Github | Output::Sarif => {

@@ -9,8 +9,8 @@ use std::alloc::{AllocError, Global};
 /// How many columns a cell has at least, where it is cut to a terminal.
 const LEAST: usize = 8;
 
-/// How many columns stand between the cells of a line.
-const BETWEEN: usize = 6;
+/// How many columns the mark of a line has with its blank, and how many stand between the cells.
+const BETWEEN: usize = 8;
 
 /// Cuts the cells of rows where their table is wider than the terminal, and gives the severities of
 /// their notes a colour, where they have one. Errs only when out of memory.

@@ -1,16 +1,44 @@
-//! What stands before the first file, and behind the last.
+//! What stands before the first file, behind each, and behind the last.
+ghost use Rattle.std.specs.Prelude.{◌≡◌, OnOk};
+ghost use Rattle.std.specs.Str.{IsUtf8};
+
 use crate::asked::{Asked, Output};
+use crate::names::named;
 use crate::numbers::{Numbers, Tally};
+use crate::object::{put_number, put_text};
 use crate::sarif::{BEGIN, sarif_end};
+use json::Writer;
 use std::alloc::{AllocError, Global};
 use std::io;
 use std::io::Write;
+use value_tokens::text_of;
 
 /// Prints what stands before the first file on standard output, `out`: the begin of a log of SARIF
 /// (docs/FORMAT.md, 2.7). Errs where the writer fails.
 pub fn begin_output<W: Write>(asked: &Asked, out: &mut W) -> io::Result<()> {
     match asked.flags.output() {
         Output::Sarif => out.write_all(BEGIN.as_bytes()),
+        _ => Ok(()),
+    }
+}
+
+/// Counts a file of that status, and prints on standard output, `out`, what stands behind all that is
+/// said of it: behind lines of JSON one that says whether it is read to its end, how many columns and
+/// findings it has, and its status (docs/FORMAT.md, 2.7). Errs where the writer fails, and when out of
+/// memory.
+pub fn end_file<W: Write>(
+    alloc: Global,
+    asked: &Asked,
+    file: &str,
+    tally: &mut Tally,
+    status: u8,
+    out: &mut W,
+) -> io::Result<()> {
+    tally.add_status(status);
+    match asked.flags.output() {
+        Output::Json => {
+            out.write_all(file_object(alloc, named(file), tally.of_last(), status)?.as_bytes())
+        }
         _ => Ok(()),
     }
 }
@@ -66,23 +94,78 @@ pub fn summary_line(alloc: Global, tally: &Tally) -> Result<String, AllocError> 
     Ok(line)
 }
 
+/// How many columns and findings a file has, if it is read to its end, and its status: an object of
+/// JSON with its line feed (docs/FORMAT.md, 2.7).
+fn file_object(
+    alloc: Global,
+    file: Option<&str>,
+    numbers: Option<Numbers>,
+    status: u8,
+) -> Result<String, AllocError> {
+    let mut out = Writer::new(Vec::new(alloc));
+    out.begin_object()?;
+    put_text(&mut out, "kind", "file")?;
+    put_name(&mut out, file)?;
+    out.key("read")?;
+    out.boolean(numbers.is_some())?;
+    put_counts(&mut out, numbers)?;
+    put_number(&mut out, "status", u64::from(status))?;
+    out.end_object()?;
+    line_of(out)
+}
+
 /// How many files, columns and findings there are, and the status: an object of JSON with its line
 /// feed (docs/FORMAT.md, 2.7).
 fn summary_object(alloc: Global, tally: &Tally, status: u8) -> Result<String, AllocError> {
-    let mut line = String::from_str(alloc, "{\"kind\":\"summary\"")?;
-    let members = [
-        ("files", tally.files),
-        ("unread", tally.unread),
-        ("failed", tally.failed),
-        ("errors", tally.numbers.errors),
-        ("warnings", tally.numbers.warnings),
-        ("notes", tally.numbers.notes),
-        ("status", u64::from(status)),
-    ];
-    for (key, number) in members {
-        line.push_str(format!(in alloc; ",\"{key}\":{number}")?.as_str())?;
+    let mut out = Writer::new(Vec::new(alloc));
+    out.begin_object()?;
+    put_text(&mut out, "kind", "summary")?;
+    put_number(&mut out, "files", tally.files)?;
+    put_number(&mut out, "unread", tally.unread)?;
+    put_number(&mut out, "failed", tally.failed)?;
+    put_severities(&mut out, tally.numbers)?;
+    put_number(&mut out, "status", u64::from(status))?;
+    out.end_object()?;
+    line_of(out)
+}
+
+/// Writes the name of a file, if it has one.
+fn put_name(out: &mut Writer, file: Option<&str>) -> Result<(), AllocError>
+    ensures { OnOk result (out.new.before ≡ out.old.before) }
+{
+    match file {
+        Some(file) => put_text(out, "file", file),
+        None => Ok(()),
     }
-    line.push_str("}\n")?;
+}
+
+/// Writes how many columns and findings a file has, if it is read to its end.
+fn put_counts(out: &mut Writer, numbers: Option<Numbers>) -> Result<(), AllocError>
+    ensures { OnOk result (out.new.before ≡ out.old.before) }
+{
+    let Some(numbers) = numbers else {
+        return Ok(());
+    };
+    put_number(out, "columns", numbers.columns)?;
+    put_number(out, "geometries", numbers.geometries)?;
+    put_severities(out, numbers)
+}
+
+/// Writes how many findings there are of each severity.
+fn put_severities(out: &mut Writer, numbers: Numbers) -> Result<(), AllocError>
+    ensures { OnOk result (out.new.before ≡ out.old.before) }
+{
+    put_number(out, "errors", numbers.errors)?;
+    put_number(out, "warnings", numbers.warnings)?;
+    put_number(out, "notes", numbers.notes)
+}
+
+/// What was written, with a line feed.
+fn line_of(out: Writer) -> Result<String, AllocError>
+    requires { IsUtf8 out.before }
+{
+    let mut line = text_of(out);
+    line.push_str("\n")?;
     Ok(line)
 }
 

@@ -1,8 +1,9 @@
 //! The text of a table.
 ghost use Rattle.std.specs.Prelude.{◌≡◌, ◌++◌, ◌∷◌, max, IfOk, OnOk, flat_map, map, replicate, string_bytes};
-ghost use Rattle.file_check.specs.Table.{line_of, head, width, rooms_of, padded, trimmed, note_text, cells_text, line_text, table_text};
+ghost use Rattle.file_check.specs.Table.{line_of, head, width, rooms_of, mark_text, padded, trimmed, note_text, cells_text, line_text, table_text};
 
 use crate::cell::width;
+use column_check::Severity;
 use std::alloc::{AllocError, Global};
 
 /// How many bytes a line has room for before it grows.
@@ -15,6 +16,8 @@ const BLANKS: &str = "                                        ";
 /// and the notes below it.
 #[derive(Debug, Drop)]
 pub struct Row {
+    /// How much the worst counts of what is found of the column and shown.
+    pub mark: Option<Severity>,
     /// The name of the column.
     pub name: String,
     /// What the column holds.
@@ -35,16 +38,17 @@ pub(crate) struct Rooms {
     crs: usize,
 }
 
-/// Returns the rows as lines below a head: `column`, `holds`, `CRS` and `edges`. Each column is as
-/// wide as its widest cell, in columns of a terminal, with two blanks between columns; each note has
-/// a line of its own below that of its row, behind four blanks. White space at the end of a line is left out
-/// (`docs/FORMAT.md`, 2.7). Errs only when out of memory.
+/// Returns the rows as lines below a head: `column`, `holds`, `CRS` and `edges`, each behind its
+/// mark and a blank: `E` of an error, `W` of a warning, `N` of a note. Each column is as wide as
+/// its widest cell, in columns of a terminal, with two blanks between columns; each note has a
+/// line of its own below that of its row, behind four blanks. White space at the end of a line is
+/// left out (`docs/FORMAT.md`, 2.7). Errs only when out of memory.
 ///
 /// ```rust
 /// let name = String::from_str(alloc, "id")?;
 /// let holds = String::from_str(alloc, "int64")?;
-/// let row = Row { name, holds, crs: String::new(alloc), edges: String::new(alloc), notes: Vec::new(alloc) };
-/// assert_eq!(rt; table_text(alloc, &[row])?.as_str(), "column  holds  CRS  edges\nid      int64\n");
+/// let row = Row { mark: None, name, holds, crs: String::new(alloc), edges: String::new(alloc), notes: Vec::new(alloc) };
+/// assert_eq!(rt; table_text(alloc, &[row])?.as_str(), "  column  holds  CRS  edges\n  id      int64\n");
 /// ```
 pub fn table_text(alloc: Global, rows: &[Row]) -> Result<String, AllocError>
     ensures { IfOk result (λ text. string_bytes text ≡ table_text (map line_of rows.now)) }
@@ -64,6 +68,7 @@ fn head(alloc: Global) -> Result<Row, AllocError>
     ensures { IfOk result (λ row. line_of row ≡ head) }
 {
     Ok(Row {
+        mark: None,
         name: String::from_str(alloc, "column")?,
         holds: String::from_str(alloc, "holds")?,
         crs: String::from_str(alloc, "CRS")?,
@@ -114,11 +119,24 @@ fn cells_text(alloc: Global, rooms: Rooms, row: &Row) -> Result<String, AllocErr
     ensures { IfOk result (λ text. string_bytes text ≡ cells_text rooms (line_of row.now)) }
 {
     let mut text = String::with_capacity(alloc, LINE_BYTES)?;
+    text.push_str(mark_text(row.mark))?;
     push_padded(&mut text, rooms.name, row.name.as_str())?;
     push_padded(&mut text, rooms.holds, row.holds.as_str())?;
     push_padded(&mut text, rooms.crs, row.crs.as_str())?;
     text.push_str(row.edges.as_str())?;
     Ok(text)
+}
+
+/// The mark of a line, and a blank.
+fn mark_text(mark: Option<Severity>) -> &'static str
+    ensures { result.now ≡ mark_text mark }
+{
+    match mark {
+        None => "  ",
+        Some(Severity::Error) => "E ",
+        Some(Severity::Warning) => "W ",
+        Some(Severity::Note) => "N ",
+    }
 }
 
 /// Adds a cell, with blanks up to the next one.

@@ -73,7 +73,7 @@ impl Told {
     }
 
     /// A finding: of a column that is named, or of the file.
-    fn finding(
+    pub(crate) fn finding(
         alloc: Global,
         column: Option<&str>,
         found: &Weighed<'_>,

@@ -1,28 +1,49 @@
 //! What a column is expected to hold.
 ghost use Rattle.std.specs.Prelude.{◌≡◌, ◌↔◌, ◌==◌, IfOk, OnOk, IsTrue, Some, map, option_map, string_bytes};
+ghost use Rattle.arrow_columns.specs.Column.{column_tree};
 ghost use Rattle.column_check.specs.States.{geometry_in};
 ghost use Rattle.geoparquet.specs.Facts.{crs_view, facts_view};
 ghost use Rattle.file_check.specs.Crs.{crs_that_counts, edges_that_count};
-ghost use Rattle.file_check.specs.Wants.{parts_of, encoding_word, is_crs, IsWord, Meets, no_geometries, crs_or_none, unmet, IsUnmet, IsUnmetText, IsFound, is_unmet, said_of};
+ghost use Rattle.file_check.specs.declared.wants.Found.TheVariants.{NoColumn};
+ghost use Rattle.file_check.specs.Wants.{parts_of, encoding_word, is_crs, IsWord, Meets, crs_or_none, unmet, unlike_view, IsUnmet, IsUnlike, IsFound, is_unmet};
 
 use crate::asked::Want;
 use crate::crs::{crs_that_counts, edges_that_count};
-use crate::text::shown;
 use arrow_columns::SchemaColumn;
-use column_check::Geometry;
+use column_check::{Geometry, shown};
 use column_reports::{ColumnReport, type_word};
 use geoarrow_layout::{Kind, coord_type_word, dimension_word, kind_word};
 use geoparquet::{ColumnFacts, CrsFact};
 use same_columns::is_of_crs;
 use std::alloc::{AllocError, Global};
+use std::mem;
+use strsim::levenshtein;
+
+/// A column that is not what is expected.
+#[derive(Debug, Drop)]
+pub(crate) struct Unlike {
+    /// What it holds, or its type, where it holds no geometries.
+    pub(crate) held: String,
+    /// The first part of the expectation that is not met, or all of it.
+    pub(crate) wanted: String,
+}
+
+/// The name of a column that is like another.
+#[derive(Debug, Drop)]
+pub(crate) struct Near {
+    /// The name.
+    pub(crate) name: String,
+    /// How many edits lead to it.
+    edits: usize,
+}
 
 /// What is found of an expectation while the columns of a file are looked at, one after another.
 #[derive(Debug, Drop)]
-pub enum Found {
-    /// No column of the name was looked at.
-    NoColumn,
-    /// The first column of the name was looked at; with what is said where the expectation is not met.
-    Looked(Option<String>),
+pub(crate) enum Found {
+    /// No column of the name was looked at; with the name among them that is most like it.
+    NoColumn(Option<Near>),
+    /// The first column of the name was looked at; with what it is where it is not what is expected.
+    Looked(Option<Unlike>),
 }
 
 impl Found {
@@ -36,9 +57,9 @@ impl Found {
     ) -> Result<(), AllocError>
         ensures { OnOk result (IsFound (string_bytes want.now.column) (string_bytes want.now.want) said.now self.old self.new) }
     {
-        if matches!(self, Found::NoColumn) && said.column.name.as_str() == want.column.as_str() {
-            let unmet = unmet_text(alloc, said, want.want.as_str())?;
-            *self = Found::Looked(unmet);
+        match mem::replace(self, Found::NoColumn(None)) {
+            Found::NoColumn(near) => *self = looked(alloc, near, want, said)?,
+            Found::Looked(unlike) => *self = Found::Looked(unlike),
         }
         Ok(())
     }
@@ -48,46 +69,69 @@ impl Found {
         ensures { result ≡ is_unmet self.now }
     {
         match self {
-            Found::NoColumn | Found::Looked(Some(_)) => true,
+            Found::NoColumn(_) | Found::Looked(Some(_)) => true,
             Found::Looked(None) => false,
-        }
-    }
-
-    /// Returns what is said of the expectation, if it is not met, once all columns were looked at.
-    /// Errs only when out of memory.
-    ///
-    /// ```rust
-    /// let said = Found::NoColumn.said(alloc, "h")?;
-    /// assert!(rt; matches!(said, Some(text) if text.as_str() == "no column h"));
-    /// ```
-    pub fn said(&self, alloc: Global, name: &str) -> Result<Option<String>, AllocError>
-        ensures { IfOk result (λ said. option_map string_bytes said ≡ said_of name.now self.now) }
-    {
-        match self {
-            Found::NoColumn => {
-                let name = shown(alloc, name)?;
-                Ok(Some(format!(in alloc; "no column {name}")?))
-            }
-            Found::Looked(None) => Ok(None),
-            Found::Looked(Some(text)) => Ok(Some(String::from_str(alloc, text.as_str())?)),
         }
     }
 }
 
-/// Returns what is said of a column that is expected to hold that, if it does not: that it holds no
-/// geometries, or the first part that is not met, and what the column holds. The parts stand
+/// What is found of an expectation once one more column is looked at, where none had the name before,
+/// and that one of them is like it. Errs only when out of memory.
+fn looked(
+    alloc: Global,
+    near: Option<Near>,
+    want: &Want,
+    said: &ColumnReport,
+) -> Result<Found, AllocError>
+    ensures { IfOk result (IsFound (string_bytes want.now.column) (string_bytes want.now.want) said.now (NoColumn near)) }
+{
+    let name = said.column.name.as_str();
+    if name == want.column.as_str() {
+        let unlike = unlike_of(alloc, said, want.want.as_str())?;
+        return Ok(Found::Looked(unlike));
+    }
+    let near = nearer(alloc, near, want.column.as_str(), name)?;
+    Ok(Found::NoColumn(near))
+}
+
+/// How many edits lead from a name to one that it is like, at most.
+const EDITS: usize = 2;
+
+/// Returns which of two names is more like one, if any is like it. Errs only when out of memory.
+fn nearer(
+    alloc: Global,
+    near: Option<Near>,
+    wanted: &str,
+    name: &str,
+) -> Result<Option<Near>, AllocError> {
+    let least = match &near {
+        Some(near) => near.edits,
+        None => EDITS + 1,
+    };
+    let one = wanted.to_ascii_lowercase(alloc)?;
+    let other = name.to_ascii_lowercase(alloc)?;
+    let edits = levenshtein(alloc, one.as_str(), other.as_str())?;
+    if edits >= least || edits >= wanted.len() {
+        return Ok(near);
+    }
+    let name = String::from_str(alloc, name)?;
+    Ok(Some(Near { name, edits }))
+}
+
+/// Returns what a column is that is expected to hold that, if it does not: its type where it holds
+/// no geometries, else what it holds, beside the first part that is not met. The parts stand
 /// between commas; each is the kind, the coordinate type, the dimension, the encoding (`native`,
 /// `WKB` or `WKT`) or the edges that count, all in any letters, or a CRS that agrees with the one
 /// that counts. Errs only when out of memory.
-pub fn unmet_text(
-    alloc: Global,
-    report: &ColumnReport,
-    want: &str,
-) -> Result<Option<String>, AllocError>
-    ensures { IfOk result (λ said. IsUnmetText (string_bytes report.now.column.name) (geometry_in report.now.finding) (facts_view report.now.facts) want.now (option_map string_bytes said)) }
+fn unlike_of(alloc: Global, report: &ColumnReport, want: &str) -> Result<Option<Unlike>, AllocError>
+    ensures { IfOk result (λ said. IsUnlike (column_tree report.now.column) (geometry_in report.now.finding) (facts_view report.now.facts) want.now (option_map unlike_view said)) }
 {
     let Some(geometry) = report.finding.geometry() else {
-        return Ok(Some(no_geometries(alloc, report.column.name.as_str())?));
+        let word = type_word(alloc, &report.column, None)?;
+        return Ok(Some(Unlike {
+            held: shown(alloc, word.as_str())?,
+            wanted: String::from_str(alloc, want)?,
+        }));
     };
     let parts = parts_of(alloc, want)?;
     unmet_part(
@@ -99,14 +143,6 @@ pub fn unmet_text(
     )
 }
 
-/// That a column holds no geometries.
-fn no_geometries(alloc: Global, name: &str) -> Result<String, AllocError>
-    ensures { IfOk result (λ text. string_bytes text ≡ no_geometries name.now) }
-{
-    let name = shown(alloc, name)?;
-    format!(in alloc; "column {name} holds no geometries")
-}
-
 /// The parts of an expectation.
 fn parts_of(alloc: Global, want: &str) -> Result<Vec<&str>, AllocError>
     ensures { IfOk result (λ parts. map (λ part. part.now) parts.items ≡ parts_of want.entry.now) }
@@ -114,21 +150,21 @@ fn parts_of(alloc: Global, want: &str) -> Result<Vec<&str>, AllocError>
     want.split(',').collect(alloc)
 }
 
-/// What is said of the first part that is not met.
+/// What a column holds beside the first part that is not met.
 fn unmet_part(
     alloc: Global,
     column: &SchemaColumn,
     geometry: &Geometry,
     facts: &ColumnFacts,
     parts: &[&str],
-) -> Result<Option<String>, AllocError>
-    ensures { IfOk result (λ said. IsUnmet (string_bytes column.now.name) geometry.now.kind (facts_view facts.now) (map (λ part. part.now) parts.entry.now) (option_map string_bytes said)) }
+) -> Result<Option<Unlike>, AllocError>
+    ensures { IfOk result (λ said. IsUnmet geometry.now.kind (facts_view facts.now) (map (λ part. part.now) parts.entry.now) (option_map unlike_view said)) }
 {
     for part in parts {
         let is_met = meets(alloc, geometry.kind, facts, part)?;
         if !is_met {
-            let text = unmet(alloc, column, geometry, facts, part)?;
-            return Ok(Some(text));
+            let unlike = unmet(alloc, column, geometry, facts, part)?;
+            return Ok(Some(unlike));
         }
     }
     Ok(None)
@@ -176,23 +212,24 @@ fn encoding_word(kind: Kind) -> &'static str
     }
 }
 
-/// What is said of a part that is not met.
+/// What a column holds beside a part that is not met.
 fn unmet(
     alloc: Global,
     column: &SchemaColumn,
     geometry: &Geometry,
     facts: &ColumnFacts,
     part: &str,
-) -> Result<String, AllocError>
-    ensures { IfOk result (λ text. string_bytes text ≡ unmet (string_bytes column.now.name) geometry.now.kind (facts_view facts.now) part.now) }
+) -> Result<Unlike, AllocError>
+    ensures { IfOk result (λ said. unlike_view said ≡ unmet geometry.now.kind (facts_view facts.now) part.now) }
 {
-    let name = shown(alloc, column.name.as_str())?;
-    let part = shown(alloc, part)?;
     let held = type_word(alloc, column, Some(geometry))?;
     let crs = crs_that_counts(alloc, facts)?;
     let crs = crs_or_none(crs.as_str());
     let edges = edges_that_count(alloc, facts)?;
-    format!(in alloc; "column {name} is not {part}: {held}, {crs}, {edges}")
+    Ok(Unlike {
+        held: format!(in alloc; "{held}, {crs}, {edges}")?,
+        wanted: String::from_str(alloc, part)?,
+    })
 }
 
 /// The name of a CRS, if it has one.

@@ -118,19 +118,34 @@ fn column_words(alloc: Global, text: &str) -> Result<Vec<String>, FileFault> {
     }
 }
 
-/// What is found of a file beside its columns, in words, notes among them.
+/// What is found of a file, in words, notes among them: of its columns, and of itself.
 fn file_words(alloc: Global, bytes: &[u8]) -> Result<Vec<String>, FileFault> {
     let report = report_of(alloc, open(alloc, bytes)?, NOTED)?;
-    Ok(words_of(alloc, report.findings.as_slice())?)
+    let mut words = Vec::new(alloc);
+    for column in &report.columns {
+        add_words(alloc, column.findings.as_slice(), &mut words)?;
+    }
+    add_words(alloc, report.findings.as_slice(), &mut words)?;
+    Ok(words)
 }
 
 /// Findings in words.
 fn words_of(alloc: Global, findings: &[Weighed<'_>]) -> Result<Vec<String>, AllocError> {
     let mut words = Vec::new(alloc);
+    add_words(alloc, findings, &mut words)?;
+    Ok(words)
+}
+
+/// Adds findings in words.
+fn add_words(
+    alloc: Global,
+    findings: &[Weighed<'_>],
+    words: &mut Vec<String>,
+) -> Result<(), AllocError> {
     for finding in findings {
         words.push(finding_words(alloc, finding)?)?;
     }
-    Ok(words)
+    Ok(())
 }
 
 /// What is said of the first column that some lines denote, with the notes.

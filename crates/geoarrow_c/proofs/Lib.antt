@@ -1,2 +1,4 @@
 mod Runs
 pub mod Made
+mod Compared
+mod Written

@@ -11,7 +11,7 @@ use Rattle.arrow_ipc.specs.Rooms.{schema_room}
 use Rattle.arrow_ipc.specs.Writes.{RefusesColumns}
 use Rattle.arrow_ipc.specs.declared.schema.Endianness.TheVariants.{Little}
 use Rattle.arrow_ipc.specs.declared.write.WriteError.{WriteError}
-use Rattle.column_files.specs.Files.{AreLinesRead}
+use Rattle.column_files.specs.Files.{AreLinesRead, IsOpened}
 use Rattle.column_files.specs.Forms.{IsForm}
 use Rattle.column_files.specs.declared.columns.FileFault.{FileFault}
 use Rattle.column_files.specs.declared.form.Form.{Form}
@@ -19,7 +19,7 @@ use Rattle.column_reports.specs.FileReport.{Reports}
 use Rattle.column_reports.specs.declared.report.Options.{Options}
 use Rattle.geoarrow_fields.specs.Lines.{Bytes}
 use Rattle.geoarrow_c.specs.Buffer.{Makes}
-use Rattle.geoarrow_c.specs.Refusals.{IsLineOfFile, IsLineOfSchema}
+use Rattle.geoarrow_c.specs.Refusals.{IsLineOfFile, IsLineOfSchema, IsUnopened}
 use Rattle.geoarrow_c.specs.Reports.{options_number, name_if, IsReport, IsRefusal}
 use Rattle.geoarrow_c.specs.Streams.{IsStream, IsUnwritten}
 
@@ -58,6 +58,10 @@ is_refusal {bytes = bytes} {line = line} {options = options} {form = form} {faul
 -- the schema of columns with these entries, of the byte order of little-endian
 abbrev pub of_entries : List ColumnTree → List (String Global × String Global) → SchemaTree
 of_entries columns entries = record { columns = columns; metadata = texts_of entries; endianness = Little }
+
+-- the line of a file that is not read
+pub is_unopened : {bytes line : Bytes} {form : Form} {fault : FileFault} → IsForm bytes form → IsOpened bytes (Err fault) → IsLineOfFile None form fault line → IsUnopened bytes line
+is_unopened {form = form} {fault = fault} has_form unread is = record { form = form; fault = fault; has_form = has_form; unread = unread; is = is }
 
 -- the stream of lines
 pub is_stream : {lines stream written : Bytes} (columns : Vec SchemaColumn Global) (entries : List (String Global × String Global)) → AreLinesRead lines (Ok columns) → entries ≡ []

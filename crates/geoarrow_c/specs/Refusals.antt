@@ -1,10 +1,12 @@
 -- Why bytes are refused, as a line (docs/FORMAT.md, 2.8).
-use Rattle.std.specs.Prelude.{◌≡◌, ◌≢◌, ◌++◌, Bool, true, false, Option, codes}
+use Rattle.std.specs.Prelude.{◌≡◌, ◌≢◌, ◌++◌, Bool, true, false, Option, None, Err, codes}
 use Rattle.arrow_values.specs.Tree.{Text}
 use Rattle.arrow_ipc.specs.declared.fault.IpcError.{IpcError}
 use Rattle.arrow_ipc.specs.declared.fault.IpcError.TheVariants as messages
 use Rattle.arrow_ipc.specs.declared.write.WriteError.{WriteError}
 use Rattle.arrow_ipc.specs.declared.write.WriteError.TheVariants as writes
+use Rattle.column_files.specs.Files.{IsOpened}
+use Rattle.column_files.specs.Forms.{IsForm}
 use Rattle.column_files.specs.Refusals.{Told, file_told, write_told}
 use Rattle.column_files.specs.declared.columns.FileFault.{FileFault}
 use Rattle.column_files.specs.declared.columns.FileFault.TheVariants as files
@@ -30,6 +32,14 @@ line_of file t = fault_line file 0 t ++ codes "\n"
 pub record IsLineOfFile (file : Option Text) (form : Form) (fault : FileFault) (line : Bytes) : Type 0 where
   pub has_memory : lacks_memory fault ≡ false
   pub is : line ≡ line_of file (file_told form fault)
+
+-- the line says why the file of these bytes is not read; it gives it no name
+pub record IsUnopened (bytes line : Bytes) : Type 0 where
+  pub form : Form
+  pub fault : FileFault
+  pub has_form : IsForm bytes form
+  pub unread : IsOpened bytes (Err fault)
+  pub is : IsLineOfFile None form fault line
 
 -- the line says why a schema is not written, not for lack of memory
 pub record IsLineOfSchema (file : Option Text) (error : WriteError) (line : Bytes) : Type 0 where

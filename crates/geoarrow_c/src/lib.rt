@@ -4,12 +4,16 @@
 
 mod answers;
 mod buffer;
+mod canonical;
 mod refusal;
 mod report;
+mod same;
 mod schema;
 mod status;
 
 pub use answers::{geoarrow_answer, geoarrow_run};
+pub use canonical::geoarrow_canonical;
 pub use report::geoarrow_report;
+pub use same::geoarrow_same;
 pub use schema::geoarrow_write_schema;
 pub use status::geoarrow_version;

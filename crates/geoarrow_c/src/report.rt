@@ -13,7 +13,7 @@ use column_reports::{Options, report_file};
 use std::alloc::Global;
 
 /// The options of a number: 1 for types that are inferred, and 2 for notes.
-fn options_of(number: u8) -> Option<Options>
+pub(crate) fn options_of(number: u8) -> Option<Options>
     ensures { MatchOption result (3 < number) (λ options. (number ≡ options_number options) × (number ≤ 3)) }
 {
     match number {
@@ -33,7 +33,7 @@ fn options_with(infer: bool, notes: bool) -> Options
 }
 
 /// The name of a file, if it has one.
-fn name_if(name: &str) -> Option<&str>
+pub(crate) fn name_if(name: &str) -> Option<&str>
     ensures { text_of result ≡ name_if name.now }
 {
     if name.is_empty() { None } else { Some(name) }

@@ -1,12 +1,15 @@
 //! The program: says what each column of the files that it is given holds, in a table or as lines of JSON.
 #![tactic(auto)]
 
+mod command_line;
 mod sources;
 
 use check_options::{Said, Terminal, asked_by};
 use column_files::{Form, ReadFault};
+use command_line::CommandLine;
 use file_check::{
-    Asked, Tally, begin_output, check_file, check_source, compare_columns, end_output, refuse,
+    Asked, Tally, begin_output, check_file, check_source, compare_columns, end_file, end_output,
+    refuse,
 };
 use sources::Sources;
 use std::io::{ErrorKind, IsTerminal, Write};
@@ -59,17 +62,23 @@ fn known_of_output(rt: &HostRuntime) -> Terminal {
 
 /// Does what the words ask. The status is that so far, also where it errs.
 fn run(rt: &HostRuntime, status: &mut u8) -> io::Result<()> {
-    let words: Vec<String> = env::args(rt)?.skip(1).collect(rt.alloc())?;
-    match asked_by(rt.alloc(), words.as_slice(), known_of_output(rt))? {
-        Ok(asked) => check_words(rt, asked, status),
+    let line = CommandLine::of(rt)?;
+    match asked_by(rt.alloc(), line.words.as_slice(), known_of_output(rt))? {
+        Ok(asked) => check_words(rt, asked, line.not_text.as_slice(), status),
         Err(said) => say(rt, &said, status),
     }
 }
 
-/// Reports the files that the words stand for.
-fn check_words(rt: &HostRuntime, asked: Asked, status: &mut u8) -> io::Result<()> {
+/// Reports the files that the words stand for. A word that is not UTF-8 names no file that can be
+/// opened.
+fn check_words(
+    rt: &HostRuntime,
+    asked: Asked,
+    not_text: &[String],
+    status: &mut u8,
+) -> io::Result<()> {
     let mut asked = asked;
-    let mut sources = Sources::of(rt, asked.files.as_slice())?;
+    let mut sources = Sources::of(rt, asked.files.as_slice(), not_text)?;
     if asked.flags.ipc && sources.files.len() != 1 {
         *status = 2;
         return eprintln!(rt; "geoarrow_check: --ipc takes one file");
@@ -95,8 +104,8 @@ fn check_all(
         };
         *status = read.max(*status);
         let read = compare(rt, name, asked, &mut tally)?.max(read);
-        tally.add_status(read);
         *status = read.max(*status);
+        end_file(rt.alloc(), asked, name, &mut tally, read, &mut rt.stdout())?;
     }
     end_output(rt.alloc(), asked, &tally, *status, &mut rt.stdout())
 }

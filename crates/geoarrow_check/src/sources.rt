@@ -1,6 +1,7 @@
 //! The files that words on the command line stand for.
 use check_options::{is_left_out, is_taken, put_in_order};
 use std::fs::DirEntry;
+use std::io::ErrorKind;
 use std::{fs, io, mem};
 
 /// The files that are to be reported.
@@ -8,14 +9,14 @@ use std::{fs, io, mem};
 pub(crate) struct Sources {
     /// Their names, and those of folders that are not listed.
     pub(crate) files: Vec<String>,
-    /// Why folders are not listed.
-    unlisted: Vec<Unlisted>,
+    /// Why names are not opened.
+    unopened: Vec<Unopened>,
 }
 
-/// A folder that is not listed, or not all of it.
+/// A folder that is not listed, or not all of it, or a name that is not UTF-8.
 #[derive(Drop)]
-struct Unlisted {
-    folder: String,
+struct Unopened {
+    name: String,
     error: io::Error,
 }
 
@@ -28,15 +29,22 @@ struct Found {
 
 impl Sources {
     /// Returns the files that words stand for: a folder for its files that are taken, down all
-    /// folders, in the order of their bytes; any other word for itself. Errs only when out of
-    /// memory.
-    pub(crate) fn of(rt: &HostRuntime, words: &[String]) -> io::Result<Sources> {
+    /// folders, in the order of their bytes; any other word for itself, one that is not UTF-8 for
+    /// a file that is not opened. Errs only when out of memory.
+    pub(crate) fn of(
+        rt: &HostRuntime,
+        words: &[String],
+        not_text: &[String],
+    ) -> io::Result<Sources> {
         let mut sources = Sources {
             files: Vec::new(rt.alloc()),
-            unlisted: Vec::new(rt.alloc()),
+            unopened: Vec::new(rt.alloc()),
         };
         for word in words {
-            if is_folder(rt, word.as_str()) {
+            if not_text.iter().any(|it| it.as_str() == word.as_str()) {
+                let error = io::Error::from(ErrorKind::InvalidFilename);
+                sources.add_unopened(rt, word.as_str(), error)?;
+            } else if is_folder(rt, word.as_str()) {
                 sources.add_below(rt, word.as_str())?;
             } else {
                 sources
@@ -45,6 +53,14 @@ impl Sources {
             }
         }
         Ok(sources)
+    }
+
+    /// Adds a name that is not opened.
+    fn add_unopened(&mut self, rt: &HostRuntime, name: &str, error: io::Error) -> io::Result<()> {
+        self.files.push(String::from_str(rt.alloc(), name)?)?;
+        let name = String::from_str(rt.alloc(), name)?;
+        self.unopened.push(Unopened { name, error })?;
+        Ok(())
     }
 
     /// Adds the files of a folder, and the folders in it that are not listed.
@@ -62,7 +78,10 @@ impl Sources {
                 found
                     .files
                     .push(String::from_str(rt.alloc(), folder.as_str())?)?;
-                self.unlisted.push(Unlisted { folder, error })?;
+                self.unopened.push(Unopened {
+                    name: folder,
+                    error,
+                })?;
             }
         }
         put_in_order(&mut found.files)?;
@@ -75,13 +94,13 @@ impl Sources {
         mem::replace(&mut self.files, Vec::new(rt.alloc()))
     }
 
-    /// Takes why a name stands for a folder that is not listed, if it does.
+    /// Takes why a name is not opened, if it is not.
     pub(crate) fn take_error(&mut self, name: &str) -> Option<io::Error> {
         let place = self
-            .unlisted
+            .unopened
             .iter()
-            .position(|it| it.folder.as_str() == name)?;
-        Some(self.unlisted.remove(place).error)
+            .position(|it| it.name.as_str() == name)?;
+        Some(self.unopened.remove(place).error)
     }
 }
 

@@ -6,3 +6,4 @@ mod Layouts
 mod Extension
 mod OneAnswer
 mod Canon
+mod Outcomes

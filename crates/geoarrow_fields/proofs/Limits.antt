@@ -4,7 +4,8 @@ use Rattle.std.proofs.lemmas.Bool.{ne_eqb, cases_eq}
 use Rattle.std.proofs.lemmas.List.{get_or_append_left, get_or_at}
 use Rattle.std.proofs.lemmas.List.Elements.{All-nil, All-cons, All-head, All-tail, All-append, All-push, All-drop}
 use Rattle.std.proofs.Math.Seq.{drop-append_seam}
-use Rattle.geoarrow_fields.proofs.Terms.{Bytes, lines_of, ended_lines, line_feed, IsLine, IsSplit, max_lines, max_line_bytes, IsWithinLimits, IsPastLimit, Stops, IsAt}
+use Rattle.std.specs.Prelude.{codes}
+use Rattle.geoarrow_fields.proofs.Terms.{Command, InputFault, AnswersUntil, Means, Bytes, lines_of, ended_lines, line_feed, IsLine, IsSplit, max_lines, max_line_bytes, IsWithinLimits, IsPastLimit, Stops, IsAt}
 
 -- ---- an input and its lines
 
@@ -180,3 +181,30 @@ never_both input within passes = inside (split_every passes.later) passes.cause
     inside ([], byte ∷ bytes, split, is) =
         let fits = next_fits passes.lines (byte ∷ bytes) [] (lines _ (ap lines_of split.joined ∙ lines_of-last (byte ∷ bytes) is (omega arith))) in
         begun_inside _ _ (λ some. fits.0) (rw split.joined fits.1)
+
+-- ---- past a limit, where more comes
+
+past_longer : (count : ℕ) (later more : Bytes) → IsPastLimit count later → IsPastLimit count (later ++ more)
+past_longer count later more (inl (many, some)) = inl (many, omega (arith, some, length-append later more))
+past_longer count later more (inr long) = inr (record {
+  begun = long.begun;
+  rest = long.rest ++ more;
+  joined = ap (λ l. l ++ more) long.joined ∙ append_assoc long.begun long.rest more;
+  line = long.line;
+  long = long.long;
+})
+
+abbrev stops_past : (input more : Bytes) → Stops IsPastLimit input → Stops IsPastLimit (input ++ more)
+stops_past input more stop = record {
+  lines = stop.lines;
+  later = stop.later ++ more;
+  split = record { joined = ap (λ l. l ++ more) stop.split.joined ∙ append_assoc (ended_lines stop.lines) stop.later more; each = stop.split.each };
+  within = stop.within;
+  cause = past_longer (length stop.lines) stop.later more stop.cause;
+}
+
+pub fault_longer : (command : Command) (input more output : Bytes) → AnswersUntil IsPastLimit command (codes "error input\n") input output
+    → Means command InputFault (input ++ more) output
+fault_longer command input more output (stop, answered) =
+    let longer = stops_past input more stop in
+    (record { lines = longer.lines; later = longer.later; split = longer.split; within = longer.within; cause = inl longer.cause }, answered)

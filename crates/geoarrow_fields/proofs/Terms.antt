@@ -38,9 +38,9 @@ pub use Rattle.geoarrow_fields.specs.declared.Command.{Command}
 pub use Rattle.geoarrow_fields.specs.declared.Command.TheVariants.{Canon, Columns, Infer, Read}
 pub use Rattle.geoarrow_fields.specs.declared.RunEnd.{RunEnd}
 pub use Rattle.geoarrow_fields.specs.declared.RunEnd.TheVariants.{Done, InputFault, Memory, OutputFault}
-pub use Rattle.geoarrow_fields.specs.Lines.{Bytes, IsLine, IsPastLimit, IsSplit, IsWithinLimits, Stops, ended_lines, line_feed, lines_of, max_line_bytes, max_lines}
+pub use Rattle.geoarrow_fields.specs.Lines.{Bytes, IsBegunLine, IsLine, IsPastLimit, IsSplit, IsWithinLimits, Stops, ended_lines, line_feed, lines_of, max_line_bytes, max_lines}
 unfoldable pub use Rattle.geoarrow_fields.specs.Answer.{Answered, Answers}
-pub use Rattle.geoarrow_fields.specs.Answer.{AnswersField, AnswersNoType, AnswersUntil, Means, ReadsAndWrites, RunsTo, column_text, error_text, inferred_text, type_text}
+pub use Rattle.geoarrow_fields.specs.Answer.{AnswersField, AnswersNoType, AnswersUntil, AppendsSome, FrontOf, IsCutOff, Means, ReadsAndWrites, RunsTo, column_text, error_text, inferred_text, type_text}
 pub use Rattle.geoarrow_fields.specs.declared.output.Fault.{Fault}
 pub use Rattle.geoarrow_fields.specs.declared.output.Fault.TheVariants.{Input, Memory as NoMemory, Output}
-pub use Rattle.geoarrow_fields.specs.Progress.{AnswersLine, AppendsSome, Breaks, FrontOf, HasCome, IsAt, IsCause, IsMeant, IsStopped}
+pub use Rattle.geoarrow_fields.specs.Progress.{AnswersLine, Breaks, HasCome, IsAt, IsCause, IsMeant, IsStopped, Moves, Passes}

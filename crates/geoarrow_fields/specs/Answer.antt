@@ -21,7 +21,7 @@ use Rattle.geoarrow_fields.specs.declared.Command.{Command}
 use Rattle.geoarrow_fields.specs.declared.Command.TheVariants.{Read, Infer, Canon, Columns}
 use Rattle.geoarrow_fields.specs.declared.RunEnd.{RunEnd}
 use Rattle.geoarrow_fields.specs.declared.RunEnd.TheVariants.{Done, InputFault, Memory, OutputFault}
-use Rattle.geoarrow_fields.specs.Lines.{Bytes, line_feed, lines_of, IsLine, IsWithinLimits, IsPastLimit, Stops}
+use Rattle.geoarrow_fields.specs.Lines.{Bytes, line_feed, lines_of, IsBegunLine, IsWithinLimits, IsPastLimit, Stops}
 
 -- a type: kind, coordinate type, dimension and the text of its metadata
 abbrev pub type_text : GeoArrowType → Bytes
@@ -81,12 +81,20 @@ abbrev pub AnswersUntil : (ℕ → Bytes → Type 0) → Command → Bytes → B
 AnswersUntil Cause command last input output = (stop : Stops Cause input) × Answered command last stop.lines output
 
 -- what a run that ends so means to write for an input: the answers to all its lines; to those up to what is past a limit, or as
--- far as they came whole; to those up to one that is past no limit; to some first ones. All of these are within the limits
+-- far as they came whole, before a line that is begun; to those up to one that is past no limit; to some first ones. All of these are within the limits
 abbrev pub Means : Command → RunEnd → Bytes → Bytes → Type 0
 Means command Done input output = IsWithinLimits (lines_of input) × Answered command [] (lines_of input) output
-Means command InputFault input output = AnswersUntil (λ count later. IsPastLimit count later ⊎ IsLine later) command (codes "error input\n") input output
+Means command InputFault input output = AnswersUntil (λ count later. IsPastLimit count later ⊎ IsBegunLine later) command (codes "error input\n") input output
 Means command Memory input output = AnswersUntil (λ count later. ¬ IsPastLimit count later) command (codes "error memory\n") input output
 Means command OutputFault input output = AnswersUntil (λ count later. ⊤) command [] input output
+
+-- known bytes grow by an output of this kind
+abbrev pub AppendsSome : (Bytes → Type 0) → Option Bytes → Option Bytes → Type 0
+AppendsSome Form old new = (output : Bytes) × Form output × Appends old new output
+
+-- a front part of an output of this kind
+abbrev pub FrontOf : (Bytes → Type 0) → Bytes → Type 0
+FrontOf Form front = (back : Bytes) × Form (front ++ back)
 
 -- some bytes were read, and an output of this kind for them was written
 pub record ReadsAndWrites (Output : Bytes → Bytes → Type 0) (in_old in_new out_old out_new : Option Bytes) : Type 0 where
@@ -96,9 +104,14 @@ pub record ReadsAndWrites (Output : Bytes → Bytes → Type 0) (in_old in_new o
   pub written : Appends out_old out_new output
   pub is : Output input output
 
+-- a front part of what is meant at that end is written for some input, which at `Done` is the whole one
+abbrev pub IsCutOff : Command → (in_old in_new out_old out_new : Option Bytes) → RunEnd → Type 0
+IsCutOff command i j o p meant =
+    (meant ≡ Done → IsAtEnd j) × ReadsAndWrites (λ input front. (back : Bytes) × Means command meant input (front ++ back)) i j o p
+
 -- a run of the command that ended so has read and written that; where the writer failed, a front part of what it meant to
 -- write, at this end or at another
 abbrev pub RunsTo : Command → RunEnd → (in_old in_new out_old out_new : Option Bytes) → Type 0
 RunsTo command Done i j o p = ReadsAndWrites (Means command Done) i j o p × IsAtEnd j
-RunsTo command OutputFault i j o p = (meant : RunEnd) × ReadsAndWrites (λ input front. (back : Bytes) × Means command meant input (front ++ back)) i j o p
+RunsTo command OutputFault i j o p = (meant : RunEnd) × IsCutOff command i j o p meant
 RunsTo command end i j o p = ReadsAndWrites (Means command end) i j o p

@@ -39,6 +39,10 @@ pub record BeginsTooLong (bytes : Bytes) : Type 0 where
   pub line : IsLine begun
   pub long : max_line_bytes < length begun
 
+-- a line that is begun: no line feed has come, and no more bytes than a line may have
+abbrev pub IsBegunLine : Bytes → Type 0
+IsBegunLine bytes = IsLine bytes × (length bytes ≤ max_line_bytes)
+
 -- what comes after `count` lines is past a limit: a byte of a line too many, or a line that is too long
 abbrev pub IsPastLimit : ℕ → Bytes → Type 0
 IsPastLimit count later = ((count ≡ max_lines) × (0 < length later)) ⊎ BeginsTooLong later

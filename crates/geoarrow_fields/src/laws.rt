@@ -1,5 +1,5 @@
 //! Laws of the answers: functions with nothing to run, whose contract is the law.
-ghost use Rattle.std.specs.Prelude.{◌≡◌, List, length, Some};
+ghost use Rattle.std.specs.Prelude.{◌≡◌, ◌++◌, List, length, Some, codes};
 ghost use Rattle.arrow_values.specs.Tree.{FieldTree};
 ghost use Rattle.geoarrow_layout.specs.declared.native_kinds.Kind.{Kind};
 ghost use Rattle.geoarrow_layout.specs.Layouts.{layout};
@@ -15,9 +15,9 @@ ghost use Rattle.field_lines.specs.Line.{field_of_line, line_of_field};
 ghost use Rattle.field_lines.specs.LineForm.{HasLineForm};
 ghost use Rattle.geoarrow_fields.specs.declared.Command.{Command};
 ghost use Rattle.geoarrow_fields.specs.declared.Command.TheVariants.{Read, Canon};
-ghost use Rattle.geoarrow_fields.specs.declared.RunEnd.TheVariants.{Done};
-ghost use Rattle.geoarrow_fields.specs.Lines.{Bytes, lines_of, IsLine};
-ghost use Rattle.geoarrow_fields.specs.Answer.{Answers, Means, SameReport};
+ghost use Rattle.geoarrow_fields.specs.declared.RunEnd.TheVariants.{Done, InputFault};
+ghost use Rattle.geoarrow_fields.specs.Lines.{Bytes, lines_of, IsLine, IsPastLimit};
+ghost use Rattle.geoarrow_fields.specs.Answer.{Answers, AnswersUntil, Means, SameReport};
 
 use field_lines::laws::{
     held_reads_back, line_reads_back, put_is_held, read_field_is_held, read_is_held,
@@ -85,3 +85,12 @@ pub fn answer_is_unique()
 {
     one_kind();
 }
+
+/// A law: where an input exceeds a limit, what is written for it is written for each input that
+/// begins so, in whatever pieces it is read and however far. There is nothing to run.
+#[tactic(auto, using(crate::proofs::Limits::fault_longer))]
+pub fn past_limit_in_any_chunks()
+    ensures { (command : Command) (input more output : Bytes)
+        → AnswersUntil IsPastLimit command (codes "error input\n") input output
+        → Means command InputFault (input ++ more) output }
+{}

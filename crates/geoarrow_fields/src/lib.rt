@@ -7,6 +7,7 @@ pub mod equality_laws;
 pub mod laws;
 mod lines;
 mod output;
+mod program;
 mod reading;
 mod words;
 
@@ -14,6 +15,7 @@ pub use answer::answer_line;
 pub use arguments::{command_of, serve, status_of};
 pub use geoarrow_layout::{coord_type_word, dimension_word, kind_word};
 pub use lines::{is_within_limits, keeps_limits_or_passes_one, splits_at_line_feeds};
+pub use program::{Outcome, ProgramEnd, answer_all, answer_bytes, exit_status};
 pub use reading::run;
 
 /// What is asked about the field of each line.

@@ -1,5 +1,5 @@
 //! The loop that reads an input, answers its lines and ends.
-ghost use Rattle.std.specs.Prelude.{◌≡◌, ◌<◌, ◌≤◌, [], IfOk, OnOk, IfErr, OnSome};
+ghost use Rattle.std.specs.Prelude.{◌≡◌, ◌<◌, ◌≤◌, [], IfOk, OnOk, IfErr, OnSome, string_bytes};
 ghost use Rattle.std.specs.Io.KnownBytes.{IsAtEnd};
 ghost use Rattle.line_reader.specs.Lines.{held, passed, HasLine, IsUnfinished};
 ghost use Rattle.line_reader.specs.Sources.{ReadsOn};
@@ -53,17 +53,19 @@ fn hold_next<R: Read>(lines: &mut LineBuffer, reader: &mut R) -> Result<Option<u
     }
 }
 
-/// Answers the lines of the reader, up to its end.
+/// Answers the lines of the reader, up to its end. The last answers are held, and not written.
 fn answer_lines<R: Read, W: Write>(
     alloc: Global,
     command: Command,
     reader: &mut R,
+    held: &mut String,
     writer: &mut W,
 ) -> Result<(), Fault>
-    ensures done { OnOk result (IsMeant command RunEnd.Done []
+    requires { string_bytes held.old ≡ [] }
+    ensures done { OnOk result (IsMeant command RunEnd.Done (string_bytes held.new)
         (R.remaining reader.old) (R.remaining reader.new) (W.contents writer.old) (W.contents writer.new)) }
     ensures end { OnOk result (IsAtEnd (R.remaining reader.new)) }
-    ensures err { IfErr result (λ fault. IsStopped command fault
+    ensures err { IfErr result (λ fault. IsStopped command fault (string_bytes held.new)
         (R.remaining reader.old) (R.remaining reader.new) (W.contents writer.old) (W.contents writer.new)) }
 {
     let mut lines = LineBuffer::new(Vec::new(alloc));
@@ -72,19 +74,19 @@ fn answer_lines<R: Read, W: Write>(
         let Some(len) = hold_next(&mut lines, reader)? else {
             return Ok(());
         };
-        write_answer(alloc, command, lines.line(len), &mut scratch, writer)?;
+        write_answer(alloc, command, lines.line(len), &mut scratch, held, writer)?;
         if !lines.pass_line(len) {
             return Ok(());
         }
     }
 }
 
-/// Reads lines, each up to a line feed or the end, and writes the answer to each with a line feed after it. Returns how
-/// the run ended: `Done` at the reader's end.
+/// Reads lines, each up to a line feed or the end, and writes the answer to each with a line feed after it, some 65,536
+/// bytes at a time. Returns how the run ended: `Done` at the reader's end.
 ///
 /// `InputFault` is returned for any error of the reader but a signal, at which it is tried again, and for an input that
 /// exceeds a limit (docs/FORMAT.md, 2.3); `Memory` when out of memory. The line that is not finished then has no answer: `error input` or `error memory` is
-/// written instead, and the answers before it stay. `OutputFault` is returned for any error of the writer, or if it
+/// written instead, and the answers before it stay. `OutputFault` is returned for any error of the writer but a signal, or if it
 /// accepts no bytes; nothing more is written.
 pub fn run<R: Read, W: Write>(
     alloc: Global,
@@ -95,10 +97,16 @@ pub fn run<R: Read, W: Write>(
     ensures { RunsTo command result (R.remaining reader.old) (R.remaining reader.new)
         (W.contents writer.old) (W.contents writer.new) }
 {
-    match answer_lines(alloc, command, reader, writer) {
-        Ok(()) => finish(writer, b"", RunEnd::Done),
-        Err(Fault::Input) => finish(writer, b"error input\n", RunEnd::InputFault),
-        Err(Fault::Memory) => finish(writer, b"error memory\n", RunEnd::Memory),
+    let mut held = String::new(alloc);
+    match answer_lines(alloc, command, reader, &mut held, writer) {
+        Ok(()) => finish(writer, held.as_bytes(), b"", RunEnd::Done),
+        Err(Fault::Input) => finish(
+            writer,
+            held.as_bytes(),
+            b"error input\n",
+            RunEnd::InputFault,
+        ),
+        Err(Fault::Memory) => finish(writer, held.as_bytes(), b"error memory\n", RunEnd::Memory),
         Err(Fault::Output) => RunEnd::OutputFault,
     }
 }

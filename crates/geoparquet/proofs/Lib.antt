@@ -17,3 +17,4 @@ pub mod FactLists
 pub mod CountingSources
 pub mod Answered
 pub mod Grouped
+pub mod Worded

@@ -1,5 +1,5 @@
 -- `bbox`: as many numbers as the version takes, in order, and of the dimension of the types (docs/FORMAT.md, 5).
-use Rattle.std.specs.Prelude.{◌&&◌, ◌||◌, ◌==◌, not, Bool, true, false, List, [], ◌∷◌, ◌++◌, ℕ, Option, None, Some, codes, length, is_some, option_and_then, if◌then◌else◌}
+use Rattle.std.specs.Prelude.{◌&&◌, ◌||◌, ◌==◌, not, Bool, true, false, List, [], ◌∷◌, ◌++◌, ℕ, Option, None, Some, codes, length, is_some, option_and_then, unwrap_or, if◌then◌else◌}
 use Rattle.std.specs.Float.{binary64}
 use Rattle.std.specs.Float.Ieee.{Float, lt}
 use Rattle.std.specs.Float.Parse.{parse_float}
@@ -13,8 +13,8 @@ use Rattle.geoarrow_layout.specs.declared.dimensions.Dimension.{Dimension}
 use Rattle.geoarrow_layout.specs.declared.native_kinds.NativeKind.{NativeKind}
 use Rattle.geoparquet.specs.Counting.{crs_that_counts, is_projected}
 use Rattle.geoparquet.specs.Sources.{Element}
-use Rattle.geoparquet.specs.Findings.{Finding, item_place}
-use Rattle.geoparquet.specs.Rules.{found_at, part_place, part_finding, unless, items_in, items_findings}
+use Rattle.geoparquet.specs.Findings.{Finding, item_place, shown, shown_value}
+use Rattle.geoparquet.specs.Rules.{found_at, part_place, part_finding, told_at, unless, items_in, items_findings}
 use Rattle.geoparquet.specs.TypeNames.{has_z}
 use Rattle.geoparquet.specs.TypeRules.{type_of, types_in}
 use Rattle.geoparquet.specs.Versions.{is_judged}
@@ -79,10 +79,20 @@ is_less _ _ = false
 abbrev pub is_in_order : Json → Json → Bool
 is_in_order least greatest = not (is_less (float_of greatest) (float_of least))
 
--- what is found of the least bound of an axis, which is the item of that number, where the greatest is less
+-- both bounds of an axis, of which the least is the item of that number
+abbrev pub axis_name : ℕ → Text
+axis_name index = if index == 0 then codes "x" else if index == 1 then codes "y" else if index == 2 then codes "z" else codes "m"
+
+abbrev pub bounds_text : Text → Text → Text → Text
+bounds_text axis least greatest = axis ++ (codes "min " ++ (least ++ (codes ", " ++ (axis ++ (codes "max " ++ greatest)))))
+
+abbrev pub bounds_shown : ℕ → Json → Json → Text
+bounds_shown index least greatest = shown (bounds_text (axis_name index) (shown_value least) (unwrap_or (as_number greatest) []))
+
+-- what is found of the least bound of an axis, where the greatest is less
 abbrev pub bound_finding : Text → ℕ → Json → Json → Finding
 bound_finding key index least greatest =
-    found_at BboxOrder (Some key) (item_place (box_place key) index) (Some least) (as_number greatest)
+    told_at BboxOrder (Some key) (item_place (box_place key) index) (Some (bounds_shown index least greatest)) (as_number greatest)
 
 abbrev pub bound_findings : Text → ℕ → Json → Json → List Finding
 bound_findings key index least greatest = unless (is_in_order least greatest) (bound_finding key index least greatest)

@@ -24,6 +24,7 @@ use Rattle.geoparquet.specs.TypeNames.{type_text}
 use Rattle.geoparquet.specs.TypeRules.{types_in, type_of, is_text}
 use Rattle.geoparquet.specs.Values.{geo_value}
 use Rattle.geoparquet.specs.declared.layout.Layout.{Layout}
+use Rattle.geoparquet.specs.declared.pairs.Defaults.{Defaults}
 use Rattle.geoparquet.specs.declared.layout.Layout.TheVariants.{Native}
 use Rattle.geoparquet.specs.declared.code.GeoCode.TheVariants.{Layout as NoLayout, TypesContradict, EncodingContradicts, EdgesContradict}
 use Rattle.geoparquet.specs.declared.finding.Version.{Version}
@@ -122,14 +123,17 @@ field_encoding (Some e) c = encoding_beside e.claim c
 abbrev pub layout_encoding : Version → Option ColumnTree → Option Element → Json → Option Text
 layout_encoding version c e j = if is_some (stored_layout version c e j) then encoding_of version j else None
 
+-- no encoding is a default
+abbrev pub no_defaults : Defaults
+no_defaults = record { element = false; field = false; geo = false }
+
 -- two of the element, the field and `encoding` say two
-abbrev pub encodings_findings : Text → Option Json → Option ColumnTree → Option Element → Option Text → List Finding
-encodings_findings key found c e said =
-    text_findings EncodingContradicts key (codes "encoding") found (element_encoding e) (field_encoding e c) said
+abbrev pub encodings_findings : Text → Option ColumnTree → Option Element → Option Text → List Finding
+encodings_findings key c e said =
+    text_findings EncodingContradicts key (codes "encoding") no_defaults (element_encoding e) (field_encoding e c) said
 
 abbrev pub encoding_contradicts_findings : Version → Text → Option ColumnTree → Option Element → Json → List Finding
-encoding_contradicts_findings version key c e j =
-    encodings_findings key (get (codes "encoding") j) c e (layout_encoding version c e j)
+encoding_contradicts_findings version key c e j = encodings_findings key c e (layout_encoding version c e j)
 
 -- ---- the edges
 
@@ -225,10 +229,21 @@ abbrev pub field_edges : Option Element → Data → Option Text
 field_edges None d = own_edges d
 field_edges (Some e) d = edges_beside e.claim d
 
+-- whether extension metadata have no edges, or null
+abbrev pub are_absent : Option Data → Bool
+are_absent None = true
+are_absent (Some own.null) = true
+are_absent (Some d) = false
+
+-- which edges are the default, by the element, the metadata of the field and the value at `edges` of the member
+abbrev pub default_edges : Option Element → Data → Option Json → Defaults
+default_edges e field found =
+    record { element = are_default_edges e; field = are_absent (get_data (codes "edges") field); geo = not (is_some found) }
+
 -- two of the element, the field and `edges` say two
 abbrev pub edges_claims_findings : Text → Option Json → Option ColumnTree → Option Element → Option Text → List Finding
 edges_claims_findings key found c e said =
-    text_findings EdgesContradict key (codes "edges") found (element_edges e (element_metadata e c)) (field_edges e (own_metadata c)) said
+    text_findings EdgesContradict key (codes "edges") (default_edges e (own_metadata c) found) (element_edges e (element_metadata e c)) (field_edges e (own_metadata c)) said
 
 abbrev pub edges_contradict_findings : Version → Text → Option ColumnTree → Option Element → Json → List Finding
 edges_contradict_findings version key c e j =

@@ -1,6 +1,6 @@
 -- The CRS and the edges that count: by which a column is judged where its element, its member and its field say some (docs/FORMAT.md, 5).
-use Rattle.std.specs.Prelude.{[], ◌&&◌, ◌||◌, is_some, Bool, true, false, not, List, codes, bytes_eq, Option, None, Some, if◌then◌else◌}
-use Rattle.json.specs.Json.{Json, string}
+use Rattle.std.specs.Prelude.{[], ◌∷◌, ◌++◌, ◌&&◌, is_some, Bool, true, false, List, codes, bytes_eq, Option, None, Some, if◌then◌else◌}
+use Rattle.json.specs.Json.{Json}
 use Rattle.json.specs.Find.{get}
 use Rattle.arrow_values.specs.Tree.{Text}
 use Rattle.arrow_columns.specs.Types.{ColumnTree}
@@ -10,8 +10,9 @@ use Rattle.crs_identity.specs.declared.class.Class.TheVariants as classes
 use Rattle.geoparquet.specs.Contradictions.{element_metadata, own_metadata}
 use Rattle.geoparquet.specs.CrsClaims.{element_crs, element_json, field_json, own_crs_in, said_crs}
 use Rattle.geoparquet.specs.EdgesClaims.{EdgesOf, edges_fact_in}
+use Rattle.geoparquet.specs.CrsWords.{crs_word}
 use Rattle.geoparquet.specs.Findings.{Finding}
-use Rattle.geoparquet.specs.Rules.{found_at, found_in, part_place, unless}
+use Rattle.geoparquet.specs.Rules.{part_place, told_at, told_in}
 use Rattle.geoparquet.specs.Sources.{Element}
 use Rattle.geoparquet.specs.Versions.{is_judged}
 use Rattle.geoparquet.specs.declared.code.GeoCode.TheVariants.{EdgesOnProjected}
@@ -62,6 +63,15 @@ abbrev pub is_asked : Asked → Option Claimed → Bool
 is_asked Projected crs = is_projected crs
 is_asked Paired crs = is_paired crs
 
+-- the name of one of which that holds; of what has an identifier of the table no more than that
+abbrev pub word_if : Bool → Text → Option Text
+word_if holds word = if holds then Some word else None
+
+abbrev pub asked_word : Asked → Option Claimed → Option Text
+asked_word asked None = None
+asked_word Projected (Some c) = word_if (is_projected_class (class_said c.crs)) (crs_word c.crs)
+asked_word Paired (Some c) = word_if (has_paired (form_said c.crs)) []
+
 -- of a member that says a CRS, a default included; one that says a broken CRS is not judged
 abbrev pub is_paired_by : Option Element → Option Json → Option Json → Option Claimed → Bool
 is_paired_by e element field said = is_some said && is_paired (crs_counting e element field said)
@@ -74,24 +84,31 @@ is_crs_paired version c e j =
 
 -- the finding of edges: of those of a member at their place there, of any others in what the element or the field says
 abbrev pub member_edges_finding : Text → Text → Finding
-member_edges_finding key s = found_at EdgesOnProjected (Some key) (part_place key (codes "edges")) (Some (string s)) None
+member_edges_finding key word = told_at EdgesOnProjected (Some key) (part_place key (codes "edges")) (Some word) None
 
 abbrev pub own_edges_finding : FactSource → Text → Text → Finding
-own_edges_finding source key s = found_in source EdgesOnProjected key (Some (string s)) None
+own_edges_finding source key word = told_in source EdgesOnProjected key (Some word) None
 
 abbrev pub edges_finding : Text → FactSource → Text → Finding
-edges_finding key of.Geo s = member_edges_finding key s
-edges_finding key of.Element s = own_edges_finding of.Element key s
-edges_finding key of.Field s = own_edges_finding of.Field key s
+edges_finding key of.Geo word = member_edges_finding key word
+edges_finding key of.Element word = own_edges_finding of.Element key word
+edges_finding key of.Field word = own_edges_finding of.Field key word
 
--- edges that are not planar, and a CRS that is projected; where none are said, they are planar
-abbrev pub unplanar_findings : Text → Bool → Option EdgesOf → List Finding
-unplanar_findings key projected None = []
-unplanar_findings key projected (Some x) = unless (bytes_eq x.edges (codes "planar") || not projected) (edges_finding key x.from x.edges)
+-- edges that are not planar, and a CRS that is projected, by its name; where none are said, they are planar
+abbrev pub edges_word : Text → Text → Text
+edges_word edges crs = edges ++ (codes ", " ++ crs)
 
-abbrev pub projects : Version → Option ColumnTree → Option Element → Option Json → Bool
-projects version c e None = is_projected (crs_alone c e)
-projects version c e (Some j) = is_projected (crs_that_counts version c e j)
+abbrev pub projected_findings : Text → EdgesOf → Option Text → List Finding
+projected_findings key x None = []
+projected_findings key x (Some crs) = edges_finding key x.from (edges_word x.edges crs) ∷ []
+
+abbrev pub unplanar_findings : Text → Option Text → Option EdgesOf → List Finding
+unplanar_findings key crs None = []
+unplanar_findings key crs (Some x) = if bytes_eq x.edges (codes "planar") then [] else projected_findings key x crs
+
+abbrev pub projects : Version → Option ColumnTree → Option Element → Option Json → Option Text
+projects version c e None = asked_word Projected (crs_alone c e)
+projects version c e (Some j) = asked_word Projected (crs_that_counts version c e j)
 
 abbrev pub on_projected_findings : Version → Text → Option ColumnTree → Option Element → Option Json → List Finding
 on_projected_findings version key c e member =

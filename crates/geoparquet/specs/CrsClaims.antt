@@ -12,7 +12,7 @@ use Rattle.geoparquet.specs.Contradictions.{geo_metadata}
 use Rattle.geoparquet.specs.Findings.{Finding, shown_value}
 use Rattle.geoparquet.specs.Identifiers.{default_identifier}
 use Rattle.geoparquet.specs.Malformed.{is_malformed, is_projjson}
-use Rattle.geoparquet.specs.Pairs.{first_pair, pair_findings}
+use Rattle.geoparquet.specs.Pairs.{by_default, first_pair, pair_findings}
 use Rattle.geoparquet.specs.Sources.{Claim, silent, gives, beside, Element}
 use Rattle.geoparquet.specs.Versions.{is_judged}
 use Rattle.geoparquet.specs.declared.code.GeoCode.TheVariants.{CrsContradicts, CrsNotCompared}
@@ -154,10 +154,10 @@ crs_at (Some j) = get (codes "crs") j
 abbrev pub own_shown : Option Json → Option Text
 own_shown own = option_map shown_value (crs_at own)
 
--- and as it shows the CRS of an element
+-- and as it shows the CRS that an element or a member says, by the value at `crs`
 abbrev pub claim_shown : Option Claimed → Option Json → Option Text
-claim_shown None own = None
-claim_shown (Some c) own = if c.is_default then Some (codes "\"OGC:CRS84\"") else own_shown own
+claim_shown None found = None
+claim_shown (Some c) found = if c.is_default then Some (by_default default_identifier) else option_map shown_value found
 
 -- what is said of two sources: nothing where one of them says none
 abbrev pub pair_verdict : Option Claimed → Option Claimed → Verdict
@@ -176,28 +176,28 @@ is_not_compared Contradict = false
 is_not_compared NotCompared = true
 
 -- the first pair that contradicts; and if none does, the first that is not compared
-abbrev pub verdict_findings : Text → Option Json → Option Text → Option Json → Option Text → Option Pair → Option Pair → List Finding
-verdict_findings key found element field own None not_compared =
-    pair_findings CrsNotCompared key (codes "crs") found element field own not_compared
-verdict_findings key found element field own (Some pair) not_compared =
-    pair_findings CrsContradicts key (codes "crs") found element field own (Some pair)
+abbrev pub verdict_findings : Text → Option Text → Option Text → Option Text → Option Pair → Option Pair → List Finding
+verdict_findings key found element own None not_compared =
+    pair_findings CrsNotCompared key (codes "crs") found element own own not_compared
+verdict_findings key found element own (Some pair) not_compared =
+    pair_findings CrsContradicts key (codes "crs") found element own own (Some pair)
 
-abbrev pub verdicts_findings : Text → Option Json → Option Text → Option Json → Option Text → Verdict → Verdict → Verdict → List Finding
-verdicts_findings key found element field own eg ea ag =
-    verdict_findings key found element field own
+abbrev pub verdicts_findings : Text → Option Text → Option Text → Option Text → Verdict → Verdict → Verdict → List Finding
+verdicts_findings key found element own eg ea ag =
+    verdict_findings key found element own
     (first_pair (is_contradict eg) (is_contradict ea) (is_contradict ag))
     (first_pair (is_not_compared eg) (is_not_compared ea) (is_not_compared ag))
 
 -- by the claims of the element, of the field and of `geo`
 abbrev pub three_findings : Text → Option Json → Option Text → Option Json → Option Claimed → Option Claimed → Option Claimed → List Finding
 three_findings key found shown own element field said =
-    verdicts_findings key found shown (crs_at own) (own_shown own)
+    verdicts_findings key (claim_shown said found) shown (own_shown own)
     (pair_verdict element said) (pair_verdict element field) (pair_verdict field said)
 
 -- by the claims of the element and of `geo`, and the metadata of the element and of the field
 abbrev pub claimed_findings : Text → Option Json → Option Claimed → Option Json → Option Json → Option Claimed → List Finding
 claimed_findings key found claimed element field said =
-    three_findings key found (claim_shown claimed element) field claimed (own_crs_in field) said
+    three_findings key found (claim_shown claimed (crs_at element)) field claimed (own_crs_in field) said
 
 -- by the metadata of the element and of the field
 abbrev pub crs_json_findings : Text → Option Json → Option Element → Option Json → Option Json → Option Claimed → List Finding

@@ -2,11 +2,10 @@
 use Rattle.std.specs.Prelude.{Bool, true, false, codes, string_bytes, Option, None, Some, is_some, option_and_then, option_map, if◌then◌else◌}
 use Rattle.json.specs.Json.{Json}
 use Rattle.json.specs.Find.{get}
-use Rattle.serde_json.specs.Data as own
 use Rattle.serde_json.specs.Data.{Data}
 use Rattle.serde_json.specs.Find.{get as get_data}
 use Rattle.arrow_values.specs.Tree.{Text}
-use Rattle.geoparquet.specs.Contradictions.{are_default_edges, element_edges, field_edges, said_edges}
+use Rattle.geoparquet.specs.Contradictions.{are_absent, are_default_edges, element_edges, field_edges, said_edges}
 use Rattle.geoparquet.specs.FactSources.{BySource, against, of_source, source_counting, text_verdict}
 use Rattle.geoparquet.specs.Sources.{Element}
 use Rattle.geoparquet.specs.declared.fact_sources.Against.{Against}
@@ -27,11 +26,6 @@ edges_claims version member e element field =
 -- a source that says something says the default where it has no `edges`; an element where it is a GEOGRAPHY without an algorithm
 abbrev pub is_default_if : Bool → Option Text → Option Bool
 is_default_if is_default said = option_map (λ s. is_default) said
-
-abbrev pub are_absent : Option Data → Bool
-are_absent None = true
-are_absent (Some own.null) = true
-are_absent (Some d) = false
 
 abbrev pub has_no_edges : Option Json → Bool
 has_no_edges None = true

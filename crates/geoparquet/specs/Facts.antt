@@ -9,7 +9,8 @@ use Rattle.arrow_columns.specs.Types.{ColumnTree}
 use Rattle.crs_identity.specs.Verdicts.{Claimed, crs_verdict}
 use Rattle.geoparquet.specs.Contradictions.{element_encoding, element_metadata, field_encoding, layout_encoding, own_metadata}
 use Rattle.geoparquet.specs.CrsClaims.{crs_at, element_crs, element_json, field_json, own_crs_in, said_crs}
-pub use Rattle.geoparquet.specs.EdgesClaims.{EdgesOf, are_absent, edges_claims, edges_defaults, edges_fact_in, edges_fact_of, edges_from, edges_view, has_no_edges, is_default_if, member_edges}
+pub use Rattle.geoparquet.specs.Contradictions.{are_absent}
+pub use Rattle.geoparquet.specs.EdgesClaims.{EdgesOf, edges_claims, edges_defaults, edges_fact_in, edges_fact_of, edges_from, edges_view, has_no_edges, is_default_if, member_edges}
 use Rattle.geoparquet.specs.FactSources.{BySource, against, of_source, source_counting, text_verdict}
 use Rattle.geoparquet.specs.GeoColumns.{left_for}
 use Rattle.geoparquet.specs.MemberRules.{encoding_of}

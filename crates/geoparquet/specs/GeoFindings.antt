@@ -118,7 +118,7 @@ part_findings cs version key c e j =
 -- what the element and the field say of one fact, without a member
 unfoldable pub own_findings : Text → Option ColumnTree → Option Element → List Finding
 own_findings key c e =
-    encodings_findings key None c e None
+    encodings_findings key c e None
     ++ crs_claims_findings key None c e None
     ++ edges_claims_findings key None c e None
     ++ own_on_projected_findings key c e

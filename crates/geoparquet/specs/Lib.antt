@@ -26,6 +26,7 @@ pub mod Malformed
 pub mod MemberFacts
 pub mod RepeatedKeys
 pub mod CrsClaims
+pub mod CrsWords
 pub mod Counting
 pub mod FactSources
 pub mod EdgesClaims

@@ -23,10 +23,10 @@ told_at code column place found wanted =
 abbrev pub found_at : GeoCode → Option Text → Text → Option Json → Option Text → Finding
 found_at code column place found wanted = told_at code column place (option_map shown_value found) wanted
 
--- what is found of a column in what its element or its field says
-abbrev pub found_in : FactSource → GeoCode → Text → Option Json → Option Text → Finding
-found_in source code key found wanted =
-    record { code = code; column = Some key; source = source; pointer = []; found = option_map shown_value found; wanted = wanted; more = 0 }
+-- what is found of a column in what its element or its field says, as it is shown
+abbrev pub told_in : FactSource → GeoCode → Text → Option Text → Option Text → Finding
+told_in source code key found wanted =
+    record { code = code; column = Some key; source = source; pointer = []; found = found; wanted = wanted; more = 0 }
 
 -- what is found of a member of a column's member
 abbrev pub part_finding : GeoCode → Text → Text → Option Json → Finding

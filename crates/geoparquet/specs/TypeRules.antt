@@ -6,9 +6,9 @@ use Rattle.json.specs.Find.{get, as_str}
 use Rattle.arrow_values.specs.Tree.{Text}
 use Rattle.geoarrow_layout.specs.declared.dimensions.Dimension.{Dimension}
 use Rattle.geoarrow_layout.specs.declared.native_kinds.NativeKind.{NativeKind}
-use Rattle.geoparquet.specs.Findings.{Finding}
+use Rattle.geoparquet.specs.Findings.{Finding, shown_value}
 use Rattle.geoparquet.specs.Capped.{capped}
-use Rattle.geoparquet.specs.Rules.{part_place, part_finding, items_in, items_findings}
+use Rattle.geoparquet.specs.Rules.{part_place, told_at, items_in, items_findings}
 use Rattle.geoparquet.specs.TypeNames.{type_named, has_m}
 use Rattle.geoparquet.specs.Versions.{is_judged}
 use Rattle.geoparquet.specs.declared.code.GeoCode.TheVariants.{Types, TypesVersion}
@@ -48,17 +48,22 @@ takes_m V1_0 = false
 takes_m V1_1 = false
 takes_m V2 = true
 
--- an array of different names of types
-abbrev pub types_or_other : Text → Option Json → Option (List Json) → List Finding
-types_or_other key found (Some js) = capped (items_findings is_new_type Types key (part_place key (codes "geometry_types")) [] js)
-types_or_other key found None = part_finding Types key (codes "geometry_types") found ∷ []
+-- what is found in place of an array: what stands there; where nothing does, the key of 0.4, if that is there
+abbrev pub no_types_found : Bool → Option Json → Option Text
+no_types_found old (Some j) = Some (shown_value j)
+no_types_found old None = if old then Some (codes "geometry_type") else None
 
-abbrev pub found_types : Text → Option Json → List Finding
-found_types key found = types_or_other key found (items_in found)
+-- an array of different names of types
+abbrev pub types_or_other : Text → Bool → Option Json → Option (List Json) → List Finding
+types_or_other key old found (Some js) = capped (items_findings is_new_type Types key (part_place key (codes "geometry_types")) [] js)
+types_or_other key old found None = told_at Types (Some key) (part_place key (codes "geometry_types")) (no_types_found old found) None ∷ []
+
+abbrev pub found_types : Text → Bool → Option Json → List Finding
+found_types key old found = types_or_other key old found (items_in found)
 
 abbrev pub types_findings : Version → Text → Json → List Finding
 types_findings version key member =
-    if is_judged version then found_types key (get (codes "geometry_types") member) else []
+    if is_judged version then found_types key (is_some (get (codes "geometry_type") member)) (get (codes "geometry_types") member) else []
 
 -- no type with an m before version 2
 abbrev pub found_with_m : Text → Option (List Json) → List Finding

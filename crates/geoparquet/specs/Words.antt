@@ -1,5 +1,5 @@
 -- What is said of a code for people: when it is found, what is expected there, and what helps.
-use Rattle.std.specs.Prelude.{List, [], ◌∷◌, ◌++◌, codes, Option, None, Some}
+use Rattle.std.specs.Prelude.{Bool, false, ◌==◌, List, [], ◌∷◌, ◌++◌, bytes_eq, codes, length, nat_lt, Option, None, Some, if◌then◌else◌}
 use Rattle.arrow_values.specs.Tree.{Text}
 use Rattle.geoparquet.specs.Nearest.{nearest}
 use Rattle.geoparquet.specs.declared.code.GeoCode.{GeoCode}
@@ -182,5 +182,36 @@ abbrev pub near_name : GeoVersion → GeoCode → Option Text → Option Text
 near_name version code None = None
 near_name version code (Some found) = nearest found (names_of version code)
 
+-- the covering to add, by the name of its group as JSON
+abbrev pub covering_added : Text → Text
+covering_added name = codes "Add \"covering\":{\"bbox\":{\"xmin\":[" ++ (name ++ (codes ",\"xmin\"],\"ymin\":[" ++ (name ++ (codes ",\"ymin\"],\"xmax\":[" ++ (name ++ (codes ",\"xmax\"],\"ymax\":[" ++ (name ++ codes ",\"ymax\"]}}.")))))))
+
+-- a name of at most 120 bytes stands whole in what is found
+abbrev pub covering_advice : Text → Option Text
+covering_advice found = if nat_lt 120 (length found) then member_advice CoveringAbsent else Some (covering_added found)
+
+-- the bounds of x alone may cross the antimeridian
+abbrev pub is_of_x : Text → Bool
+is_of_x [] = false
+is_of_x (b ∷ rest) = b == 120
+
+abbrev pub order_advice : Text → Option Text
+order_advice found = if is_of_x found then member_advice BboxOrder else None
+
+-- the key that stands in place of `geometry_types`
+abbrev pub types_advice : Text → Option Text
+types_advice found = if bytes_eq found (codes "geometry_type") then Some (codes "The member has geometry_type, the name of 0.4.") else None
+
+-- what helps by what is found
+abbrev pub found_advice : GeoVersion → GeoCode → Text → Option Text
+found_advice version BboxOrder found = order_advice found
+found_advice version CoveringAbsent found = covering_advice found
+found_advice version Types found = types_advice found
+found_advice version code found = advice_of version code
+
+abbrev pub advice_beside : GeoVersion → GeoCode → Option Text → Option Text
+advice_beside version code None = advice_of version code
+advice_beside version code (Some found) = found_advice version code found
+
 abbrev pub help_text : GeoVersion → GeoCode → Option Text → Option Text
-help_text version code found = helping (near_name version code found) (advice_of version code)
+help_text version code found = helping (near_name version code found) (advice_beside version code found)

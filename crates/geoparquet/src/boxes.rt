@@ -1,5 +1,5 @@
 //! `bbox` of a column's member.
-ghost use Rattle.std.specs.Prelude.{◌≡◌, ◌<◌, ◌++◌, ◌∷◌, [], IfOk, IfSome, OnOk, Some, codes, length, map, option_map};
+ghost use Rattle.std.specs.Prelude.{◌≡◌, ◌<◌, ◌++◌, ◌∷◌, [], IfOk, IfSome, OnOk, Some, codes, length, map, option_map, string_bytes, unwrap_or};
 ghost use Rattle.std.specs.List.{All, list_all};
 ghost use Rattle.json.specs.Find.{get};
 ghost use Rattle.json.specs.Json.{array};
@@ -9,19 +9,19 @@ ghost use Rattle.value_tokens.specs.Values.{IsReadable};
 ghost use Rattle.arrow_columns.specs.Column.{column_tree};
 ghost use Rattle.geoparquet.specs.Sources.{element_view};
 ghost use Rattle.geoparquet.specs.Counting.{crs_that_counts, is_projected};
-ghost use Rattle.geoparquet.specs.Findings.{finding};
+ghost use Rattle.geoparquet.specs.Findings.{finding, shown, shown_value};
 ghost use Rattle.geoparquet.specs.Rules.{items_findings};
 ghost use Rattle.geoparquet.specs.TypeRules.{type_of, types_in};
-ghost use Rattle.geoparquet.specs.BoxRules.{takes_eight, is_size, is_number, box_place, box_or_other, found_box, bbox_findings, is_box, box_in, float_of, is_less, is_in_order, bound_finding, bound_findings, axis_findings, order_findings, x_findings, x_axis_findings, x_order_findings, bbox_order_findings, type_is, are_all, are_types, other_size, size_wanted, size_findings, bbox_dimension_findings};
+ghost use Rattle.geoparquet.specs.BoxRules.{takes_eight, is_size, is_number, box_place, box_or_other, found_box, bbox_findings, is_box, box_in, float_of, is_less, is_in_order, axis_name, bounds_text, bound_finding, bound_findings, axis_findings, order_findings, x_findings, x_axis_findings, x_order_findings, bbox_order_findings, type_is, are_all, are_types, other_size, size_wanted, size_findings, bbox_dimension_findings};
 
 use crate::code::GeoCode;
 use crate::counting::counts_projected;
 use crate::finding::{GeoFinding, Version};
-use crate::place::{add_item, finding_at, part_finding, part_place};
+use crate::place::{add_item, finding_at, part_finding, part_place, told_at};
 use crate::types::{items_in, type_of, types_in};
 use crate::version::is_judged;
 use arrow_columns::SchemaColumn;
-use column_check::item_place;
+use column_check::{item_place, shown, shown_value};
 use geoarrow_layout::Dimension;
 use json::Value;
 use parquet_columns::RootElement;
@@ -346,14 +346,51 @@ fn bound_finding(
     let whole = part_place(alloc, key, "bbox")?;
     let place = item_place(alloc, whole.as_str(), index)?;
     let wanted = greatest.as_number();
-    finding_at(
-        alloc,
-        GeoCode::BboxOrder,
-        Some(key),
-        place,
-        Some(least),
-        wanted,
-    )
+    let found = Some(bounds_shown(alloc, index, least, wanted)?);
+    told_at(alloc, GeoCode::BboxOrder, Some(key), place, found, wanted)
+}
+
+/// The letter of an axis, by the place of its least bound.
+fn axis_name(index: usize) -> &'static str
+    ensures { result.now ≡ axis_name index }
+{
+    if index == 0 {
+        "x"
+    } else if index == 1 {
+        "y"
+    } else if index == 2 {
+        "z"
+    } else {
+        "m"
+    }
+}
+
+/// Both bounds of an axis, as a finding shows them.
+fn bounds_shown(
+    alloc: Global,
+    index: usize,
+    least: &Value<'_>,
+    greatest: Option<&str>,
+) -> Result<String, AllocError>
+    requires { IsReadable (value_view least.now) }
+    ensures { IfOk result (λ s. string_bytes s ≡ shown (bounds_text (axis_name index) (shown_value (value_view least.now)) (unwrap_or (text_of greatest.entry) []))) }
+{
+    let axis = axis_name(index);
+    let least = shown_value(alloc, least)?;
+    let least = least.as_str();
+    let greatest = match greatest {
+        Some(greatest) => greatest,
+        None => "",
+    };
+    let text = bounds_text(alloc, axis, least, greatest)?;
+    shown(alloc, text.as_str())
+}
+
+/// Both bounds of an axis.
+fn bounds_text(alloc: Global, axis: &str, least: &str, greatest: &str) -> Result<String, AllocError>
+    ensures { IfOk result (λ s. string_bytes s ≡ bounds_text axis.now least.now greatest.now) }
+{
+    format!(in alloc; "{axis}min {least}, {axis}max {greatest}")
 }
 
 /// Whether a least bound is at most the greatest, each as the nearest float.

@@ -229,7 +229,7 @@ pub(crate) fn add_own(
     ensures { OnOk result (map finding findings.new.items ≡ map finding findings.old.items
         ++ own_findings key.now (option_map (λ c. column_tree c.now) column.entry) (option_map (λ e. element_view e.now) element.entry)) }
 {
-    add_encodings(alloc, findings, key, None, column, element, None)?;
+    add_encodings(alloc, findings, key, column, element, None)?;
     add_crs_claims(alloc, findings, key, None, column, element, None)?;
     add_edges_claims(alloc, findings, key, None, column, element, None)?;
     add_own_on_projected(alloc, findings, key, column, element)

@@ -10,7 +10,7 @@ ghost use Rattle.geoparquet.specs.Findings.{finding};
 ghost use Rattle.std.specs.List.{All};
 ghost use Rattle.geoparquet.specs.Rules.{item_finding, items_findings, unless};
 ghost use Rattle.geoparquet.specs.TypeRules.{is_text};
-ghost use Rattle.geoparquet.specs.Contradictions.{layout_in, stored_layout, layout_finding, encoding_layout_findings, layout_findings, single_of, goes_with, types_contradict_findings, own_encoding, named_encoding, element_encoding, field_encoding, layout_encoding, encodings_findings, encoding_contradicts_findings, said_edges, geo_metadata, own_metadata, known_edges, edges_at, own_edges, element_metadata, edges_in, edges_if, element_edges, is_default, are_default_edges, field_edges, edges_claims_findings, edges_contradict_findings};
+ghost use Rattle.geoparquet.specs.Contradictions.{are_absent, default_edges, layout_in, stored_layout, layout_finding, encoding_layout_findings, layout_findings, single_of, goes_with, types_contradict_findings, own_encoding, named_encoding, element_encoding, field_encoding, layout_encoding, encodings_findings, encoding_contradicts_findings, said_edges, geo_metadata, own_metadata, known_edges, edges_at, own_edges, element_metadata, edges_in, edges_if, element_edges, is_default, are_default_edges, field_edges, edges_claims_findings, edges_contradict_findings};
 ghost use Rattle.geoparquet.specs.Sources.{element_view};
 
 use crate::adding::add_part;
@@ -19,7 +19,7 @@ use crate::code::GeoCode;
 use crate::finding::{GeoFinding, Version};
 use crate::layout::{Layout, is_laid_out, layout_by, layout_text};
 use crate::members::{encoding_of, is_edges, is_edges_value};
-use crate::pairs::add_texts;
+use crate::pairs::{Defaults, add_texts};
 use crate::place::{item_finding, part_place, told_at};
 use crate::types::{type_of, type_text, types_in};
 use crate::values::geo_value;
@@ -28,7 +28,6 @@ use geoarrow_layout::{Dimension, NativeKind};
 use json::Value;
 use parquet_columns::{EdgesClaim, ElementClaim, RootElement};
 use std::alloc::{AllocError, Global};
-use value_tokens::member_of;
 
 /// Returns the layout of an encoding, where a column has it.
 fn layout_in(
@@ -311,22 +310,25 @@ pub(crate) fn add_encodings(
     alloc: Global,
     findings: &mut Vec<GeoFinding>,
     key: &str,
-    found: Option<&Value<'_>>,
     column: Option<&SchemaColumn>,
     element: Option<&RootElement>,
     said: Option<&str>,
 ) -> Result<(), AllocError>
-    requires { IfSome found (λ v. IsReadable (value_view v.now)) }
     ensures { OnOk result (map finding findings.new.items ≡ map finding findings.old.items
-        ++ encodings_findings key.now (option_map (λ v. value_view v.now) found.entry) (option_map (λ c. column_tree c.now) column.entry) (option_map (λ e. element_view e.now) element.entry) (text_of said.entry)) }
+        ++ encodings_findings key.now (option_map (λ c. column_tree c.now) column.entry) (option_map (λ e. element_view e.now) element.entry) (text_of said.entry)) }
 {
+    let defaults = Defaults {
+        element: false,
+        field: false,
+        geo: false,
+    };
     add_texts(
         alloc,
         findings,
         GeoCode::EncodingContradicts,
         key,
         "encoding",
-        found,
+        defaults,
         element_encoding(element),
         field_encoding(element, column),
         said,
@@ -349,8 +351,7 @@ pub(crate) fn add_encoding_contradicts(
         ++ encoding_contradicts_findings version key.now (option_map (λ c. column_tree c.now) column.entry) (option_map (λ e. element_view e.now) element.entry) (value_view member.now)) }
 {
     let said = layout_encoding(version, column, element, member);
-    let found = member_of(member, "encoding");
-    add_encodings(alloc, findings, key, found, column, element, said)
+    add_encodings(alloc, findings, key, column, element, said)
 }
 
 /// Returns the edges that a member says.
@@ -524,6 +525,32 @@ pub(crate) fn field_edges<'v>(
     }
 }
 
+/// Whether extension metadata have no edges, or null.
+pub(crate) fn are_absent(found: Option<&serde_json::Value>) -> bool
+    ensures { result ≡ are_absent (option_map (λ v. view v.now) found.entry) }
+{
+    let Some(found) = found else {
+        return true;
+    };
+    matches!(found, serde_json::Value::Null)
+}
+
+/// Returns which edges are the default, by the element, the metadata of the field and the value at
+/// `edges` of a member.
+fn default_edges(
+    element: Option<&RootElement>,
+    own: &serde_json::Value,
+    found: Option<&Value<'_>>,
+) -> Defaults
+    ensures { result ≡ default_edges (option_map (λ e. element_view e.now) element.entry) (view own.now) (option_map (λ v. value_view v.now) found.entry) }
+{
+    Defaults {
+        element: are_default_edges(element),
+        field: are_absent(own.get("edges")),
+        geo: found.is_none(),
+    }
+}
+
 /// Adds what is found where two of the element, the field and `edges` say two. Errs only when out of
 /// memory.
 pub(crate) fn add_edges_claims(
@@ -535,7 +562,6 @@ pub(crate) fn add_edges_claims(
     element: Option<&RootElement>,
     said: Option<&str>,
 ) -> Result<(), AllocError>
-    requires { IfSome found (λ v. IsReadable (value_view v.now)) }
     ensures { OnOk result (map finding findings.new.items ≡ map finding findings.old.items
         ++ edges_claims_findings key.now (option_map (λ v. value_view v.now) found.entry) (option_map (λ c. column_tree c.now) column.entry) (option_map (λ e. element_view e.now) element.entry) (text_of said.entry)) }
 {
@@ -547,7 +573,7 @@ pub(crate) fn add_edges_claims(
         GeoCode::EdgesContradict,
         key,
         "edges",
-        found,
+        default_edges(element, &own, found),
         element_edges(element, &metadata),
         field_edges(element, &own),
         said,
@@ -569,7 +595,7 @@ pub(crate) fn add_edges_contradict(
     ensures { OnOk result (map finding findings.new.items ≡ map finding findings.old.items
         ++ edges_contradict_findings version key.now (option_map (λ c. column_tree c.now) column.entry) (option_map (λ e. element_view e.now) element.entry) (value_view member.now)) }
 {
-    let found = member_of(member, "edges");
+    let found = member.get("edges");
     let said = said_edges(version, found);
     add_edges_claims(alloc, findings, key, found, column, element, said)
 }

@@ -18,7 +18,7 @@ use crate::code::GeoCode;
 use crate::contradictions::geo_metadata;
 use crate::finding::{GeoFinding, Version};
 use crate::malformed::{is_malformed, is_projjson};
-use crate::pairs::{Pair, add_pair, first_pair};
+use crate::pairs::{Pair, add_pair, by_default, first_pair};
 use crate::version::is_judged;
 use arrow_columns::SchemaColumn;
 use column_check::shown_value;
@@ -406,22 +406,26 @@ fn own_shown(alloc: Global, own: Option<&Value<'_>>) -> Result<Option<String>, A
     }
 }
 
-/// Returns the CRS of an element as a finding shows it. Errs only when out of memory.
+/// Returns the CRS that an element or a member says as a finding shows it, by the value at `crs`. Errs
+/// only when out of memory.
 fn claim_shown(
     alloc: Global,
     said: Option<Claim<'_, '_>>,
-    own: Option<&Value<'_>>,
+    found: Option<&Value<'_>>,
 ) -> Result<Option<String>, AllocError>
-    requires { IfSome own (λ v. IsReadable (value_view v.now)) }
-    ensures { IfOk result (λ text. option_map string_bytes text ≡ claim_shown (option_map claim said.entry) (option_map (λ v. value_view v.now) own.entry)) }
+    requires { IfSome found (λ v. IsReadable (value_view v.now)) }
+    ensures { IfOk result (λ text. option_map string_bytes text ≡ claim_shown (option_map claim said.entry) (option_map (λ v. value_view v.now) found.entry)) }
 {
     let Some(said) = said else {
         return Ok(None);
     };
     if said.is_default {
-        return Ok(Some(String::from_str(alloc, "\"OGC:CRS84\"")?));
+        return Ok(Some(by_default(alloc, DEFAULT_CRS)?));
     }
-    own_shown(alloc, own)
+    match found {
+        Some(found) => Ok(Some(shown_value(alloc, found)?)),
+        None => Ok(None),
+    }
 }
 
 /// Returns what is said of two sources. Errs only when out of memory.
@@ -461,17 +465,14 @@ fn add_verdict(
     alloc: Global,
     findings: &mut Vec<GeoFinding>,
     key: &str,
-    found: Option<&Value<'_>>,
+    found: Option<&str>,
     element: Option<&str>,
-    field: Option<&Value<'_>>,
     own: Option<&str>,
     contradicts: Option<Pair>,
     not_compared: Option<Pair>,
 ) -> Result<(), AllocError>
-    requires found { IfSome found (λ v. IsReadable (value_view v.now)) }
-    requires field { IfSome field (λ v. IsReadable (value_view v.now)) }
     ensures { OnOk result (map finding findings.new.items ≡ map finding findings.old.items
-        ++ verdict_findings key.now (option_map (λ v. value_view v.now) found.entry) (text_of element.entry) (option_map (λ v. value_view v.now) field.entry) (text_of own.entry) contradicts not_compared) }
+        ++ verdict_findings key.now (text_of found.entry) (text_of element.entry) (text_of own.entry) contradicts not_compared) }
 {
     match contradicts {
         Some(pair) => add_pair(
@@ -482,7 +483,7 @@ fn add_verdict(
             "crs",
             found,
             element,
-            field,
+            own,
             own,
             Some(pair),
         ),
@@ -494,7 +495,7 @@ fn add_verdict(
             "crs",
             found,
             element,
-            field,
+            own,
             own,
             not_compared,
         ),
@@ -506,18 +507,15 @@ fn add_verdicts(
     alloc: Global,
     findings: &mut Vec<GeoFinding>,
     key: &str,
-    found: Option<&Value<'_>>,
+    found: Option<&str>,
     element: Option<&str>,
-    field: Option<&Value<'_>>,
     own: Option<&str>,
     element_geo: Verdict,
     element_field: Verdict,
     field_geo: Verdict,
 ) -> Result<(), AllocError>
-    requires found { IfSome found (λ v. IsReadable (value_view v.now)) }
-    requires field { IfSome field (λ v. IsReadable (value_view v.now)) }
     ensures { OnOk result (map finding findings.new.items ≡ map finding findings.old.items
-        ++ verdicts_findings key.now (option_map (λ v. value_view v.now) found.entry) (text_of element.entry) (option_map (λ v. value_view v.now) field.entry) (text_of own.entry) element_geo element_field field_geo) }
+        ++ verdicts_findings key.now (text_of found.entry) (text_of element.entry) (text_of own.entry) element_geo element_field field_geo) }
 {
     let contradicts = first_pair(
         is_contradict(element_geo),
@@ -535,7 +533,6 @@ fn add_verdicts(
         key,
         found,
         element,
-        field,
         own,
         contradicts,
         not_compared,
@@ -563,15 +560,15 @@ fn add_three(
     let element_geo = pair_verdict(alloc, element, said)?;
     let element_field = pair_verdict(alloc, element, field)?;
     let field_geo = pair_verdict(alloc, field, said)?;
-    let text = own_shown(alloc, own)?;
+    let found = claim_shown(alloc, said, found)?;
+    let own = own_shown(alloc, own)?;
     add_verdicts(
         alloc,
         findings,
         key,
-        found,
+        found.as_deref(),
         shown,
-        crs_at(own),
-        text.as_deref(),
+        own.as_deref(),
         element_geo,
         element_field,
         field_geo,
@@ -596,7 +593,7 @@ fn add_claimed(
     ensures { OnOk result (map finding findings.new.items ≡ map finding findings.old.items
         ++ claimed_findings key.now (option_map (λ v. value_view v.now) found.entry) (option_map claim element.entry) (option_map (λ v. value_view v.now) metadata.entry) (option_map (λ v. value_view v.now) own.entry) (option_map claim said.entry)) }
 {
-    let shown = claim_shown(alloc, element, metadata)?;
+    let shown = claim_shown(alloc, element, crs_at(metadata))?;
     let field = own_crs_in(alloc, own)?;
     let shown = shown.as_deref();
     add_three(

@@ -4,6 +4,7 @@ ghost use Rattle.arrow_values.specs.Texts.{text_of};
 ghost use Rattle.geoparquet.specs.Words.{judged_text, advice_of, member_advice};
 ghost use Rattle.geoparquet.specs.Words.{encoding_names, type_names, edges_names, crs_names, names_of};
 ghost use Rattle.geoparquet.specs.Words.{meant, helping, near_name, help_text};
+ghost use Rattle.geoparquet.specs.Words.{advice_beside, covering_added, covering_advice, found_advice, is_of_x, order_advice, types_advice};
 
 use crate::code::GeoCode;
 use crate::finding::{GeoFinding, Version};
@@ -180,7 +181,7 @@ impl GeoFinding {
     {
         match near_name(alloc, version, self)? {
             Some(name) => Ok(Some(meant(alloc, name)?)),
-            None => copied(alloc, self.code.advice(version)),
+            None => advice_beside(alloc, version, self.code, self.found.as_deref()),
         }
     }
 }
@@ -204,6 +205,89 @@ fn meant(alloc: Global, name: &str) -> Result<String, AllocError>
     ensures { IfOk result (λ s. string_bytes s ≡ meant name.now) }
 {
     format!(in alloc; "Did you mean {name}?")
+}
+
+/// What helps by the code and what is found, but for a name.
+fn advice_beside(
+    alloc: Global,
+    version: Version,
+    code: GeoCode,
+    found: Option<&str>,
+) -> Result<Option<String>, AllocError>
+    ensures { IfOk result (λ s. option_map string_bytes s ≡ advice_beside version code (text_of found.entry)) }
+{
+    match found {
+        Some(found) => found_advice(alloc, version, code, found),
+        None => copied(alloc, code.advice(version)),
+    }
+}
+
+/// What helps by the code and a text that is found, but for a name.
+fn found_advice(
+    alloc: Global,
+    version: Version,
+    code: GeoCode,
+    found: &str,
+) -> Result<Option<String>, AllocError>
+    ensures { IfOk result (λ s. option_map string_bytes s ≡ found_advice version code found.now) }
+{
+    match code {
+        GeoCode::BboxOrder => copied(alloc, order_advice(found)),
+        GeoCode::CoveringAbsent => covering_advice(alloc, found),
+        GeoCode::Types => copied(alloc, types_advice(found)),
+        code => copied(alloc, code.advice(version)),
+    }
+}
+
+/// What helps where bounds are not in order, by what is found of them.
+fn order_advice(found: &str) -> Option<&'static str>
+    ensures { text_of result ≡ order_advice found.now }
+{
+    if is_of_x(found.as_bytes()) {
+        GeoCode::BboxOrder.member_advice()
+    } else {
+        None
+    }
+}
+
+/// Whether bounds that are found are those of x.
+fn is_of_x(found: &[u8]) -> bool
+    ensures { result ≡ is_of_x found.now }
+{
+    match found {
+        [first, ..] => *first == b'x',
+        [] => false,
+    }
+}
+
+/// What helps where geometry types are absent or wrong, by what is found in their place.
+fn types_advice(found: &str) -> Option<&'static str>
+    ensures { text_of result ≡ types_advice found.now }
+{
+    if found == "geometry_type" {
+        Some("The member has geometry_type, the name of 0.4.")
+    } else {
+        None
+    }
+}
+
+/// The covering to add, by the name of its group as JSON.
+fn covering_advice(alloc: Global, found: &str) -> Result<Option<String>, AllocError>
+    ensures { IfOk result (λ s. option_map string_bytes s ≡ covering_advice found.now) }
+{
+    if found.len() > 120 {
+        return copied(alloc, GeoCode::CoveringAbsent.member_advice());
+    }
+    Ok(Some(covering_added(alloc, found)?))
+}
+
+/// The covering to add, by the name of its group as JSON.
+fn covering_added(alloc: Global, name: &str) -> Result<String, AllocError>
+    ensures { IfOk result (λ s. string_bytes s ≡ covering_added name.now) }
+{
+    format!(in alloc;
+        "Add \"covering\":{{\"bbox\":{{\"xmin\":[{name},\"xmin\"],\"ymin\":[{name},\"ymin\"],\"xmax\":[{name},\"xmax\"],\"ymax\":[{name},\"ymax\"]}}}}."
+    )
 }
 
 /// A copy of a text, if there is one.

@@ -18,6 +18,7 @@ mod covering;
 mod covering_absent;
 mod crs_claims;
 mod crs_facts;
+mod crs_words;
 mod encoding;
 mod equality_laws;
 mod expected;

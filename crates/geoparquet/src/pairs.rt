@@ -1,15 +1,14 @@
 //! Of what three sources say of one fact, the first pair that does not go together.
-ghost use Rattle.std.specs.Prelude.{◌≡◌, ◌++◌, IfOk, IfSome, OnOk, map, option_map, string_bytes};
-ghost use Rattle.json.specs.Value.{value_view};
-ghost use Rattle.value_tokens.specs.Values.{IsReadable};
+ghost use Rattle.std.specs.Prelude.{◌≡◌, ◌++◌, IfOk, OnOk, map, option_map, string_bytes};
 ghost use Rattle.arrow_values.specs.Texts.{text_of};
 ghost use Rattle.geoparquet.specs.Findings.{finding};
-ghost use Rattle.geoparquet.specs.Pairs.{first_pair, differ, texts_pair, of_element, of_field, pair_findings, text_findings};
+ghost use Rattle.geoparquet.specs.Pairs.{first_pair, differ, texts_pair, of_element, of_field, by_default, found_word, wanted_word, pair_findings, text_findings};
 
-use crate::adding::{add_in, add_part};
+use crate::adding::{add_told, add_told_in};
 use crate::code::GeoCode;
 use crate::fact_sources::FactSource;
 use crate::finding::GeoFinding;
+use column_check::shown_value;
 use json::Value;
 use std::alloc::{AllocError, Global};
 
@@ -22,6 +21,17 @@ pub(crate) enum Pair {
     ElementField,
     /// The field and `geo`.
     FieldGeo,
+}
+
+/// Of which sources what they say is the default of the format.
+#[derive(Clone, Copy, Debug, PartialEq, Eq)]
+pub(crate) struct Defaults {
+    /// Of the element.
+    pub element: bool,
+    /// Of the field.
+    pub field: bool,
+    /// Of `geo`.
+    pub geo: bool,
 }
 
 /// Returns the first pair of which something holds.
@@ -82,24 +92,64 @@ fn of_field(alloc: Global, text: Option<&str>) -> Result<Option<String>, AllocEr
     }
 }
 
-/// Adds what is found of a pair, if there is one: by what stands in `geo` and in the field, and by what
-/// the element and the field say. Errs only when out of memory.
+/// Returns what a source says where that is the default. Errs only when out of memory.
+pub(crate) fn by_default(alloc: Global, text: &str) -> Result<String, AllocError>
+    ensures { IfOk result (λ made. string_bytes made ≡ by_default text.now) }
+{
+    format!(in alloc; "{text}, the default")
+}
+
+/// Returns a text as it is found: as JSON, and one that is the default by its word. Errs only when out
+/// of memory.
+fn found_word(
+    alloc: Global,
+    is_default: bool,
+    text: Option<&str>,
+) -> Result<Option<String>, AllocError>
+    ensures { IfOk result (λ made. option_map string_bytes made ≡ option_map (found_word is_default) (text_of text.entry)) }
+{
+    let Some(text) = text else {
+        return Ok(None);
+    };
+    if is_default {
+        return Ok(Some(by_default(alloc, text)?));
+    }
+    Ok(Some(shown_value(alloc, &Value::String(text))?))
+}
+
+/// Returns a text as it is wanted. Errs only when out of memory.
+fn wanted_word(
+    alloc: Global,
+    is_default: bool,
+    text: Option<&str>,
+) -> Result<Option<String>, AllocError>
+    ensures { IfOk result (λ made. option_map string_bytes made ≡ option_map (wanted_word is_default) (text_of text.entry)) }
+{
+    let Some(text) = text else {
+        return Ok(None);
+    };
+    if is_default {
+        return Ok(Some(by_default(alloc, text)?));
+    }
+    Ok(Some(String::from_str(alloc, text)?))
+}
+
+/// Adds what is found of a pair, if there is one: by what `geo`, the element and the field say, and
+/// how the field says it as one that is wanted. Errs only when out of memory.
 pub(crate) fn add_pair(
     alloc: Global,
     findings: &mut Vec<GeoFinding>,
     code: GeoCode,
     key: &str,
     name: &str,
-    found: Option<&Value<'_>>,
+    found: Option<&str>,
     element: Option<&str>,
-    field: Option<&Value<'_>>,
+    field: Option<&str>,
     own: Option<&str>,
     pair: Option<Pair>,
 ) -> Result<(), AllocError>
-    requires found { IfSome found (λ v. IsReadable (value_view v.now)) }
-    requires field { IfSome field (λ v. IsReadable (value_view v.now)) }
     ensures { OnOk result (map finding findings.new.items ≡ map finding findings.old.items
-        ++ pair_findings code key.now name.now (option_map (λ v. value_view v.now) found.entry) (text_of element.entry) (option_map (λ v. value_view v.now) field.entry) (text_of own.entry) pair) }
+        ++ pair_findings code key.now name.now (text_of found.entry) (text_of element.entry) (text_of field.entry) (text_of own.entry) pair) }
 {
     let Some(pair) = pair else {
         return Ok(());
@@ -107,16 +157,16 @@ pub(crate) fn add_pair(
     match pair {
         Pair::ElementGeo => {
             let wanted = of_element(alloc, element)?;
-            add_part(alloc, findings, code, key, name, found, wanted.as_deref())
+            add_told(alloc, findings, code, key, name, found, wanted.as_deref())
         }
         Pair::ElementField => {
             let wanted = of_element(alloc, element)?;
             let wanted = wanted.as_deref();
-            add_in(alloc, findings, FactSource::Field, code, key, field, wanted)
+            add_told_in(alloc, findings, FactSource::Field, code, key, field, wanted)
         }
         Pair::FieldGeo => {
             let wanted = of_field(alloc, own)?;
-            add_part(alloc, findings, code, key, name, found, wanted.as_deref())
+            add_told(alloc, findings, code, key, name, found, wanted.as_deref())
         }
     }
 }
@@ -128,32 +178,31 @@ pub(crate) fn add_texts(
     code: GeoCode,
     key: &str,
     name: &str,
-    found: Option<&Value<'_>>,
+    defaults: Defaults,
     element: Option<&str>,
     field: Option<&str>,
     said: Option<&str>,
 ) -> Result<(), AllocError>
-    requires { IfSome found (λ v. IsReadable (value_view v.now)) }
     ensures { OnOk result (map finding findings.new.items ≡ map finding findings.old.items
-        ++ text_findings code key.now name.now (option_map (λ v. value_view v.now) found.entry) (text_of element.entry) (text_of field.entry) (text_of said.entry)) }
+        ++ text_findings code key.now name.now defaults (text_of element.entry) (text_of field.entry) (text_of said.entry)) }
 {
-    let pair = texts_pair(element, field, said);
-    let Some(text) = field else {
-        return add_pair(
-            alloc, findings, code, key, name, found, element, None, field, pair,
-        );
+    let Some(pair) = texts_pair(element, field, said) else {
+        return Ok(());
     };
-    let value = Value::String(text);
+    let found = found_word(alloc, defaults.geo, said)?;
+    let claimed = wanted_word(alloc, defaults.element, element)?;
+    let shown = found_word(alloc, defaults.field, field)?;
+    let own = wanted_word(alloc, defaults.field, field)?;
     add_pair(
         alloc,
         findings,
         code,
         key,
         name,
-        found,
-        element,
-        Some(&value),
-        field,
-        pair,
+        found.as_deref(),
+        claimed.as_deref(),
+        shown.as_deref(),
+        own.as_deref(),
+        Some(pair),
     )
 }

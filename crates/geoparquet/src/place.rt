@@ -4,7 +4,7 @@ ghost use Rattle.json.specs.Value.{value_view};
 ghost use Rattle.arrow_values.specs.Texts.{text_of};
 ghost use Rattle.value_tokens.specs.Values.{IsReadable};
 ghost use Rattle.geoparquet.specs.Findings.{finding, shown_value};
-ghost use Rattle.geoparquet.specs.Rules.{column_place, part_place, found_at, found_in, told_at, part_finding, item_finding, unless};
+ghost use Rattle.geoparquet.specs.Rules.{column_place, part_place, found_at, told_at, told_in, part_finding, item_finding, unless};
 
 use crate::code::GeoCode;
 use crate::fact_sources::FactSource;
@@ -92,20 +92,20 @@ pub(crate) fn told_at(
     })
 }
 
-/// Returns a finding of a column in what its element or its field says. Errs only when out of memory.
-pub(crate) fn finding_in(
+/// Returns a finding of a column in what its element or its field says, as what is found there is
+/// shown. Errs only when out of memory.
+pub(crate) fn told_in(
     alloc: Global,
     source: FactSource,
     code: GeoCode,
     key: &str,
-    found: Option<&Value<'_>>,
+    found: Option<&str>,
     wanted: Option<&str>,
 ) -> Result<GeoFinding, AllocError>
-    requires { IfSome found (λ v. IsReadable (value_view v.now)) }
-    ensures { IfOk result (λ made. finding made ≡ found_in source code key.now (option_map (λ v. value_view v.now) found.entry) (text_of wanted.entry)) }
+    ensures { IfOk result (λ made. finding made ≡ told_in source code key.now (text_of found.entry) (text_of wanted.entry)) }
 {
     let column = Some(String::from_str(alloc, key)?);
-    let found = found_text(alloc, found)?;
+    let found = copied(alloc, found)?;
     let wanted = copied(alloc, wanted)?;
     Ok(GeoFinding {
         code,

@@ -7,11 +7,11 @@ ghost use Rattle.value_tokens.specs.Values.{IsReadable};
 ghost use Rattle.arrow_values.specs.Texts.{text_of};
 ghost use Rattle.arrow_columns.specs.Column.{column_tree};
 ghost use Rattle.geoparquet.specs.FactSources.{source_counting};
-ghost use Rattle.geoparquet.specs.Facts.{are_absent, edges_defaults, edges_fact, edges_fact_in, edges_from, edges_view, encoding_fact, encoding_from, has_no_edges, has_other_layout, is_default_if, layout_contradicts, member_edges, member_encoding};
+ghost use Rattle.geoparquet.specs.Facts.{edges_defaults, edges_fact, edges_fact_in, edges_from, edges_view, encoding_fact, encoding_from, has_no_edges, has_other_layout, is_default_if, layout_contradicts, member_edges, member_encoding};
 ghost use Rattle.geoparquet.specs.Sources.{element_view};
 
 use crate::contradictions::{
-    are_default_edges, element_edges, element_encoding, element_metadata, field_edges,
+    are_absent, are_default_edges, element_edges, element_encoding, element_metadata, field_edges,
     field_encoding, layout_encoding, own_metadata, said_edges,
 };
 use crate::fact_sources::{Against, FactSource, source_counting, text_from, texts_against};
@@ -61,16 +61,6 @@ fn is_default_if(is_default: bool, said: Option<&str>) -> Option<bool>
         Some(_) => Some(is_default),
         None => None,
     }
-}
-
-/// Whether extension metadata have no edges, or null.
-fn are_absent(found: Option<&serde_json::Value>) -> bool
-    ensures { result ≡ are_absent (option_map (λ v. view v.now) found.entry) }
-{
-    let Some(found) = found else {
-        return true;
-    };
-    matches!(found, serde_json::Value::Null)
 }
 
 /// Whether a member has no edges.

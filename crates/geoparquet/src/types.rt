@@ -1,5 +1,5 @@
 //! The names of geometry types, and `geometry_types`.
-ghost use Rattle.std.specs.Prelude.{◌≡◌, ◌++◌, ◌||◌, [], IfSome, List, OnOk, codes, map, not, option_map};
+ghost use Rattle.std.specs.Prelude.{◌≡◌, ◌++◌, ◌||◌, [], ◌∷◌, IfOk, IfSome, List, None, OnOk, Some, codes, map, not, option_map, string_bytes};
 ghost use Rattle.std.specs.BTreeSet.{contains_text};
 ghost use Rattle.std.specs.List.{All, list_any};
 ghost use Rattle.json.specs.Json.{Json};
@@ -7,15 +7,17 @@ ghost use Rattle.json.specs.Value.{value_view};
 ghost use Rattle.arrow_values.specs.Tree.{Text};
 ghost use Rattle.value_tokens.specs.Values.{IsReadable};
 ghost use Rattle.geoparquet.specs.Findings.{finding};
-ghost use Rattle.geoparquet.specs.Rules.{part_place, items_in, items_findings};
+ghost use Rattle.geoparquet.specs.Rules.{part_place, told_at, items_in, items_findings};
 ghost use Rattle.geoparquet.specs.TypeNames.{type_text, dimension_named, type_named};
-ghost use Rattle.geoparquet.specs.TypeRules.{types_in, type_of, is_text, is_new_type, type_has_m, is_without_m, takes_m, found_types, found_with_m, types_findings, types_version_findings};
+ghost use Rattle.geoparquet.specs.TypeRules.{types_in, type_of, is_text, is_new_type, type_has_m, is_without_m, takes_m, no_types_found, found_types, found_with_m, types_findings, types_version_findings};
 
+use crate::adding::add_told;
 use crate::capped::add_capped;
 use crate::code::GeoCode;
 use crate::finding::{GeoFinding, Version};
-use crate::place::{add_item, part_finding, part_place};
+use crate::place::{add_item, part_place};
 use crate::version::is_judged;
+use column_check::shown_value;
 use geoarrow_layout::{Dimension, NativeKind};
 use json::Value;
 use std::alloc::{AllocError, Global};
@@ -152,7 +154,14 @@ pub(crate) fn add_types(
     ensures { OnOk result (map finding findings.new.items ≡ map finding findings.old.items ++ (types_findings version key.now (value_view member.now) ++ types_version_findings version key.now (value_view member.now))) }
 {
     if is_judged(version) {
-        add_found_types(alloc, findings, key, member_of(member, "geometry_types"))?;
+        let old = member.get("geometry_type").is_some();
+        add_found_types(
+            alloc,
+            findings,
+            key,
+            old,
+            member_of(member, "geometry_types"),
+        )?;
     }
     if takes_m(version) {
         return Ok(());
@@ -191,10 +200,11 @@ fn add_found_types(
     alloc: Global,
     findings: &mut Vec<GeoFinding>,
     key: &str,
+    old: bool,
     found: Option<&Value<'_>>,
 ) -> Result<(), AllocError>
     requires { IfSome found (λ v. IsReadable (value_view v.now)) }
-    ensures { OnOk result (map finding findings.new.items ≡ map finding findings.old.items ++ found_types key.now (option_map (λ v. value_view v.now) found.entry)) }
+    ensures { OnOk result (map finding findings.new.items ≡ map finding findings.old.items ++ found_types key.now old (option_map (λ v. value_view v.now) found.entry)) }
 {
     if let Some(items) = items_in(found) {
         let place = part_place(alloc, key, "geometry_types")?;
@@ -202,8 +212,51 @@ fn add_found_types(
         add_items(alloc, &mut found, key, place.as_str(), items)?;
         return add_capped(findings, found);
     }
-    findings.push(part_finding(alloc, GeoCode::Types, key, "geometry_types", found)?)?;
-    Ok(())
+    add_no_types(alloc, findings, key, old, found)
+}
+
+/// Adds what is found where there is no array of types.
+fn add_no_types(
+    alloc: Global,
+    findings: &mut Vec<GeoFinding>,
+    key: &str,
+    old: bool,
+    found: Option<&Value<'_>>,
+) -> Result<(), AllocError>
+    requires { IfSome found (λ v. IsReadable (value_view v.now)) }
+    ensures { OnOk result (map finding findings.new.items ≡ map finding findings.old.items
+        ++ told_at GeoCode.Types (Some key.now) (part_place key.now (codes "geometry_types")) (no_types_found old (option_map (λ v. value_view v.now) found.entry)) None ∷ []) }
+{
+    let found = no_types_found(alloc, old, found)?;
+    let found = found.as_deref();
+    add_told(
+        alloc,
+        findings,
+        GeoCode::Types,
+        key,
+        "geometry_types",
+        found,
+        None,
+    )
+}
+
+/// What is found in place of an array of types: what stands there; where nothing does, the key of 0.4,
+/// if that is there.
+fn no_types_found(
+    alloc: Global,
+    old: bool,
+    found: Option<&Value<'_>>,
+) -> Result<Option<String>, AllocError>
+    requires { IfSome found (λ v. IsReadable (value_view v.now)) }
+    ensures { IfOk result (λ text. option_map string_bytes text ≡ no_types_found old (option_map (λ v. value_view v.now) found.entry)) }
+{
+    if let Some(found) = found {
+        return Ok(Some(shown_value(alloc, found)?));
+    }
+    if old {
+        return Ok(Some(String::from_str(alloc, "geometry_type")?));
+    }
+    Ok(None)
 }
 
 /// Adds what is found of the items of `geometry_types`, which stands at that place, each by those

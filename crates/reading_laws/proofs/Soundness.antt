@@ -3,7 +3,7 @@ use Rattle.std.proofs.Common.{◌≡◌, Bool, true, false, List, [], ◌∷◌,
 use Rattle.std.proofs.lemmas.Bool.{both_ways, not-false}
 use Rattle.std.proofs.lemmas.List.Elements.{All-nil, All-cons, All-head, All-tail, All-weaker}
 use Rattle.std.proofs.lemmas.Slice.Eq.{bytes_eq-Decides}
-use Rattle.json.specs.Json.{Json, string}
+use Rattle.json.specs.Json.{Json}
 use Rattle.json.specs.Find.{get}
 use Rattle.value_tokens.specs.Values.{is_object}
 use Rattle.arrow_values.specs.Tree.{Text}
@@ -23,9 +23,9 @@ use Rattle.geoparquet.specs.Spelled.{spelled}
 use Rattle.geoparquet.specs.GeoFindings.{columns_findings, primary_findings, has_primary, key_finding, name_finding, key_findings, storage_findings, fact_findings, box_findings, covered_findings, claim_findings, part_findings, own_findings, value_findings, member_findings, members_findings, column_alone_findings, alone_findings, missing_findings, object_findings, json_findings, geo_findings, unread_finding, AreTextFindings, AreSourceFindings}
 use Rattle.geoparquet.specs.Ordered.{are_some, columns_of, has_member}
 use Rattle.geoparquet.specs.RepeatedKeys.{repeated_findings}
-use Rattle.geoparquet.specs.Pairs.{first_pair, differ, of_element, of_field, pair_findings, text_findings}
+use Rattle.geoparquet.specs.Pairs.{first_pair, differ, of_element, of_field, pair_findings, texts_pair}
 use Rattle.geoparquet.specs.declared.fact_sources.FactSource.TheVariants.{Field}
-use Rattle.geoparquet.specs.Rules.{unless, found_at, found_in, part_place}
+use Rattle.geoparquet.specs.Rules.{unless, found_at, told_at, told_in, part_place}
 use Rattle.geoparquet.specs.Sources.{Source, unasked, missing, value, Element, element_named, with_elements}
 use Rattle.geoparquet.specs.Undeclared.{no_metadata_findings}
 use Rattle.geoparquet.specs.Versions.{version_of, version_findings}
@@ -83,15 +83,15 @@ otherwise false fs gs is h = h
 -- ---- pairs
 
 -- no pair is found where one would be an error
-no_pair : (code : GeoCode) (key name : Text) (found : Option Json) (element : Option Text) (field : Option Json) (own : Option Text) (a b c : Bool)
+no_pair : (code : GeoCode) (key name : Text) (found element field own : Option Text) (a b c : Bool)
     → is_error_of (severity_of code) ≡ true → HasNoError (pair_findings code key name found element field own (first_pair a b c))
     → (a ≡ false) × (b ≡ false) × (c ≡ false)
 no_pair code key name found element field own false false false is h = (refl, refl, refl)
 no_pair code key name found element field own false false true is h =
-    absurd (no_first (found_at code (Some key) (part_place key name) found (option_map of_field own)) [] is h)
-no_pair code key name found element field own false true c is h = absurd (no_first (found_in Field code key field (option_map of_element element)) [] is h)
+    absurd (no_first (told_at code (Some key) (part_place key name) found (option_map of_field own)) [] is h)
+no_pair code key name found element field own false true c is h = absurd (no_first (told_in Field code key field (option_map of_element element)) [] is h)
 no_pair code key name found element field own true b c is h =
-    absurd (no_first (found_at code (Some key) (part_place key name) found (option_map of_element element)) [] is h)
+    absurd (no_first (told_at code (Some key) (part_place key name) found (option_map of_element element)) [] is h)
 
 -- texts that do not differ
 one : (a b : Option Text) → differ a b ≡ false → AreOne a b
@@ -99,10 +99,10 @@ one None b h = tt
 one (Some a) None h = tt
 one (Some a) (Some b) h = (bytes_eq-Decides a b).0 (not-false (bytes_eq a b) h)
 
-texts_one : (code : GeoCode) (key name : Text) (found : Option Json) (element field said : Option Text)
-    → is_error_of (severity_of code) ≡ true → HasNoError (text_findings code key name found element field said) → AreAllOne element field said
-texts_one code key name found element field said is h =
-    let apart = no_pair code key name found element (option_map string field) field (differ element said) (differ element field) (differ field said) is h in
+texts_one : (code : GeoCode) (key name : Text) (found claimed shown own element field said : Option Text)
+    → is_error_of (severity_of code) ≡ true → HasNoError (pair_findings code key name found claimed shown own (texts_pair element field said)) → AreAllOne element field said
+texts_one code key name found claimed shown own element field said is h =
+    let apart = no_pair code key name found claimed shown own (differ element said) (differ element field) (differ field said) is h in
     (one element said apart.0, one element field apart.1, one field said apart.2)
 
 -- CRSs whose verdict is no contradiction
@@ -114,12 +114,12 @@ no_contradiction None b h = tt
 no_contradiction (Some a) None h = tt
 no_contradiction (Some a) (Some b) h = not_contradict (crs_verdict a b) h
 
-no_verdict : (key : Text) (found : Option Json) (element : Option Text) (field : Option Json) (own : Option Text) (a b c d e f : Bool)
-    → HasNoError (verdict_findings key found element field own (first_pair a b c) (first_pair d e f)) → (a ≡ false) × (b ≡ false) × (c ≡ false)
-no_verdict key found element field own false false false d e f h = (refl, refl, refl)
-no_verdict key found element field own false false true d e f h = no_pair CrsContradicts key (codes "crs") found element field own false false true refl h
-no_verdict key found element field own false true c d e f h = no_pair CrsContradicts key (codes "crs") found element field own false true c refl h
-no_verdict key found element field own true b c d e f h = no_pair CrsContradicts key (codes "crs") found element field own true b c refl h
+no_verdict : (key : Text) (found element own : Option Text) (a b c d e f : Bool)
+    → HasNoError (verdict_findings key found element own (first_pair a b c) (first_pair d e f)) → (a ≡ false) × (b ≡ false) × (c ≡ false)
+no_verdict key found element own false false false d e f h = (refl, refl, refl)
+no_verdict key found element own false false true d e f h = no_pair CrsContradicts key (codes "crs") found element own own false false true refl h
+no_verdict key found element own false true c d e f h = no_pair CrsContradicts key (codes "crs") found element own own false true c refl h
+no_verdict key found element own true b c d e f h = no_pair CrsContradicts key (codes "crs") found element own own true b c refl h
 
 none_contradicts : (key : Text) (found : Option Json) (shown : Option Text) (own : Option Json) (element field said : Option Claimed)
     → HasNoError (three_findings key found shown own element field said) → NoneContradicts element field said
@@ -127,36 +127,36 @@ none_contradicts key found shown own element field said h =
     let eg = pair_verdict element said in
     let ea = pair_verdict element field in
     let ag = pair_verdict field said in
-    let apart = no_verdict key found shown (crs_at own) (own_shown own) (is_contradict eg) (is_contradict ea) (is_contradict ag)
+    let apart = no_verdict key (claim_shown said found) shown (own_shown own) (is_contradict eg) (is_contradict ea) (is_contradict ag)
     (is_not_compared eg) (is_not_compared ea) (is_not_compared ag) h in
     (no_contradiction element said apart.0, no_contradiction element field apart.1, no_contradiction field said apart.2)
 
 -- ---- a column
 
-together : (key : Text) (c : Option ColumnTree) (e : Option Element) (f g k : Option Json) (encoding : Option Text) (crs : Option Claimed) (edges : Option Text)
-    → HasNoError (encodings_findings key f c e encoding) → HasNoError (crs_claims_findings key g c e crs) → HasNoError (edges_claims_findings key k c e edges)
+together : (key : Text) (c : Option ColumnTree) (e : Option Element) (g k : Option Json) (encoding : Option Text) (crs : Option Claimed) (edges : Option Text)
+    → HasNoError (encodings_findings key c e encoding) → HasNoError (crs_claims_findings key g c e crs) → HasNoError (edges_claims_findings key k c e edges)
     → GoesTogether e c encoding crs edges
-together key c e f g k encoding crs edges no_encoding no_crs no_edges =
+together key c e g k encoding crs edges no_encoding no_crs no_edges =
     let own = element_json e c in
     let element = element_crs e own in
     let field = field_json e c in
     let edges_of_element = element_edges e (element_metadata e c) in
     let edges_of_field = field_edges e (own_metadata c) in
     record {
-      encodings = texts_one EncodingContradicts key (codes "encoding") f (element_encoding e) (field_encoding e c) encoding refl no_encoding;
-      crss = none_contradicts key g (claim_shown element own) field element (own_crs_in field) crs no_crs;
-      edges_said = texts_one EdgesContradict key (codes "edges") k edges_of_element edges_of_field edges refl no_edges;
+      encodings = texts_one EncodingContradicts key (codes "encoding") _ _ _ _ (element_encoding e) (field_encoding e c) encoding refl no_encoding;
+      crss = none_contradicts key g (claim_shown element (crs_at own)) field element (own_crs_in field) crs no_crs;
+      edges_said = texts_one EdgesContradict key (codes "edges") _ _ _ _ edges_of_element edges_of_field edges refl no_edges;
     }
 
 own_together : (key : Text) (c : Option ColumnTree) (e : Option Element) → HasNoError (own_findings key c e) → GoesTogether e c None None None
 unfolding own_findings
 own_together key c e h =
-    let encodings = encodings_findings key None c e None in
+    let encodings = encodings_findings key c e None in
     let crss = crs_claims_findings key None c e None in
     let edges = edges_claims_findings key None c e None in
     let three = before (encodings ++ crss ++ edges) (own_on_projected_findings key c e) h in
     let two = before (encodings ++ crss) edges three in
-    together key c e None None None None None None (before encodings crss two) (behind encodings crss two) (behind (encodings ++ crss) edges three)
+    together key c e None None None None None (before encodings crss two) (behind encodings crss two) (behind (encodings ++ crss) edges three)
 
 part_together : (cs : List ColumnTree) (version : Version) (key : Text) (c : Option ColumnTree) (e : Option Element) (j : Json)
     → HasNoError (part_findings cs version key c e j)
@@ -172,10 +172,9 @@ part_together cs version key c e j h =
     let edges = edges_contradict_findings version key c e j in
     let three = before (encodings ++ crss ++ edges) (edges_on_projected_findings version key c e j) said in
     let two = before (encodings ++ crss) edges three in
-    let encoding = get (codes "encoding") j in
     let crs = get (codes "crs") j in
     let edge = get (codes "edges") j in
-    together key c e encoding crs edge (layout_encoding version c e j) (said_crs version crs) (said_edges version edge)
+    together key c e crs edge (layout_encoding version c e j) (said_crs version crs) (said_edges version edge)
     (before encodings crss two)
     (behind encodings crss two)
     (behind (encodings ++ crss) edges three)

@@ -5,3 +5,4 @@ mod Joining
 mod Ranking
 mod Itself
 mod Exchanging
+mod Compared

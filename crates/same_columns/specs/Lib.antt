@@ -5,3 +5,4 @@ pub mod Differences
 pub mod Laws
 pub mod Unlike
 pub mod Lines
+pub mod Files

@@ -32,6 +32,25 @@ unsafe extern "C" {
         out_len: usize,
         len: *mut usize,
     ) -> u8;
+    fn geoarrow_same(
+        options: u8,
+        first: *const u8,
+        first_len: usize,
+        other: *const u8,
+        other_len: usize,
+        name: *const u8,
+        name_len: usize,
+        out: *mut u8,
+        out_len: usize,
+        len: *mut usize,
+    ) -> u8;
+    fn geoarrow_canonical(
+        bytes: *const u8,
+        bytes_len: usize,
+        out: *mut u8,
+        out_len: usize,
+        len: *mut usize,
+    ) -> u8;
     fn geoarrow_write_schema(
         lines: *const u8,
         lines_len: usize,
@@ -46,7 +65,7 @@ pub(crate) fn version() -> u32 {
     unsafe { geoarrow_version() }
 }
 
-// SAFETY, of the four calls below: the pointers and lengths are those of slices, of a text and of a `usize` that are borrowed for the call. None is null,
+// SAFETY, of the six calls below: the pointers and lengths are those of slices, of a text and of a `usize` that are borrowed for the call. None is null,
 // also of an empty one, and none of them is longer than `isize::MAX`. `out` and `len` are borrowed mutably, so they overlap nothing, and nobody else uses them.
 
 pub(crate) fn answer(command: u8, line: &[u8]) -> Result<Vec<u8>, Error> {
@@ -81,6 +100,35 @@ pub(crate) fn report(options: u8, name: &str, bytes: &[u8]) -> Result<Vec<u8>, E
             options,
             name.as_ptr(),
             name.len(),
+            bytes.as_ptr(),
+            bytes.len(),
+            out.as_mut_ptr(),
+            out.len(),
+            len,
+        )
+    })
+}
+
+pub(crate) fn same(options: u8, first: &[u8], name: &str, other: &[u8]) -> Result<Vec<u8>, Error> {
+    filled(name.len(), |out, len| unsafe {
+        geoarrow_same(
+            options,
+            first.as_ptr(),
+            first.len(),
+            other.as_ptr(),
+            other.len(),
+            name.as_ptr(),
+            name.len(),
+            out.as_mut_ptr(),
+            out.len(),
+            len,
+        )
+    })
+}
+
+pub(crate) fn canonical(bytes: &[u8]) -> Result<Vec<u8>, Error> {
+    filled(bytes.len(), |out, len| unsafe {
+        geoarrow_canonical(
             bytes.as_ptr(),
             bytes.len(),
             out.as_mut_ptr(),

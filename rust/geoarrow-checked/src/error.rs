@@ -11,17 +11,20 @@ pub enum Error {
     OutOfMemory,
     /// More than 1,000,000 lines, or a line of more than 1,048,576 bytes.
     Limit,
-    /// The bytes are refused, and why.
+    /// The bytes are refused, and why; of two files those of the other one.
     Refused(Finding),
+    /// Of two files the bytes of the first are refused, and why.
+    FirstRefused(Finding),
     /// A line of a report that this crate cannot read.
     Line(String),
-    /// A status that this crate does not know, or 5 with a line that it cannot read.
+    /// A status that this crate does not know, or 5 or 6 with a line that it cannot read.
     Other(u8),
 }
 
 const MEMORY: u8 = 2;
 const LIMIT: u8 = 4;
 const REFUSED: u8 = 5;
+const FIRST_REFUSED: u8 = 6;
 
 /// The error of a status at which there is no answer, with what was written.
 pub(crate) fn error_of(status: u8, written: &[u8]) -> Error {
@@ -29,6 +32,7 @@ pub(crate) fn error_of(status: u8, written: &[u8]) -> Error {
         MEMORY => Error::OutOfMemory,
         LIMIT => Error::Limit,
         REFUSED => refused(written).map_or(Error::Other(REFUSED), Error::Refused),
+        FIRST_REFUSED => refused(written).map_or(Error::Other(FIRST_REFUSED), Error::FirstRefused),
         other => Error::Other(other),
     }
 }
@@ -46,6 +50,7 @@ impl Display for Error {
                 f.write_str("more than 1,000,000 lines, or a line of more than 1,048,576 bytes")
             }
             Error::Refused(finding) => finding.fmt(f),
+            Error::FirstRefused(finding) => write!(f, "the first file: {finding}"),
             Error::Line(line) => write!(f, "a line that is not read: {line}"),
             Error::Other(status) => write!(f, "status {status}"),
         }
@@ -68,9 +73,10 @@ mod tests {
         };
         assert_eq!((finding.code(), finding.line()), ("C", Some(7)));
         assert_eq!(finding.as_json().as_bytes(), &LINE[..LINE.len() - 1]);
+        assert_eq!(error_of(6, LINE), Error::FirstRefused(finding));
         assert_eq!(error_of(2, LINE), Error::OutOfMemory);
         assert_eq!(error_of(4, LINE), Error::Limit);
-        for other in [1, 3, 6, 11, 16, 30, 255] {
+        for other in [1, 3, 7, 11, 16, 30, 255] {
             assert_eq!(error_of(other, LINE), Error::Other(other));
         }
         for line in [
@@ -84,6 +90,7 @@ mod tests {
             &[LINE, b"\n"].concat(),
         ] {
             assert_eq!(error_of(5, line), Error::Other(5));
+            assert_eq!(error_of(6, line), Error::Other(6));
         }
     }
 
@@ -96,6 +103,10 @@ mod tests {
                 "more than 1,000,000 lines, or a line of more than 1,048,576 bytes",
             ),
             (error_of(5, LINE), "error[C] line 7: found f; expected e"),
+            (
+                error_of(6, LINE),
+                "the first file: error[C] line 7: found f; expected e",
+            ),
             (Error::Line("{}".into()), "a line that is not read: {}"),
             (Error::Other(3), "status 3"),
         ] {

@@ -108,6 +108,71 @@ fn number_of(options: Options) -> u8 {
     u8::from(options.infer) | u8::from(options.notes) << 1
 }
 
+/// In what the columns of a file are not those of the first, from the bytes of both, as `geoarrow_check --same` tells it (docs/FORMAT.md, 2.9): a
+/// [`Finding`] for each difference, first of the columns of the other file, in their order, then of those that it lacks; none where nothing
+/// differs. A column is compared with that of its name in the first file, the second of a name with the second: by its type, its encoding, its
+/// edges and its CRS. Types that are inferred are compared where the options ask for them, and a CRS of which nothing tells whether it is that of
+/// the first file is a note. Of lines, those that are no columns are passed over.
+///
+/// ```
+/// use geoarrow_checked::{same, Error, Options};
+///
+/// let first = br#"{"name":"id","nullable":true,"type":"int64"}"#;
+/// let other = br#"{"name":"id","nullable":true,"type":"int32"}"#;
+/// let found = same(first, other, Options::default())?;
+/// assert_eq!(found[0].to_string(), "error[NotSame] column id: found int32; expected int64. The first file has another type.");
+/// assert!(same(first, first, Options::default())?.is_empty());
+/// let Err(Error::FirstRefused(why)) = same(b"", other, Options::default()) else { panic!("the first file is read") };
+/// assert_eq!(why.code(), "EmptyFile");
+/// # Ok::<(), geoarrow_checked::Error>(())
+/// ```
+///
+/// # Errors
+///
+/// [`Error::FirstRefused`] where the first file is refused, and [`Error::Refused`] where the other is, with why and where;
+/// [`Error::OutOfMemory`].
+pub fn same(first: &[u8], other: &[u8], options: Options) -> Result<Vec<Finding>, Error> {
+    same_named(first, "", other, options)
+}
+
+/// The same, with the name of the other file in each [`Finding`], also in the one where it is refused. An empty name is none.
+///
+/// # Errors
+///
+/// As [`same`].
+pub fn same_named(
+    first: &[u8],
+    name: &str,
+    other: &[u8],
+    options: Options,
+) -> Result<Vec<Finding>, Error> {
+    findings(&text(calls::same(number_of(options), first, name, other)?))
+}
+
+/// The columns of a file in normal form, from its bytes, as lines, each with a line feed, in their order, as `geoarrow_check --canonical --lines` prints
+/// them (docs/FORMAT.md, 2.10): a column that holds geometries by its extension name with the data type, the extension name and the metadata that
+/// GeoArrow writes for them, and any other as it is. The columns are those of [`check`], of a GeoParquet file by its metadata, where no types
+/// are inferred; what is found in them is not told. [`write_schema`] makes an Arrow stream of the lines. Of lines, those that are no columns are
+/// left out.
+///
+/// ```
+/// use geoarrow_checked::{canonical, write_schema};
+///
+/// let lines = br#"{"metadata":{"ARROW:extension:name":"ogc.wkb"},"name":"g","nullable":true,"type":"binary"}"#;
+/// let found = canonical(lines)?;
+/// let wanted = r#"{"metadata":{"ARROW:extension:name":"geoarrow.wkb"},"name":"g","nullable":true,"type":"binary"}"#;
+/// assert_eq!(found, format!("{wanted}\n"));
+/// assert_eq!(canonical(&write_schema(found.as_bytes())?)?, found);
+/// # Ok::<(), geoarrow_checked::Error>(())
+/// ```
+///
+/// # Errors
+///
+/// [`Error::Refused`] where the bytes are refused, with why and where; [`Error::OutOfMemory`].
+pub fn canonical(source: &[u8]) -> Result<String, Error> {
+    Ok(text(calls::canonical(source)?))
+}
+
 /// An Arrow stream of the schema whose columns the lines denote, one a line (docs/FORMAT.md, 2.7 and 3.6). It has the schema alone: no
 /// batches, and no mark of the stream's end.
 ///

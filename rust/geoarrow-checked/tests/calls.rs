@@ -143,6 +143,7 @@ fn reports_of_files() {
             assert_eq!(named, wanted);
             assert_eq!(line, without_file(wanted));
         }
+        assert!(wanted.next().unwrap().starts_with(r#"{"kind":"file","#));
     }
     assert!(wanted.next().unwrap().starts_with(r#"{"kind":"summary","#));
     assert_eq!(wanted.next(), None);

@@ -1,7 +1,7 @@
-use Rattle.std.proofs.Common.{◌≡◌, Some, option_map, string_bytes, ap, sym, ◌∙◌, subst}
+use Rattle.std.proofs.Common.{◌≡◌, Some, option_map, string_bytes, ap, sym, ◌∙◌}
 use Rattle.std.proofs.lemmas.Result.{on_ok_weaker}
-use Rattle.column_reports.specs.Capped.{key_of, seen_at}
-use Rattle.column_reports.proofs.Capping.{kept_at, seen_with}
+use Rattle.column_reports.specs.Capped.{key_of}
+use Rattle.column_reports.proofs.Capping.{seen_with}
 use Rattle.column_reports.proofs.capped.add_kept.Goals as goal
 
 pub returns-in_ok-count-in-Some-clause-seen : goal.returns-in_ok-count-in-Some-clause-seen

@@ -1,4 +1,4 @@
-use Rattle.std.proofs.Common.{[], ◌∷◌, ◌++◌, ap, sym, ◌∙◌, subst, rules, arith}
+use Rattle.std.proofs.Common.{[], ◌++◌, ap, sym, ◌∙◌, subst, arith}
 use Rattle.column_reports.specs.Capped.{AreSeen, kept_of}
 use Rattle.column_reports.proofs.Capping.{kept_more, short_stays}
 use Rattle.column_reports.proofs.capped.capped.Goals as goal

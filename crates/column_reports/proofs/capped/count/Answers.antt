@@ -1,4 +1,4 @@
-use Rattle.std.proofs.Common.{string_bytes, ap, sym, ◌∙◌, subst}
+use Rattle.std.proofs.Common.{string_bytes, ap, ◌∙◌}
 use Rattle.column_reports.specs.Capped.{one_seen, seen_at}
 use Rattle.column_reports.proofs.Capping.{put_seen}
 use Rattle.column_reports.proofs.capped.count.Goals as goal

@@ -5,4 +5,4 @@ use Rattle.column_reports.proofs.Reported.{viewed}
 use Rattle.column_reports.proofs.file.report_columns.Given as goal
 
 abbrev pub invariant-loop-column : goal.invariant-loop-column
-invariant-loop-column l = AreReported l.infer (weighing l.weights) l.alone (map viewed l.yielded) l.reported.items
+invariant-loop-column l = AreReported l.infer (weighing l.weights) l.fn.about.alone (map viewed l.yielded) l.reported.items

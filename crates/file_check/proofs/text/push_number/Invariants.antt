@@ -1,4 +1,4 @@
-use Rattle.std.proofs.Common.{◌≡◌, ◌++◌, List, ℕ, string_bytes}
+use Rattle.std.proofs.Common.{◌≡◌, ◌++◌, string_bytes}
 use Rattle.std.specs.Str.{encode_utf8_all}
 use Rattle.std.specs.Char.Escape.{escape_unicode}
 use Rattle.std.specs.Char.Iter.{escape_rest}

@@ -1,0 +1,9 @@
+pub mod Reading
+pub mod ReadFrom
+pub mod Extensions
+pub mod WrittenBack
+pub mod Stays
+pub mod Ported
+pub mod Warnings
+pub mod WholeNumbers
+pub mod Answered

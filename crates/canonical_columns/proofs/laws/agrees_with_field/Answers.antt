@@ -1,0 +1,5 @@
+use Rattle.canonical_columns.proofs.Ported.{agrees_with_field}
+use Rattle.canonical_columns.proofs.laws.agrees_with_field.Goals as goal
+
+pub returns : goal.returns
+returns c = agrees_with_field c.names_are_distinct.ensures c.one_kind.ensures c.kind_or_fault.ensures c.metadata_is_unique.ensures.values c.metadata_is_unique.ensures.values_or_fault

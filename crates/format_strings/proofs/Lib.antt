@@ -1,0 +1,4 @@
+pub mod Parsed
+pub mod Written
+pub mod Forth
+pub mod Back

@@ -1,0 +1,14 @@
+//! The format strings of Arrow's C data interface, and the kinds of types that they say.
+//!
+//! A number in a format string is read only as it is written: in decimal, without a plus and
+//! without zeros in front.
+#![tactic(auto)]
+
+pub mod laws;
+mod numbers;
+mod read;
+mod words;
+mod write;
+
+pub use read::{Format, read_format};
+pub use write::write_format;

@@ -1,0 +1,4 @@
+pub mod Fault
+pub mod Record
+pub mod Write
+pub mod Trees

@@ -1,0 +1,60 @@
+/* A tree of ArrowSchema structures as records, and back (docs/FORMAT.md, 6), within the library. */
+#ifndef GEOARROW_RECORDS_H
+#define GEOARROW_RECORDS_H
+#include <stddef.h>
+#include <stdint.h>
+
+#if !defined(__BYTE_ORDER__) || __BYTE_ORDER__ != __ORDER_LITTLE_ENDIAN__
+#error "The numbers of records have their least byte first, and so must those of the machine."
+#endif
+
+#ifndef ARROW_C_DATA_INTERFACE
+#define ARROW_C_DATA_INTERFACE
+#define ARROW_FLAG_DICTIONARY_ORDERED 1
+#define ARROW_FLAG_NULLABLE 2
+#define ARROW_FLAG_MAP_KEYS_SORTED 4
+struct ArrowSchema {
+    const char *format, *name, *metadata;
+    int64_t flags, n_children;
+    struct ArrowSchema **children, *dictionary;
+    void (*release)(struct ArrowSchema *);
+    void *private_data;
+};
+#endif
+
+/* The most levels, structures and bytes. */
+enum { RECORDS_LEVELS = 64, RECORDS_STRUCTURES = 4000000, RECORDS_MOST = 1 << 28 };
+/* How many bytes the numbers of a record take; its marks, which are below RECORD_MARKS. */
+enum { RECORD_HEAD = 32 };
+enum { RECORD_DICTIONARY = 1, RECORD_NO_NAME = 2, RECORD_METADATA = 4, RECORD_MARKS = 8 };
+
+enum records_status {
+    RECORDS_DONE,
+    RECORDS_MEMORY,   /* out of memory */
+    RECORDS_LARGE,    /* more than 2^28 bytes, or than 4,000,000 structures */
+    RECORDS_DEEP,     /* a structure lies in 64 */
+    RECORDS_NULL,     /* a structure that is NULL */
+    RECORDS_RELEASED, /* a structure that is released */
+    RECORDS_FORMAT,   /* a format that is NULL */
+    RECORDS_COUNT,    /* a number of children that is negative, or more than 2^28 */
+    RECORDS_CHILDREN, /* children that are NULL */
+    RECORDS_METADATA, /* a negative number in metadata */
+    RECORDS_BROKEN    /* bytes that are no records */
+};
+
+/* The records; and where a refused structure is: in how many structures it lies, and in each
+ * of these, from the outermost on, which child leads there; -1 is the dictionary. */
+struct records {
+    uint8_t *bytes;
+    size_t len, room;
+    uint32_t count, depth;
+    int64_t path[RECORDS_LEVELS];
+};
+
+/* Copies a tree, which stays the caller's and is not released. `out` is all zeros; the caller frees
+ * out->bytes, whatever the status is. */
+enum records_status records_of_schema(const struct ArrowSchema *schema, struct records *out);
+
+/* Makes a tree, which the caller releases. Where it is not made, out->release is NULL. */
+enum records_status schema_of_records(const uint8_t *bytes, size_t len, struct ArrowSchema *out);
+#endif
