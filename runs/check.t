@@ -461,9 +461,10 @@ A stream as written before Arrow 0.15, without the marker, as flatc wrote it: as
    200000 {"metadata":{"ARROW:extension:name":"geoarrow.point"
    200000 {"kind":"column","column":"geometry","state":"geomet
         1 {"kind":"finding","severity":"error","code":"Expect"
+        1 {"kind":"file","read":true,"columns":200000,"geometr
         1 ::error title=Expect::column b, arguments: expected 
 
-  $ yes "$(cat point.jsonl)" | head -n 200000 | (ulimit -v 16000; geoarrow_check --json -) | sed -n '1p;$p' | grep -o '"index":[0-9]*'
+  $ yes "$(cat point.jsonl)" | head -n 200000 | (ulimit -v 16000; geoarrow_check --json -) | grep -o '"index":[0-9]*' | sed -n '1p;$p'
   "index":0
   "index":199999
 
@@ -620,6 +621,7 @@ A PROJJSON of 60,009 bytes that 2,048 columns of a Parquet file name: refused, i
   >     (ulimit -v 64000; geoarrow_check $words bomb.parquet)
   > done
   {"kind":"finding","severity":"error","code":"ReportTooLarge","file":"bomb.parquet","found":"a larger report","expected":"a report of at most 1048576 bytes and 32 for each byte read"}
+  {"kind":"file","file":"bomb.parquet","read":false,"status":2}
   bomb.parquet: error[ReportTooLarge]: found a larger report; expected a report of at most 1048576 bytes and 32 for each byte read
   bomb.parquet: error[ReportTooLarge]: found a larger report; expected a report of at most 1048576 bytes and 32 for each byte read
   bomb.parquet: error[ReportTooLarge]: found a larger report; expected a report of at most 1048576 bytes and 32 for each byte read
