@@ -1,4 +1,4 @@
-The first example of the README: a table
+Lines without inference: a table
 
   $ geoarrow_check ../examples/schema.jsonl
     column     holds                                     CRS        edges
@@ -13,6 +13,15 @@ The first example of the README: a table
   E broken     invalid geoarrow.geometry
       error[EmptyUnion] field: found dense_union<>; expected union whose type ids are among 1 to 7, 11 to 17, 21 to 27 and 31 to 37. The union has no members.
   [1]
+
+The README: the line of its example is the first of the file, its table is what its command prints, and its command for CI fails
+
+  $ grep -c -x -F -- "$(sed -n 's/^    \(.*"id",.*\)/\1/p' "$top/README.md")" ../examples/schema.jsonl
+  > cd "$top" && sed -n '/^    bin.try check --infer/,/^`E`/s/^    //p' README.md | sed 1d > "$TMPDIR/table"
+  > geoarrow_check $(sed -n 's/^    bin.try check//p' README.md) | cmp - "$TMPDIR/table"
+  > geoarrow_check $(sed -n 's/^    bin.geoarrow_check//p' README.md) > "$TMPDIR/problems" || echo "status $?"
+  1
+  status 1
 
 Several files, each under its name; a CRS by its code, its name or its text; an extension; what is inferred; places of faults; names that control terminals
 

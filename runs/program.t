@@ -11,7 +11,7 @@ A point under each command
   $ geoarrow_fields columns < point.jsonl
   geometry point separated XY -
 
-The first example of the README
+Fields of many kinds, and lines that are none
 
   $ geoarrow_fields read < ../examples/points.jsonl
   point separated XY -
@@ -23,7 +23,7 @@ The first example of the README
   error field
   error field
 
-The second
+A schema
 
   $ geoarrow_fields columns < ../examples/schema.jsonl
   other
