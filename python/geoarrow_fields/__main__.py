@@ -200,8 +200,13 @@ def _input() -> bytes:
     return bytes(sys.stdin.buffer.read())
 
 
-if __name__ == "__main__":
+def script() -> int:
+    """What the script `geoarrow-fields` does, and `python -m geoarrow_fields`: the status."""
     for stream in (sys.stdout, sys.stderr):
         if isinstance(stream, io.TextIOWrapper):
             stream.reconfigure(encoding="utf-8", errors="backslashreplace")  # whatever the locale is, as the program does
-    sys.exit(main())
+    return main()
+
+
+if __name__ == "__main__":
+    sys.exit(script())

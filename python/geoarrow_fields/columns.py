@@ -3,7 +3,7 @@ import collections
 import dataclasses
 import itertools
 import json
-from typing import Any, Dict, Iterable, Iterator, List, Optional, Tuple
+from typing import Any, Dict, Iterable, Iterator, List, Optional, SupportsIndex, Tuple, Union, overload
 
 from . import tables
 
@@ -134,10 +134,25 @@ _ATTRIBUTES = frozenset(field.name for field in dataclasses.fields(Column) if fi
 class Columns(List[Column]):
     """Columns, which are shown as a table: of text, and in a notebook of HTML. `findings` are what is found in the file beside its columns, as in the footer
     and in the GeoParquet metadata of a Parquet file; they stand behind the table. `bad_lines` are what is found of the lines of a file of lines that are no
-    columns, at most a hundred, of which the last says how many more there are; they stand there too."""
+    columns, at most a hundred, of which the last says how many more there are; they stand there too. `columns["geom"]` is the column of that name."""
 
     findings: Tuple[Finding, ...] = ()
     bad_lines: Tuple[Finding, ...] = ()
+
+    @overload
+    def __getitem__(self, at: Union[str, SupportsIndex]) -> Column: ...
+
+    @overload
+    def __getitem__(self, at: slice) -> List[Column]: ...
+
+    def __getitem__(self, at: Union[str, SupportsIndex, slice]) -> Union[Column, List[Column]]:
+        """The column of that name, or at that place. `KeyError` where no column has the name, or more than one."""
+        if not isinstance(at, str):
+            return super().__getitem__(at)
+        named = [one for one in self if one.name == at]
+        if len(named) != 1:
+            raise KeyError(f"{len(named)} columns are named {at!r}" if named else f"no column is named {at!r}")
+        return named[0]
 
     def table(self, said: Iterable[str] = ()) -> str:
         """The table of text as `geoarrow_check` prints it, and behind it lines of what else is said, as of bad lines, before the findings of the file."""

@@ -42,6 +42,21 @@ class Answers(unittest.TestCase):
                     call()
 
 
+class Names(unittest.TestCase):
+    def test_the_column_of_a_name(self):
+        columns = columns_of("".join(f'{{"kind":"column","index":{at},"column":"{name}","state":"plain","type":"utf8"}}\n' for at, name in enumerate(["t", "p", "p", ""])))
+        self.assertEqual([columns["t"], columns[""]], [columns[0], columns[-1]])
+        self.assertEqual([one.name for one in columns[:2]], ["t", "p"])
+        for name, words in (("p", "2 columns are named 'p'"), ("T", "no column is named 'T'")):
+            with self.assertRaises(KeyError) as raised:
+                columns[name]
+            self.assertEqual(raised.exception.args, (words,))
+        with self.assertRaises(IndexError):
+            columns[4]
+        with self.assertRaises(TypeError):
+            columns[b"t"]
+
+
 class Checks(unittest.TestCase):
     def test_sources(self):
         nullable = Finding("warning", "NullableInner", path=("xy",), source="field", found="nullable", expected="not null")

@@ -64,6 +64,8 @@ class Wheel(unittest.TestCase):
             modules = {f"geoarrow_fields/{one.name}" for one in (TOP / "python/geoarrow_fields").iterdir() if one.suffix in (".py", ".typed")}
             others = {"geoarrow_fields/" + name for name in ("libgeoarrow_c.so", "LICENSE-APACHE", "LICENSE-MIT", "NOTICE")}
             self.assertEqual({name for name in held.namelist() if ".dist-info/" not in name}, modules | others)
+            (points,) = (name for name in held.namelist() if name.endswith(".dist-info/entry_points.txt"))
+            self.assertEqual(held.read(points).decode().split(), ["[console_scripts]", "geoarrow-fields", "=", "geoarrow_fields.__main__:script"])
 
     def test_that_nothing_is_left_beside_it(self):
         self.wheel()
@@ -84,6 +86,9 @@ class Wheel(unittest.TestCase):
                     self.assertEqual(said.stdout.decode(), self.table)
                     said = ran(python, "-c", self.code, cwd=TOP, env={**environment, "PYTHONPATH": target})
                     self.assertEqual(said.stdout.decode(), self.table)
+                    words = [f"{target}/bin/geoarrow-fields", "check", "--infer", "examples/schema.jsonl"]
+                    said = ran(*words, cwd=TOP, env={**environment, "PYTHONPATH": target, "LC_ALL": "C"})
+                    self.assertEqual((said.stdout.decode(), said.returncode), (self.table, 1))
 
     def test_without_the_library(self):
         words = [BUILDERS[-1], "-m", "pip", "wheel", "--no-build-isolation", "--no-index", "--no-deps", "-w", str(self.folder / "none"), "."]
