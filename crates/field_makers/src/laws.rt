@@ -1,0 +1,38 @@
+//! Laws of columns that are made: functions whose contract is the law.
+ghost use Rattle.geoarrow_layout.specs.declared.native_kinds.Kind.{Kind};
+ghost use Rattle.geoarrow_layout.specs.Layouts.{layout};
+ghost use Rattle.geoarrow_layout.specs.Shapes.{Accepted};
+ghost use Rattle.field_makers.specs.Laws.{MadeIsCanonical, MadeIsFound};
+
+use column_check::laws::{kind_or_fault, metadata_is_unique};
+use geoarrow_layout::{Kind, kind_is_listed, layout_reads_back, names_are_distinct, one_kind};
+
+/// A law: what `inspect_column` says of a column that is made is that it holds geometries of exactly the
+/// kind, the CRS as it is written, the CRS type and the edges that it is made of; so it is with inference
+/// and without. There is no need to run this.
+pub fn made_is_found()
+    ensures { MadeIsFound }
+{
+    layouts_read_back();
+    names_are_distinct();
+    one_kind();
+    kind_or_fault();
+    metadata_is_unique();
+}
+
+/// A law: a column that is made is its own normal form. There is no need to run this.
+pub fn made_is_canonical()
+    ensures { MadeIsCanonical }
+{
+    layouts_read_back();
+}
+
+/// A law: the data type that is written for a kind is of that kind.
+fn layouts_read_back()
+    ensures { (k : Kind) → Accepted k (layout k) }
+{
+    kind_is_listed();
+    for kind in &Kind::ALL {
+        layout_reads_back(*kind);
+    }
+}
