@@ -1,5 +1,5 @@
 -- Of a column that is made its geometries are said, and it is its own normal form.
-use Rattle.std.proofs.Common.{◌≡◌, ◌↔◌, [], ◌∷◌, Bool, false, codes, Option, None, Some, option_map, refl, sym, ap, ◌∙◌, subst}
+use Rattle.std.proofs.Common.{◌≡◌, [], ◌∷◌, Bool, false, codes, Option, None, Some, option_map, refl, sym, ap, ◌∙◌, subst}
 use Rattle.json.specs.Json.{Json}
 use Rattle.json.specs.Find.{get}
 use Rattle.json.specs.Tree.{json_tokens}
@@ -7,7 +7,7 @@ use Rattle.value_tokens.specs.Codes.{json_from, json_from-json_tokens}
 use Rattle.arrow_values.specs.Tree.{Text, Tree}
 use Rattle.arrow_values.specs.Texts.{name_key, metadata_key, text_at, set_extension}
 use Rattle.arrow_columns.specs.Column.{name_on, metadata_on}
-use Rattle.arrow_columns.specs.Types.{TypeTree, ColumnTree}
+use Rattle.arrow_columns.specs.Types.{TypeTree}
 use Rattle.geoarrow_layout.specs.declared.names.ExtensionName.{ExtensionName}
 use Rattle.geoarrow_layout.specs.declared.names.ExtensionName.TheVariants as names
 use Rattle.geoarrow_layout.specs.declared.native_kinds.NativeKind.TheVariants.{Point, LineString, Polygon, MultiPoint, MultiLineString, MultiPolygon, GeometryCollection}
@@ -15,7 +15,7 @@ use Rattle.geoarrow_layout.specs.declared.native_kinds.Kind.{Kind}
 use Rattle.geoarrow_layout.specs.Kinds.{name_text, name_of, extension_of}
 use Rattle.geoarrow_layout.specs.Layouts.{layout}
 use Rattle.geoarrow_layout.specs.Shapes.{Accepts, Accepted}
-use Rattle.column_check.specs.OldNames.{current_name, name_read}
+use Rattle.column_check.specs.OldNames.{current_name}
 use Rattle.column_check.specs.Metadata.{Values, values_of, unless_null, TextDenotes, TextHasCrs, HasMetadataFault}
 use Rattle.column_check.specs.Types.{TypeAccepted, HasTypeFault}
 use Rattle.column_check.specs.Finding.{HasName, HasOtherName, IsInvalidFor, IsFinding}
@@ -25,7 +25,7 @@ use Rattle.column_check.specs.declared.finding.Reasons.{Reasons}
 use Rattle.column_check.specs.declared.finding.Reasons.TheVariants.{UnknownExtension, DataType, Metadata, DataTypeAndMetadata, Unread}
 use Rattle.column_check.specs.declared.finding.Finding.{Finding}
 use Rattle.column_check.specs.declared.finding.Finding.TheVariants.{Geometry, Invalid, Extension, Inferred, Plain}
-use Rattle.canonical_columns.specs.Canonical.{normal_text, IsCanonical}
+use Rattle.canonical_columns.specs.Canonical.{normal_text}
 use Rattle.field_makers.specs.declared.new_column.NewColumn.{NewColumn}
 use Rattle.field_makers.specs.Made.{metadata_of, made, CanBeMade}
 use Rattle.field_makers.specs.Laws.{geometry_of, MadeIsFound, MadeIsCanonical}
@@ -100,7 +100,7 @@ module _ (layouts : (k : Kind) → Accepted k (layout k)) where
       let again = set_again (name_of n.kind) (normal_text (metadata_of n)) in
       (Geometry (geometry_of n), said false n can, λ i. record (made n) { metadata = again i })
 
--- ---- and nothing else
+  -- ---- and nothing else
 
   module _ (distinct : (a b : ExtensionName) → name_text a ≡ name_text b → a ≡ b)
       (one_kind : (name : Text) (t : Tree) (k l : Kind) → Accepts name t k → Accepts name t l → k ≡ l)

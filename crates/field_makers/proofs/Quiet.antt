@@ -1,5 +1,5 @@
 -- Of a column that is made nothing is found, where its CRS and its type go together.
-use Rattle.std.proofs.Common.{◌≡◌, ℕ, zero, suc, List, [], ◌∷◌, ◌++◌, map, Bool, true, false, not, ◌&&◌, cond, is_some, Option, None, Some, refl, sym, ap, ◌∙◌, subst, arith}
+use Rattle.std.proofs.Common.{◌≡◌, ℕ, zero, suc, List, [], ◌∷◌, ◌++◌, map, Bool, true, false, not, ◌&&◌, cond, is_some, Option, None, Some, refl, ap, ◌∙◌, subst, arith}
 use Rattle.std.specs.List.{filter}
 use Rattle.std.specs.Prelude.{⊤, option_to_list}
 use Rattle.json.specs.Json as json
@@ -7,7 +7,7 @@ use Rattle.json.specs.Json.{Json, document}
 use Rattle.json.specs.Print.{print}
 use Rattle.json.specs.Tree.{json_tokens}
 use Rattle.json.proofs.Printed.Trees.{document-print}
-use Rattle.value_tokens.specs.Values.{is_object}
+use Rattle.value_tokens.specs.Values.{is_object, is_string}
 use Rattle.arrow_values.specs.Tree.{Text, Tree}
 use Rattle.arrow_columns.specs.Column.{name_on, metadata_on}
 use Rattle.arrow_columns.specs.Types.{TypeTree, ColumnTree}
@@ -28,7 +28,7 @@ use Rattle.crs_identity.specs.declared.malformed.Part.{Part}
 use Rattle.column_check.specs.Parts.{Spot}
 use Rattle.column_check.specs.NotWhole.{not_whole_in}
 use Rattle.column_check.specs.KeyWarnings.{spots_in, key_warnings}
-use Rattle.column_check.specs.CrsWarnings.{crs_spot, is_empty_crs, projjson_in, part_spot, are_wrong, malformed_spots, is_malformed, is_srid, contradicts, is_old_wkt, lacks_type, is_odd_crs, form_warnings, value_warnings, read_warnings, warnings_of_crs, crs_warnings}
+use Rattle.column_check.specs.CrsWarnings.{crs_spot, projjson_in, part_spot, are_wrong, malformed_spots, is_malformed, contradicts, is_old_wkt, lacks_type, is_odd_crs, form_warnings, value_warnings, read_warnings, warnings_of_crs, crs_warnings}
 use Rattle.column_check.specs.Said.{Said, said, said_if, at_most, at_each}
 use Rattle.column_check.specs.Warnings.{AreWarnings, name_warnings, text_warnings, number_warnings, axis_warnings, nullable_warnings, union_warnings, layout_warnings, type_warnings, type_findings}
 use Rattle.column_check.specs.declared.code.WarningCode.{WarningCode}
@@ -40,8 +40,7 @@ use Rattle.column_check.specs.declared.finding.Finding.TheVariants.{Geometry}
 use Rattle.column_check.specs.declared.warning.Warning.{Warning}
 use Rattle.canonical_columns.specs.Canonical.{IsWritable}
 use Rattle.canonical_columns.specs.Laws.{normal_values, is_of_form, CanonicalKeepsWarnings}
-use Rattle.field_makers.specs.declared.new_column.NewColumn.{NewColumn}
-use Rattle.field_makers.specs.Made.{crs_of, metadata_of, made, is_written, is_type_alone, CanBeMade}
+use Rattle.field_makers.specs.Made.{crs_of, metadata_of, made, is_written, is_type_alone}
 use Rattle.field_makers.specs.Laws.{geometry_of, MadeIsFound, MadeIsCanonical, Fits, GoTogether, is_noted, NothingIsFound}
 use Rattle.field_makers.proofs.Written.{projjson_text, crs_ready}
 use Rattle.field_makers.proofs.ReadBack.{read_printed}
@@ -159,7 +158,7 @@ crs_quiet notes t j (numbers, shallow, (d, is)) even together noted =
     (λ i. read_warnings t (found i) ++ option_to_list (cond (noted i) (not_whole_in (found i)) None)) ∙ ap (λ ws. ws ++ []) (value_quiet t j even together)
 
 not_odd : (j : Json) → is_object j ≡ true → is_odd_crs j ≡ false
-not_odd j h = ap (λ b. not b && not _) h
+not_odd j h = ap (λ b. not b && not (is_string j)) h
 
 quiet_by : (notes : Bool) (c : WrittenCrs) (t : Option CrsType) → is_written c ≡ true → GoTogether t (crs_of c) → is_noted notes (crs_of c) ≡ false → warnings_of_crs notes t (crs_of c) ≡ []
 quiet_by notes crs.Absent t h together noted = refl
@@ -187,6 +186,6 @@ pub nothing_found : MadeIsFound → MadeIsCanonical → CanonicalKeepsWarnings �
 nothing_found found canonical keeps notes n ws can together noted are =
     let g = geometry_of n in
     let again : AreWarnings notes (made n) (Geometry (record { kind = n.kind; metadata = normal_values (metadata_of n) })) ws
-        = subst (λ m. AreWarnings notes (made n) (Geometry (record { kind = n.kind; metadata = m })) ws) (normal_by n.crs n.crs_type n.edges can.1) are in
+    = subst (λ m. AreWarnings notes (made n) (Geometry (record { kind = n.kind; metadata = m })) ws) (normal_by n.crs n.crs_type n.edges can.1) are in
     let left = keeps false notes (made n) (made n) (Geometry g) ws ws (canonical n can) ((found false n (Geometry g) can).1 refl) are again in
     empty ws (left ∙ all_form notes (made n) g ws (quiet_by notes n.crs n.crs_type can.0 together noted) are)

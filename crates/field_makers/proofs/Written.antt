@@ -1,5 +1,5 @@
 -- A CRS that is written, and the JSON value that it is.
-use Rattle.std.proofs.Common.{◌≡◌, ◌++◌, List, [], ◌∷◌, append-nil, Bool, true, false, is_some, Option, None, Some, option_map, option_and_then, codes, refl, sym, ap, ◌∙◌, subst, arith}
+use Rattle.std.proofs.Common.{◌≡◌, List, [], ◌∷◌, append-nil, true, is_some, Option, None, Some, option_map, option_and_then, codes, refl, sym, ap, ◌∙◌, subst, arith}
 use Rattle.std.proofs.lemmas.Option.{option_and_then_some, same_Some, some_pair_parts}
 use Rattle.json.specs.Token.{Token}
 use Rattle.json.specs.Json as json
@@ -18,7 +18,7 @@ use Rattle.value_tokens.specs.Next.{next_value}
 use Rattle.value_tokens.specs.Values.{or_null, json_in, is_object}
 use Rattle.arrow_values.specs.Tree.{Text}
 use Rattle.geoarrow_meta.specs.Read.{crs_type_text, edges_text, present}
-use Rattle.geoarrow_meta.specs.CrsText.{is_object_alone, is_projjson_text, IsJson, IsCrs}
+use Rattle.geoarrow_meta.specs.CrsText.{is_object_alone, is_projjson_text, IsCrs}
 use Rattle.geoarrow_meta.specs.MetadataText.{crs_tokens, metadata_tokens}
 use Rattle.geoarrow_meta.specs.declared.crs.crs_type.CrsType.{CrsType}
 use Rattle.geoarrow_meta.specs.declared.edges.Edges.{Edges}
@@ -75,7 +75,7 @@ object_text s i rest d found is ends some =
     let numbers = value-HasNumbers 126 (tokens s) [] i (ArePrintableOrBad-tokens s) whole in
     let shallow = value-depth 126 (tokens s) [] i whole in
     let same : json_in s ≡ i = ap (λ ts. or_null (option_and_then (λ p. if_last p.0 p.1) (value max_depth ts))) spelled
-        ∙ ap (λ o. or_null (option_and_then (λ p. if_last p.0 p.1) o)) (value-json_tokens i max_depth [] (omega (arith, shallow))) in
+    ∙ ap (λ o. or_null (option_and_then (λ p. if_last p.0 p.1) o)) (value-json_tokens i max_depth [] (omega (arith, shallow))) in
     subst (IsObjectText s) (sym same) (spelled ∙ append-nil (json_tokens i), (numbers, shallow, (d, is)), object_by i d is some)
 
 pub projjson_text : (s : Text) → is_projjson_text s ≡ true → IsObjectText s (json_in s)

@@ -1,10 +1,11 @@
 -- What is said and found of a column that is made (docs/FORMAT.md, 2.6, 2.10).
-use Rattle.std.specs.Prelude.{◌≡◌, ◌↔◌, ◌&&◌, List, [], Bool, true, false, Option, None, Some, option_and_then, ⊤}
+use Rattle.std.specs.Prelude.{◌≡◌, ◌≢◌, ◌↔◌, ◌&&◌, List, [], Bool, true, false, Option, None, Some, option_and_then, ⊤}
 use Rattle.json.specs.Json.{Json}
 use Rattle.serde_json.specs.Read.{of_json}
 use Rattle.geoarrow_meta.specs.Read.{some_has_float}
 use Rattle.geoarrow_meta.specs.declared.crs.crs_type.CrsType.{CrsType}
 use Rattle.geoarrow_meta.specs.declared.crs.crs_type.CrsType.TheVariants.{Projjson, Wkt2_2019, AuthorityCode, Srid}
+use Rattle.geoarrow_meta.specs.declared.crs_text.WrittenCrs.{WrittenCrs}
 use Rattle.crs_identity.specs.Forms.{form_of_value}
 use Rattle.crs_identity.specs.FormNames.{form_name}
 use Rattle.crs_identity.specs.declared.names.FormName.{FormName}
@@ -18,7 +19,8 @@ use Rattle.column_check.specs.declared.finding.Finding.TheVariants.{Geometry}
 use Rattle.column_check.specs.declared.warning.Warning.{Warning}
 use Rattle.canonical_columns.specs.Canonical.{IsCanonical}
 use Rattle.field_makers.specs.declared.new_column.NewColumn.{NewColumn}
-use Rattle.field_makers.specs.Made.{crs_of, metadata_of, made, CanBeMade}
+use Rattle.field_makers.specs.Made.{crs_of, metadata_of, made, is_written, CanBeMade}
+use Rattle.field_makers.specs.Told.{told_type}
 
 -- the geometries that are asked for: of that kind, with that CRS as it is written, that CRS type and these edges
 abbrev pub geometry_of : NewColumn → GeometryColumn
@@ -58,3 +60,9 @@ abbrev pub NothingIsFound : Type 0
 NothingIsFound =
     (notes : Bool) (n : NewColumn) (ws : List Warning) → CanBeMade n → GoTogether n.crs_type (crs_of n.crs) → is_noted notes (crs_of n.crs) ≡ false
     → AreWarnings notes (made n) (Geometry (geometry_of n)) ws → ws ≡ []
+
+-- the type that is told of a CRS is that of its form, if that is a known one
+abbrev pub ToldFits : Type 0
+ToldFits =
+    (c : WrittenCrs) (j : Json) → is_written c ≡ true → crs_of c ≡ Some j → form_name (form_of_value j) ≢ forms.Other
+    → Fits (told_type c) j (form_name (form_of_value j))

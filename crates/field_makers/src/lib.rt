@@ -8,7 +8,9 @@ mod error;
 pub mod laws;
 mod make;
 mod new_column;
+mod told;
 
 pub use error::MakeError;
 pub use make::make_column;
 pub use new_column::NewColumn;
+pub use told::told_crs_type;
