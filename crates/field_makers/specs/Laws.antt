@@ -55,7 +55,7 @@ GoTogether t (Some j) = (is_empty_crs j ≡ false) × Fits t j (form_name (form_
 abbrev pub is_noted : Bool → Option Json → Bool
 is_noted notes crs = notes && some_has_float (option_and_then of_json crs)
 
--- nothing is found of a column that is made, where the CRS and its type go together, but the note of a number that is not whole
+-- nothing is found of a column that is made, where the CRS and its type go together, and where no number is to be noted
 abbrev pub NothingIsFound : Type 0
 NothingIsFound =
     (notes : Bool) (n : NewColumn) (ws : List Warning) → CanBeMade n → GoTogether n.crs_type (crs_of n.crs) → is_noted notes (crs_of n.crs) ≡ false

@@ -8,9 +8,9 @@ use canonical_columns::laws::canonical_keeps_warnings;
 use column_check::laws::{kind_or_fault, metadata_is_unique};
 use geoarrow_layout::{Kind, kind_is_listed, layout_reads_back, names_are_distinct, one_kind};
 
-/// A law: what `inspect_column` says of a column that is made is that it holds geometries of exactly the
-/// kind, the CRS as it is written, the CRS type and the edges that it is made of; so it is with inference
-/// and without. There is no need to run this.
+/// A law: what `inspect_column` says of a column that is made is that it holds geometries of
+/// exactly the kind, the CRS as it is written, the CRS type and the edges that it is made of; so it
+/// is with inference and without. There is no need to run this.
 pub fn made_is_found()
     ensures { MadeIsFound }
 {
@@ -28,10 +28,11 @@ pub fn made_is_canonical()
     layouts_read_back();
 }
 
-/// A law: of a column that is made `warnings` of `column_check` finds nothing, where the CRS and its
-/// type go together: the CRS is no empty text, it has the form of its type and is no WKT 1, or has a
-/// known form where there is no type, and where it is PROJJSON, no part of it is wrong. With notes, the
-/// note of a number that is not whole is found too. There is no need to run this.
+/// A law: of a column that is made `warnings` of `column_check` finds nothing, where the CRS and
+/// its type go together: the CRS is no empty text, it has the form of its type and is no WKT 1, or
+/// has a known form where there is no type, and where it is PROJJSON, no part of it is wrong. So it
+/// is without notes, and with notes where each number in the CRS is whole. There is no need to run
+/// this.
 pub fn nothing_is_found()
     ensures { NothingIsFound }
 {
@@ -40,8 +41,8 @@ pub fn nothing_is_found()
     canonical_keeps_warnings();
 }
 
-/// A law: the CRS type that `told_crs_type` tells is that of the form of the CRS, where the form is a
-/// known one. There is no need to run this.
+/// A law: the CRS type that `told_crs_type` tells is that of the form of the CRS, where that form
+/// is a known one. There is no need to run this.
 pub fn told_type_fits()
     ensures { ToldFits }
 {}

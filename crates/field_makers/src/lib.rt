@@ -1,7 +1,7 @@
 //! Columns of geometries that are made: of a kind, a CRS as it is written, its type and edges.
 //!
-//! [`make_column`] makes the column that `inspect_column` of `column_check` reads as exactly these: the
-//! laws say so. A CRS is taken as it is, with numbers of any form.
+//! [`make_column`] makes the column that `inspect_column` of `column_check` reads as exactly these,
+//! as the laws say. A CRS is taken as it is, with numbers of any form.
 #![tactic(auto)]
 
 mod error;

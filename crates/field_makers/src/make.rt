@@ -4,7 +4,8 @@ ghost use Rattle.json.specs.Print.{print};
 ghost use Rattle.json.specs.Tree.{json_tokens};
 ghost use Rattle.arrow_columns.specs.Column.{column_of};
 ghost use Rattle.canonical_columns.specs.Canonical.{is_bare, metadata_object, normal_text};
-ghost use Rattle.field_makers.specs.Made.{CanBeMade, IsMade, IsRefusedFor, is_type_alone, is_written, made, metadata_of};
+ghost use Rattle.field_makers.specs.Made.{CanBeMade, IsMade, IsRefusedFor, is_type_alone};
+ghost use Rattle.field_makers.specs.Made.{is_written, made, metadata_of};
 
 use crate::error::MakeError;
 use crate::new_column::NewColumn;
@@ -16,11 +17,11 @@ use std::alloc::{AllocError, Global};
 use std::collections::BTreeMap;
 
 /// Makes the column with that name and nullability, the data type and the extension name that are
-/// written for the kind, and extension metadata of the CRS as it is written, its type and the edges;
-/// without metadata where there is neither a CRS nor edges (`docs/FORMAT.md`, 1.2 to 1.6). The CRS is
-/// not looked into: its numbers need not be whole, and members keep their order. Errs where the text
-/// of a PROJJSON is no object of JSON that nests at most 126 levels, where there is a CRS type and no
-/// CRS, and when out of memory.
+/// written for the kind, and extension metadata of the CRS as it is written, its type and the
+/// edges; without extension metadata where there is neither a CRS nor edges (`docs/FORMAT.md`, 1.2
+/// to 1.6). The CRS is not looked into: its numbers need not be whole, and its members keep their
+/// order. Errs where the text of a PROJJSON is no object of JSON that nests at most 126 levels, as
+/// `serde_json` reads it, where there is a CRS type and no CRS, and when out of memory.
 ///
 /// ```rust
 /// let new = NewColumn {
@@ -97,7 +98,8 @@ fn field_made(alloc: Global, new: &NewColumn<'_>) -> Result<Field, AllocError>
 /// The text of the extension metadata, where one is written.
 fn text_made(alloc: Global, new: &NewColumn<'_>) -> Result<Option<String>, AllocError>
     requires { CanBeMade new.now }
-    ensures { IfOk result (λ text. option_map string_bytes text ≡ normal_text (metadata_of new.now)) }
+    ensures { IfOk result (λ text. option_map string_bytes text
+        ≡ normal_text (metadata_of new.now)) }
 {
     if is_bare(new) {
         return Ok(None);
@@ -115,7 +117,8 @@ fn is_bare(new: &NewColumn<'_>) -> bool
 /// The text of the object that extension metadata are.
 fn object_made(alloc: Global, new: &NewColumn<'_>) -> Result<String, AllocError>
     requires { CanBeMade new.now }
-    ensures { IfOk result (λ text. string_bytes text ≡ print (json_tokens (metadata_object (metadata_of new.now)))) }
+    ensures { IfOk result (λ text. string_bytes text
+        ≡ print (json_tokens (metadata_object (metadata_of new.now)))) }
 {
     metadata_text(alloc, new.crs, new.crs_type, new.edges)
 }

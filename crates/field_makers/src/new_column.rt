@@ -25,8 +25,8 @@ pub struct NewColumn<'a> {
     pub nullable: bool,
     /// The kind: the geometry type, and how geometries are laid out.
     pub kind: Kind,
-    /// The coordinate reference system, as it is written: none, a text as `EPSG:4326` or WKT, or the
-    /// text of a PROJJSON, whose numbers, keys and members stay as they are.
+    /// The coordinate reference system, as it is written: none, a text as `EPSG:4326` or WKT, or
+    /// the text of a PROJJSON, whose numbers and members stay as they are.
     pub crs: WrittenCrs<'a>,
     /// How the coordinate reference system is written; only where there is one.
     pub crs_type: Option<CrsType>,

@@ -11,10 +11,10 @@ use geoarrow_meta::{CrsType, WrittenCrs, is_projjson_text};
 use json::Value;
 use std::alloc::{AllocError, Global};
 
-/// Returns the CRS type that the form of a CRS tells (`docs/FORMAT.md`, 5.3): `projjson` for an object
-/// of JSON and for a text that is one, `authority_code` for `AUTHORITY:CODE`, and `wkt2:2019` for WKT
-/// that does not begin with a word of WKT 1 alone; `None` for any other text and where there is no CRS.
-/// Errs only when out of memory.
+/// Returns the CRS type that the form of a CRS tells (`docs/FORMAT.md`, 5.3): `projjson` for an
+/// object of JSON and for a text that is one, `authority_code` for `AUTHORITY:CODE`, `wkt2:2019`
+/// for WKT that does not begin with a word of WKT 1 alone; `None` for any other text, and where
+/// there is no CRS. Errs only when out of memory.
 ///
 /// ```rust
 /// let told = told_crs_type(alloc, WrittenCrs::Text("EPSG:4326"))?;
@@ -34,7 +34,8 @@ pub fn told_crs_type(alloc: Global, crs: WrittenCrs<'_>) -> Result<Option<CrsTyp
 
 /// The type of a text by its form.
 fn type_of_text(alloc: Global, text: &str) -> Result<Option<CrsType>, AllocError>
-    ensures { IfOk result (λ told. told ≡ type_of_form (form_name (form_of_value (string text.now)))) }
+    ensures { IfOk result (λ told. told
+        ≡ type_of_form (form_name (form_of_value (string text.now)))) }
 {
     let value = Value::String(text);
     Ok(type_of_form(form_name(alloc, &value)?))
