@@ -8,7 +8,7 @@ use std::alloc::{AllocError, AllocFailed};
 #[derive(Clone, Copy, Debug, PartialEq, Eq)]
 pub enum MakeError {
     /// The text of the CRS, which is to be PROJJSON, is no object of JSON that nests at most 126
-    /// levels, or has a number that is too large for 64 bits, as `1e999`.
+    /// levels, or has a number that is too large for a float of 64 bits, as `1e999`.
     NotProjjson,
     /// There is a CRS type, and no CRS.
     TypeWithoutCrs,
