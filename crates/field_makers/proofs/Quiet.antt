@@ -1,5 +1,5 @@
 -- Of a column that is made nothing is found, where its CRS and its type go together.
-use Rattle.std.proofs.Common.{◌≡◌, ℕ, zero, suc, List, [], ◌∷◌, ◌++◌, map, Bool, true, false, not, ◌&&◌, cond, is_some, Option, None, Some, refl, ap, ◌∙◌, subst, arith}
+use Rattle.std.proofs.Common.{◌≡◌, ℕ, zero, suc, List, [], ◌∷◌, ◌++◌, map, Bool, true, false, not, ◌&&◌, cond, is_some, Option, None, Some, refl, ap, ◌∙◌, subst, arith, ◌+◌, codes}
 use Rattle.std.specs.List.{filter}
 use Rattle.std.specs.Prelude.{⊤, option_to_list}
 use Rattle.json.specs.Json as json
@@ -25,14 +25,17 @@ use Rattle.crs_identity.specs.FormNames.{form_name}
 use Rattle.crs_identity.specs.declared.names.FormName.{FormName}
 use Rattle.crs_identity.specs.declared.names.FormName.TheVariants as forms
 use Rattle.crs_identity.specs.declared.malformed.Part.{Part}
-use Rattle.column_check.specs.Parts.{Spot}
-use Rattle.column_check.specs.NotWhole.{not_whole_in}
+use Rattle.column_check.specs.Parts.{Spot, spot_in}
+use Rattle.column_check.specs.NotWhole.{is_not_whole, or_later, unless_again, first_not_whole, first_of_items, first_of_members, not_whole_in}
+use Rattle.column_check.specs.Places.{member_place, item_place}
+use Rattle.column_check.specs.Shown.{shown}
+use Rattle.crs_identity.specs.Equality.{has_key}
 use Rattle.column_check.specs.KeyWarnings.{spots_in, key_warnings}
 use Rattle.column_check.specs.CrsWarnings.{crs_spot, projjson_in, part_spot, are_wrong, malformed_spots, is_malformed, contradicts, is_old_wkt, lacks_type, is_odd_crs, form_warnings, value_warnings, read_warnings, warnings_of_crs, crs_warnings}
 use Rattle.column_check.specs.Said.{Said, said, said_if, at_most, at_each}
 use Rattle.column_check.specs.Warnings.{AreWarnings, name_warnings, text_warnings, number_warnings, axis_warnings, nullable_warnings, union_warnings, layout_warnings, type_warnings, type_findings}
 use Rattle.column_check.specs.declared.code.WarningCode.{WarningCode}
-use Rattle.column_check.specs.declared.code.WarningCode.TheVariants.{OldExtensionName, CoordinatesNotFloat, CoordinatesNotDouble, AxisOrder, AxisNames, NullableInner, NestedGeometry, MetadataEmpty, MetadataKeyCase, EdgesPlanar, CrsMalformed, CrsEmpty, CrsTypeContradicts, CrsWkt1, CrsWithoutType, CrsNumber}
+use Rattle.column_check.specs.declared.code.WarningCode.TheVariants.{OldExtensionName, CoordinatesNotFloat, CoordinatesNotDouble, AxisOrder, AxisNames, NullableInner, NestedGeometry, MetadataEmpty, MetadataKeyCase, EdgesPlanar, CrsMalformed, CrsEmpty, CrsTypeContradicts, CrsWkt1, CrsWithoutType, CrsNumber, CrsNotWhole}
 use Rattle.column_check.specs.declared.code.WarningCode.TheVariants as codes_of
 use Rattle.column_check.specs.declared.metadata.ColumnMetadata.{ColumnMetadata}
 use Rattle.column_check.specs.declared.finding.Geometry.{Geometry as GeometryColumn}
@@ -41,7 +44,7 @@ use Rattle.column_check.specs.declared.warning.Warning.{Warning}
 use Rattle.canonical_columns.specs.Canonical.{IsWritable}
 use Rattle.canonical_columns.specs.Laws.{normal_values, is_of_form, CanonicalKeepsWarnings}
 use Rattle.field_makers.specs.Made.{crs_of, metadata_of, made, is_written, is_type_alone}
-use Rattle.field_makers.specs.Laws.{geometry_of, MadeIsFound, MadeIsCanonical, Fits, GoTogether, is_noted, NothingIsFound}
+use Rattle.field_makers.specs.Laws.{geometry_of, MadeIsFound, MadeIsCanonical, Fits, GoTogether, is_noted, notes_in, OnlyNotesAreFound, NothingIsFound}
 use Rattle.field_makers.proofs.Written.{projjson_text, crs_ready}
 use Rattle.field_makers.proofs.ReadBack.{read_printed}
 
@@ -96,14 +99,59 @@ keys_form : (t : Option Text) → AreOfForm (key_warnings t)
 keys_form None = tt
 keys_form (Some s) = both (at_each MetadataKeyCase (spots_in (json_in s))) _ (at_spots 15 MetadataKeyCase _ refl) (at_one EdgesPlanar _ _ refl)
 
--- of geometries without findings of their CRS all are
-all_form : (notes : Bool) (c : ColumnTree) (g : GeometryColumn) (ws : List Warning) → crs_warnings notes g.metadata ≡ [] → AreWarnings notes c (Geometry g) ws → others (map said ws) ≡ []
-all_form notes c g ws none are =
+-- of geometries all are but what is found of their CRS
+form_aside : (notes : Bool) (c : ColumnTree) (g : GeometryColumn) (ws : List Warning) → AreWarnings notes c (Geometry g) ws → others (map said ws) ≡ others (crs_warnings notes g.metadata)
+form_aside notes c g ws are =
     ap others are
     ∙ dropped (type_findings c (Geometry g)) _ (types_form c g)
     ∙ dropped (text_warnings (metadata_on c)) _ (at_one MetadataEmpty _ _ refl)
     ∙ dropped (key_warnings (metadata_on c)) (crs_warnings notes g.metadata) (keys_form (metadata_on c))
-    ∙ ap others none
+
+-- ---- notes are not
+
+abbrev IsOther : Option Said → Type 0
+IsOther None = ⊤
+IsOther (Some w) = is_of_form w.0 ≡ false
+
+later : (a b : Option Said) → IsOther a → IsOther b → IsOther (or_later a b)
+later None b h k = k
+later (Some w) b h k = h
+
+again : (is : Bool) (a : Option Said) → IsOther a → IsOther (unless_again is a)
+again is None h = tt
+again true (Some w) h = tt
+again false (Some w) h = h
+
+chosen : (b : Bool) (w : Said) → is_of_form w.0 ≡ false → IsOther (cond b (Some w) None)
+chosen true w h = h
+chosen false w h = tt
+
+mutual
+  value_other : (place : Text) (j : Json) → IsOther (first_not_whole place j)
+  value_other place json.null = tt
+  value_other place (json.boolean b) = tt
+  value_other place (json.number s) = chosen (is_not_whole s) (CrsNotWhole, spot_in place (Some (shown s)), 0) refl
+  value_other place (json.string s) = tt
+  value_other place (json.array js) = items_other place 0 js
+  value_other place (json.object ms) = members_other place ms
+
+  items_other : (place : Text) (n : ℕ) (js : json.Items) → IsOther (first_of_items place n js)
+  items_other place n json.no_items = tt
+  items_other place n (json.item j js) = later (first_not_whole (item_place place n) j) _ (value_other (item_place place n) j) (items_other place (n + 1) js)
+
+  members_other : (place : Text) (ms : json.Members) → IsOther (first_of_members place ms)
+  members_other place json.no_members = tt
+  members_other place (json.member k j ms) =
+      later (unless_again (has_key k ms) (first_not_whole (member_place place k) j)) _ (again (has_key k ms) _ (value_other (member_place place k) j)) (members_other place ms)
+
+kept : (b : Bool) (o : Option Said) → IsOther o → others (option_to_list (cond b o None)) ≡ option_to_list (cond b o None)
+kept true None h = refl
+kept true (Some w) h = rw h refl
+kept false o h = refl
+
+notes_kept : (notes : Bool) (crs : Option Json) → others (notes_in notes crs) ≡ notes_in notes crs
+notes_kept notes None = refl
+notes_kept notes (Some j) = kept (is_noted notes (Some j)) (not_whole_in (Some j)) (value_other (codes "/crs") j)
 
 -- ---- of its CRS
 
@@ -150,20 +198,20 @@ value_quiet t j even (there, fits, well) =
     let n = form_name (form_of_value j) in
     ap (λ b. cond b (said_if CrsEmpty true (crs_spot j)) (form_warnings t j (projjson_in t j) n)) there ∙ form_quiet t j (projjson_in t j) n well fits even
 
-crs_quiet : (notes : Bool) (t : Option CrsType) (j : Json) → IsWritable (Some j) → is_odd_crs j ≡ false → GoTogether t (Some j) → is_noted notes (Some j) ≡ false → warnings_of_crs notes t (Some j) ≡ []
-crs_quiet notes t j (numbers, shallow, (d, is)) even together noted =
+crs_noted : (notes : Bool) (t : Option CrsType) (j : Json) → IsWritable (Some j) → is_odd_crs j ≡ false → GoTogether t (Some j) → warnings_of_crs notes t (Some j) ≡ notes_in notes (Some j)
+crs_noted notes t j (numbers, shallow, (d, is)) even together =
     let s = print (json_tokens j) in
     let reads = read_printed j (numbers, omega (arith, shallow)) ∙ is in
     let found : json_in s ≡ Some j = ap (λ o. cond (is_some o) (document s) None) reads ∙ document-print j numbers (omega (arith, shallow)) in
-    (λ i. read_warnings t (found i) ++ option_to_list (cond (noted i) (not_whole_in (found i)) None)) ∙ ap (λ ws. ws ++ []) (value_quiet t j even together)
+    (λ i. read_warnings t (found i) ++ option_to_list (cond (is_noted notes (Some j)) (not_whole_in (found i)) None)) ∙ ap (λ ws. ws ++ notes_in notes (Some j)) (value_quiet t j even together)
 
 not_odd : (j : Json) → is_object j ≡ true → is_odd_crs j ≡ false
 not_odd j h = ap (λ b. not b && not (is_string j)) h
 
-quiet_by : (notes : Bool) (c : WrittenCrs) (t : Option CrsType) → is_written c ≡ true → GoTogether t (crs_of c) → is_noted notes (crs_of c) ≡ false → warnings_of_crs notes t (crs_of c) ≡ []
-quiet_by notes crs.Absent t h together noted = refl
-quiet_by notes (crs.Text s) t h together noted = crs_quiet notes t (json.string s.now) (crs_ready (crs.Text s) h).0 refl together noted
-quiet_by notes (crs.Json s) t h together noted = crs_quiet notes t _ (crs_ready (crs.Json s) h).0 (not_odd _ (projjson_text s.now h).2) together noted
+noted_by : (notes : Bool) (c : WrittenCrs) (t : Option CrsType) → is_written c ≡ true → GoTogether t (crs_of c) → warnings_of_crs notes t (crs_of c) ≡ notes_in notes (crs_of c)
+noted_by notes crs.Absent t h together = refl
+noted_by notes (crs.Text s) t h together = crs_noted notes t (json.string s.now) (crs_ready (crs.Text s) h).0 refl together
+noted_by notes (crs.Json s) t h together = crs_noted notes t _ (crs_ready (crs.Json s) h).0 (not_odd _ (projjson_text s.now h).2) together
 
 -- ---- of the column
 
@@ -182,10 +230,20 @@ empty : (ws : List Warning) → map said ws ≡ [] → ws ≡ []
 empty [] h = refl
 empty (w ∷ ws) h = absurd cc
 
-pub nothing_found : MadeIsFound → MadeIsCanonical → CanonicalKeepsWarnings → NothingIsFound
-nothing_found found canonical keeps notes n ws can together noted are =
+none_noted : (notes : Bool) (crs : Option Json) → is_noted notes crs ≡ false → notes_in notes crs ≡ []
+none_noted notes None h = refl
+none_noted notes (Some j) h = ap (λ b. option_to_list (cond b (not_whole_in (Some j)) None)) h
+
+pub only_notes : MadeIsFound → MadeIsCanonical → CanonicalKeepsWarnings → OnlyNotesAreFound
+only_notes found canonical keeps notes n ws can together are =
     let g = geometry_of n in
     let again : AreWarnings notes (made n) (Geometry (record { kind = n.kind; metadata = normal_values (metadata_of n) })) ws
     = subst (λ m. AreWarnings notes (made n) (Geometry (record { kind = n.kind; metadata = m })) ws) (normal_by n.crs n.crs_type n.edges can.1) are in
-    let left = keeps false notes (made n) (made n) (Geometry g) ws ws (canonical n can) ((found false n (Geometry g) can).1 refl) are again in
-    empty ws (left ∙ all_form notes (made n) g ws (quiet_by notes n.crs n.crs_type can.0 together noted) are)
+    keeps false notes (made n) (made n) (Geometry g) ws ws (canonical n can) ((found false n (Geometry g) can).1 refl) are again
+    ∙ form_aside notes (made n) g ws are
+    ∙ ap others (noted_by notes n.crs n.crs_type can.0 together)
+    ∙ notes_kept notes (crs_of n.crs)
+
+pub nothing_found : MadeIsFound → MadeIsCanonical → CanonicalKeepsWarnings → NothingIsFound
+nothing_found found canonical keeps notes n ws can together noted are =
+    empty ws (only_notes found canonical keeps notes n ws can together are ∙ none_noted notes (crs_of n.crs) noted)

@@ -1,5 +1,5 @@
 -- What is said and found of a column that is made (docs/FORMAT.md, 2.6, 2.10).
-use Rattle.std.specs.Prelude.{◌≡◌, ◌≢◌, ◌↔◌, ◌&&◌, List, [], Bool, true, false, Option, None, Some, option_and_then, ⊤}
+use Rattle.std.specs.Prelude.{◌≡◌, ◌≢◌, ◌↔◌, ◌&&◌, List, [], map, Bool, true, false, Option, None, Some, option_and_then, option_to_list, if◌then◌else◌, ⊤}
 use Rattle.json.specs.Json.{Json}
 use Rattle.serde_json.specs.Read.{of_json}
 use Rattle.geoarrow_meta.specs.Read.{some_has_float}
@@ -11,6 +11,8 @@ use Rattle.crs_identity.specs.FormNames.{form_name}
 use Rattle.crs_identity.specs.declared.names.FormName.{FormName}
 use Rattle.crs_identity.specs.declared.names.FormName.TheVariants as forms
 use Rattle.column_check.specs.CrsWarnings.{projjson_in, is_malformed, is_srid, is_empty_crs}
+use Rattle.column_check.specs.NotWhole.{not_whole_in}
+use Rattle.column_check.specs.Said.{Said, said}
 use Rattle.column_check.specs.Finding.{IsFinding}
 use Rattle.column_check.specs.Warnings.{AreWarnings}
 use Rattle.column_check.specs.declared.finding.Geometry.{Geometry as GeometryColumn}
@@ -55,7 +57,18 @@ GoTogether t (Some j) = (is_empty_crs j ≡ false) × Fits t j (form_name (form_
 abbrev pub is_noted : Bool → Option Json → Bool
 is_noted notes crs = notes && some_has_float (option_and_then of_json crs)
 
--- nothing is found of a column that is made, where the CRS and its type go together, and where no number is to be noted
+-- the note of the first of these, if notes are asked for and there is one
+abbrev pub notes_in : Bool → Option Json → List Said
+notes_in notes None = []
+notes_in notes (Some j) = option_to_list (if is_noted notes (Some j) then not_whole_in (Some j) else None)
+
+-- of a column that is made, whose CRS and type go together, that note alone is found
+abbrev pub OnlyNotesAreFound : Type 0
+OnlyNotesAreFound =
+    (notes : Bool) (n : NewColumn) (ws : List Warning) → CanBeMade n → GoTogether n.crs_type (crs_of n.crs)
+    → AreWarnings notes (made n) (Geometry (geometry_of n)) ws → map said ws ≡ notes_in notes (crs_of n.crs)
+
+-- so nothing is found where there is none
 abbrev pub NothingIsFound : Type 0
 NothingIsFound =
     (notes : Bool) (n : NewColumn) (ws : List Warning) → CanBeMade n → GoTogether n.crs_type (crs_of n.crs) → is_noted notes (crs_of n.crs) ≡ false

@@ -2,7 +2,7 @@
 ghost use Rattle.geoarrow_layout.specs.declared.native_kinds.Kind.{Kind};
 ghost use Rattle.geoarrow_layout.specs.Layouts.{layout};
 ghost use Rattle.geoarrow_layout.specs.Shapes.{Accepted};
-ghost use Rattle.field_makers.specs.Laws.{MadeIsCanonical, MadeIsFound, NothingIsFound, ToldFits};
+ghost use Rattle.field_makers.specs.Laws.{MadeIsCanonical, MadeIsFound, NothingIsFound, OnlyNotesAreFound, ToldFits};
 
 use canonical_columns::laws::canonical_keeps_warnings;
 use column_check::laws::{kind_or_fault, metadata_is_unique};
@@ -28,13 +28,14 @@ pub fn made_is_canonical()
     layouts_read_back();
 }
 
-/// A law: of a column that is made `warnings` of `column_check` finds nothing, where the CRS and
-/// its type go together: the CRS is no empty text, it has the form of its type and is no WKT 1, or
-/// has a known form where there is no type, and where it is PROJJSON, no part of it is wrong. So it
-/// is without notes, and with notes where each number in the CRS is whole. There is no need to run
-/// this.
+/// A law: of a column that is made `warnings` of `column_check` finds nothing, where the CRS and its
+/// type go together: the CRS is no empty text, it has the form of its type and is no WKT 1, or has
+/// a known form where there is no type, and where it is PROJJSON, no part of it is wrong. With
+/// notes, the first number in the CRS that is not whole is found, and that alone. There is no need
+/// to run this.
 pub fn nothing_is_found()
-    ensures { NothingIsFound }
+    ensures notes { OnlyNotesAreFound }
+    ensures nothing { NothingIsFound }
 {
     made_is_found();
     made_is_canonical();
