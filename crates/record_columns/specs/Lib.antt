@@ -1,0 +1,4 @@
+pub mod Errors
+pub mod Texts
+pub mod Columns
+pub mod Views
