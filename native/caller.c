@@ -191,7 +191,7 @@ static void faults(request_t *of) {
         judge(is_right || is_answer(of, status, len, out), of, "a refused request for memory");
         was_refused = 1;
     }
-    judge(!was_refused || lost, of, "no refused request is out of memory");
+    judge(!was_refused || lost || of->status == GEOARROW_UNKNOWN, of, "no refused request is out of memory"); /* (options are looked at behind the walk) */
     judge(is_answer(of, status, len, out), of, "another answer behind a refused request");
     give(out);
 }

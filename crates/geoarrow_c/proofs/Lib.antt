@@ -2,3 +2,5 @@ mod Runs
 pub mod Made
 mod Compared
 mod Written
+mod Placed
+mod GeoTexts

@@ -3,7 +3,7 @@
 use Rattle.std.specs.Prelude.{ℕ, ◌-◌, ◌/◌, ◌%◌, Bool, true, not, ◌&&◌, List, [], length, Option}
 use Rattle.std.specs.Prelude.{Some, None, Result, Ok, Err, codes, bytes_eq, ◌==◌}
 use Rattle.std.specs.Prelude.{if◌then◌else◌}
-use Rattle.arrow_values.specs.Tree.{Text}
+use Rattle.arrow_values.specs.Tree.{Text, Metadata}
 use Rattle.arrow_values.specs.declared.tree.DataType.{DataType}
 use Rattle.arrow_values.specs.declared.tree.DataType.TheVariants.{Int8, Int16, Int32, Int64, UInt8}
 use Rattle.arrow_values.specs.declared.tree.DataType.TheVariants.{UInt16, UInt32, UInt64}
@@ -113,3 +113,13 @@ columns_at bytes = last_as columns_of bytes
 
 abbrev pub column_at : List ℕ → Result ColumnTree Fault
 column_at bytes = last_as column_of bytes
+
+-- a structure as a schema with its metadata
+unfoldable pub schema_of : LastAs (List ColumnTree × Metadata)
+schema_of s cs = do
+  columns ← columns_of s cs
+  metadata ← texts_in s.metadata
+  Ok (columns, metadata)
+
+abbrev pub schema_at : List ℕ → Result (List ColumnTree × Metadata) Fault
+schema_at bytes = last_as schema_of bytes

@@ -114,7 +114,7 @@ fn put_all(alloc: Global, count: u32, bytes: &[u8]) -> Result<(Waiting, &[u8]), 
 
 /// Returns the columns that wait for the last structure, with the bytes of its record.
 #[tactic(auto, unfolding(crate::specs::Columns::waiting_at))]
-fn waiting_at(alloc: Global, bytes: &[u8]) -> Result<(Waiting, &[u8]), RecordsError>
+pub(crate) fn waiting_at(alloc: Global, bytes: &[u8]) -> Result<(Waiting, &[u8]), RecordsError>
     ensures { Gives (λ x. (waiting_of x.0, x.1.now)) result (waiting_at bytes.now) }
 {
     let (count, rest) = head_at(bytes)?;

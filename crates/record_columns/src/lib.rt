@@ -5,9 +5,11 @@
 mod column;
 mod columns;
 mod error;
+mod schema;
 mod texts;
 mod types;
 mod waiting;
 
 pub use columns::{read_column, read_columns};
 pub use error::RecordsError;
+pub use schema::{RecordSchema, read_schema};
