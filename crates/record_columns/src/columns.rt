@@ -93,16 +93,23 @@ fn put_next(
     }
 }
 
+/// Returns no columns.
+fn none_waiting(alloc: Global) -> Waiting
+    ensures { waiting_of result ≡ ([], []) }
+{
+    Waiting {
+        columns: Vec::new(alloc),
+        levels: Vec::new(alloc),
+    }
+}
+
 /// Puts so many structures.
 #[tactic(auto, using(crate::proofs::Steps::begins, crate::proofs::Steps::goes_on, crate::proofs::Steps::breaks_off, crate::proofs::Steps::is_done))]
 fn put_all(alloc: Global, count: u32, bytes: &[u8]) -> Result<(Waiting, &[u8]), RecordsError>
     ensures { Gives (λ x. (waiting_of x.0, x.1.now)) result
         (steps (put_next column_of) count ([], []) bytes.now) }
 {
-    let mut waiting = Waiting {
-        columns: Vec::new(alloc),
-        levels: Vec::new(alloc),
-    };
+    let mut waiting = none_waiting(alloc);
     let mut rest = bytes;
     'structures: for _i in 0..count {
         let (more, behind) = put_next(alloc, waiting, rest)?;
@@ -113,7 +120,7 @@ fn put_all(alloc: Global, count: u32, bytes: &[u8]) -> Result<(Waiting, &[u8]), 
 }
 
 /// Returns the columns that wait for the last structure, with the bytes of its record.
-#[tactic(auto, unfolding(crate::specs::Columns::waiting_at))]
+#[tactic(auto, using(crate::proofs::Steps::is_some), unfolding(crate::specs::Columns::waiting_at))]
 fn waiting_at(alloc: Global, bytes: &[u8]) -> Result<(Waiting, &[u8]), RecordsError>
     ensures { Gives (λ x. (waiting_of x.0, x.1.now)) result (waiting_at bytes.now) }
 {
