@@ -41,6 +41,8 @@ module _ {S : Type 0} (put : S → List ℕ → Result (S × List ℕ) Fault) wh
     unfolding steps
     is_done none = let k : count - i ≡ 0 = omega arith in sym is ∙ rw k refl
 
+pub ruleset record_steps = (begins, goes_on, breaks_off, is_done)
+
 pub taken : (xs : List SchemaColumn) (k : ℕ)
     → take k (map column_tree xs) ≡ map column_tree (take k xs)
 taken xs k = take-map column_tree k xs
@@ -48,6 +50,8 @@ taken xs k = take-map column_tree k xs
 pub dropped : (xs : List SchemaColumn) (k : ℕ)
     → drop k (map column_tree xs) ≡ map column_tree (drop k xs)
 dropped xs k = drop-map column_tree k xs
+
+pub ruleset cut_trees = (taken, dropped)
 
 pub pushed : (xs : List SchemaColumn) (x : SchemaColumn)
     → map column_tree (xs ++ x ∷ []) ≡ map column_tree xs ++ column_tree x ∷ []
