@@ -22,11 +22,11 @@ moved : (r : Ordering) (a b c : Texts)
     → texts_of (match_ordering r a b c) ≡ match_ordering r (texts_of a) (texts_of b) (texts_of c)
 moved r a b c = grind arith
 
-pub texts_inserted : (es : Texts) (k v : String Global)
+pub inserted : (es : Texts) (k v : String Global)
     → texts_of (insert_entry string_cmp es k v)
     ≡ put_text (string_bytes k) (string_bytes v) (texts_of es)
-texts_inserted [] k v = refl
-texts_inserted (e ∷ es) k v = moved (string_cmp k e.0) _ _ _ ∙ rw (texts_inserted es k v)
+inserted [] k v = refl
+inserted (e ∷ es) k v = moved (string_cmp k e.0) _ _ _ ∙ rw (inserted es k v)
 
 pub begins : (texts : Metadata) (count : ℕ) (bytes : List ℕ)
     → put_entries (count - 0) texts bytes ≡ put_entries count texts bytes
@@ -56,3 +56,5 @@ module _ (texts : Metadata) (i count : ℕ) (bytes : List ℕ) (all : Result Met
   pub is_done : count ≤ i → all ≡ Ok texts
   unfolding put_entries
   is_done none = let k : count - i ≡ 0 = omega arith in sym is ∙ rw k refl
+
+pub ruleset entry_steps = (begins, goes_on, breaks_off, is_done)

@@ -4,8 +4,8 @@ use Rattle.std.proofs.Common.{Result, Ok, Err, refl, sym, ap, ◌∙◌, arith}
 use Rattle.std.proofs.lemmas.List.{take-map, drop-map, map_push}
 use Rattle.arrow_columns.specs.Column.{column_tree}
 use Rattle.arrow_columns.specs.declared.column.SchemaColumn.{SchemaColumn}
-use Rattle.record_wire.specs.Fault.{◌>>=◌}
-use Rattle.record_wire.specs.Trees.{steps}
+use Rattle.record_wire.specs.Fault.{◌>>=◌, within}
+use Rattle.record_wire.specs.Trees.{head_at, steps}
 use Rattle.record_wire.specs.declared.fault.Fault.{Fault}
 use Rattle.record_columns.specs.Errors.{Stops}
 use Rattle.record_columns.specs.declared.error.RecordsError.{RecordsError}
@@ -41,6 +41,8 @@ module _ {S : Type 0} (put : S → List ℕ → Result (S × List ℕ) Fault) wh
     unfolding steps
     is_done none = let k : count - i ≡ 0 = omega arith in sym is ∙ rw k refl
 
+pub ruleset record_steps = (begins, goes_on, breaks_off, is_done)
+
 pub taken : (xs : List SchemaColumn) (k : ℕ)
     → take k (map column_tree xs) ≡ map column_tree (take k xs)
 taken xs k = take-map column_tree k xs
@@ -49,6 +51,17 @@ pub dropped : (xs : List SchemaColumn) (k : ℕ)
     → drop k (map column_tree xs) ≡ map column_tree (drop k xs)
 dropped xs k = drop-map column_tree k xs
 
+pub ruleset cut_trees = (taken, dropped)
+
 pub pushed : (xs : List SchemaColumn) (x : SchemaColumn)
     → map column_tree (xs ++ x ∷ []) ≡ map column_tree xs ++ column_tree x ∷ []
 pushed xs x = map_push column_tree xs x
+
+-- a head counts at least one record
+some : (bytes : List ℕ) (n : ℕ) (rest : List ℕ) → head_at bytes ≡ Ok (n, rest) → 1 ≤ n
+unfolding head_at
+some bytes n rest is = grind arith
+
+pub is_some : (bytes : List ℕ) (n : ℕ) (rest : List ℕ)
+    → within bytes (head_at bytes) ≡ Ok (n, rest) → 1 ≤ n
+is_some bytes n rest is = grind (arith, some)

@@ -20,7 +20,8 @@ pub(crate) fn column_of(
     one: &Record<'_>,
     inner: Vec<SchemaColumn>,
 ) -> Result<SchemaColumn, Refusal>
-    ensures { Makes column_tree result (column_of (structure one.now) (map column_tree inner.items)) }
+    ensures { Makes column_tree result
+        (column_of (structure one.now) (map column_tree inner.items)) }
 {
     let format = format_of(alloc, one)?;
     let data_type = type_by(alloc, one, format, inner)?;
@@ -36,7 +37,10 @@ pub(crate) fn column_of(
 
 /// Returns the columns of a schema, which is a struct without a dictionary.
 #[tactic(auto, unfolding(crate::specs::Columns::columns_of))]
-pub(crate) fn columns_of(one: &Record<'_>, inner: Vec<SchemaColumn>) -> Result<Vec<SchemaColumn>, Rule>
+pub(crate) fn columns_of(
+    one: &Record<'_>,
+    inner: Vec<SchemaColumn>,
+) -> Result<Vec<SchemaColumn>, Rule>
     ensures { Returns (λ v. map column_tree v.items) result
         (columns_of (structure one.now) (map column_tree inner.items)) }
 {

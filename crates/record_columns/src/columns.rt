@@ -15,14 +15,16 @@ use record_wire::{Record, broken, head_at, place_of, record_at, root_at};
 use std::alloc::{AllocError, Global};
 
 /// Returns the columns before a place, and those from there on.
-#[tactic(auto, using(crate::proofs::Steps::taken, crate::proofs::Steps::dropped))]
+#[tactic(auto, using(crate::proofs::Steps::cut_trees))]
 fn split(
     columns: Vec<SchemaColumn>,
     place: usize,
 ) -> Result<(Vec<SchemaColumn>, Vec<SchemaColumn>), AllocError>
     requires { place ≤ length columns.items }
-    ensures others { IfOk result (λ x. map column_tree x.0.items ≡ take place (map column_tree columns.items)) }
-    ensures inner { IfOk result (λ x. map column_tree x.1.items ≡ drop place (map column_tree columns.items)) }
+    ensures others { IfOk result (λ x.
+        map column_tree x.0.items ≡ take place (map column_tree columns.items)) }
+    ensures inner { IfOk result (λ x.
+        map column_tree x.1.items ≡ drop place (map column_tree columns.items)) }
     ensures many { IfOk result (λ x. length x.0.items ≡ place) }
 {
     let mut columns = columns;
@@ -39,9 +41,10 @@ fn with_column(
     level: u32,
 ) -> Result<Waiting, AllocError>
     requires { length others.items ≤ length levels.items }
-    ensures { IfOk result (λ w. waiting_of w ≡
-        (map column_tree others.items ++ column_tree column ∷ [],
-        take (length others.items) levels.items ++ level ∷ [])) }
+    ensures { IfOk result (λ w. waiting_of w ≡ (
+      map column_tree others.items ++ column_tree column ∷ [],
+      take (length others.items) levels.items ++ level ∷ [],
+    )) }
 {
     let mut levels = levels;
     levels.truncate(others.len());
@@ -78,11 +81,7 @@ fn put_one(alloc: Global, waiting: Waiting, one: &Record<'_>) -> Result<Waiting,
 
 /// Puts the structure at the front of the bytes as a column in place of those that lie in it.
 #[tactic(auto, unfolding(record_wire::specs::Trees::put_next))]
-fn put_next(
-    alloc: Global,
-    waiting: Waiting,
-    bytes: &[u8],
-) -> Result<(Waiting, &[u8]), RecordsError>
+fn put_next(alloc: Global, waiting: Waiting, bytes: &[u8]) -> Result<(Waiting, &[u8]), RecordsError>
     ensures { Gives (λ x. (waiting_of x.0, x.1.now)) result
         (put_next column_of (waiting_of waiting) bytes.now) }
 {
@@ -93,16 +92,23 @@ fn put_next(
     }
 }
 
+/// Returns no columns.
+fn none_waiting(alloc: Global) -> Waiting
+    ensures { waiting_of result ≡ ([], []) }
+{
+    Waiting {
+        columns: Vec::new(alloc),
+        levels: Vec::new(alloc),
+    }
+}
+
 /// Puts so many structures.
-#[tactic(auto, using(crate::proofs::Steps::begins, crate::proofs::Steps::goes_on, crate::proofs::Steps::breaks_off, crate::proofs::Steps::is_done))]
+#[tactic(auto, using(crate::proofs::Steps::record_steps))]
 fn put_all(alloc: Global, count: u32, bytes: &[u8]) -> Result<(Waiting, &[u8]), RecordsError>
     ensures { Gives (λ x. (waiting_of x.0, x.1.now)) result
         (steps (put_next column_of) count ([], []) bytes.now) }
 {
-    let mut waiting = Waiting {
-        columns: Vec::new(alloc),
-        levels: Vec::new(alloc),
-    };
+    let mut waiting = none_waiting(alloc);
     let mut rest = bytes;
     'structures: for _i in 0..count {
         let (more, behind) = put_next(alloc, waiting, rest)?;
@@ -113,7 +119,7 @@ fn put_all(alloc: Global, count: u32, bytes: &[u8]) -> Result<(Waiting, &[u8]), 
 }
 
 /// Returns the columns that wait for the last structure, with the bytes of its record.
-#[tactic(auto, unfolding(crate::specs::Columns::waiting_at))]
+#[tactic(auto, using(crate::proofs::Steps::is_some), unfolding(crate::specs::Columns::waiting_at))]
 pub(crate) fn waiting_at(alloc: Global, bytes: &[u8]) -> Result<(Waiting, &[u8]), RecordsError>
     ensures { Gives (λ x. (waiting_of x.0, x.1.now)) result (waiting_at bytes.now) }
 {

@@ -5,6 +5,7 @@
 mod column;
 mod columns;
 mod error;
+pub mod laws;
 mod schema;
 mod texts;
 mod types;

@@ -13,7 +13,7 @@ use std::collections::BTreeMap;
 type Texts = BTreeMap<String, String>;
 
 /// Puts an entry to those before it, and returns the bytes behind it.
-#[tactic(auto, using(crate::proofs::Entries::texts_inserted), unfolding(crate::specs::Texts::put_entry))]
+#[tactic(auto, using(crate::proofs::Entries::inserted), unfolding(crate::specs::Texts::put_entry))]
 fn put_entry(alloc: Global, texts: Texts, bytes: &[u8]) -> Result<(Texts, &[u8]), Refusal>
     ensures { Makes (λ x. (texts_of x.0.entries, x.1.now)) result
         (put_entry (texts_of texts.entries) bytes.now) }
@@ -27,7 +27,7 @@ fn put_entry(alloc: Global, texts: Texts, bytes: &[u8]) -> Result<(Texts, &[u8])
 }
 
 /// Reads so many entries.
-#[tactic(auto, using(crate::proofs::Entries::begins, crate::proofs::Entries::goes_on, crate::proofs::Entries::breaks_off, crate::proofs::Entries::is_done))]
+#[tactic(auto, using(crate::proofs::Entries::entry_steps))]
 fn put_entries(alloc: Global, count: u32, bytes: &[u8]) -> Result<Texts, Refusal>
     ensures { Makes (λ m. texts_of m.entries) result (put_entries count [] bytes.now) }
 {

@@ -44,7 +44,8 @@ fn own_type(
     format: Format<'_>,
     children: Vec<SchemaColumn>,
 ) -> Result<AnyType, Refusal>
-    ensures { Makes type_tree result (own_type (said_of format.entry) (map column_tree children.items)) }
+    ensures { Makes type_tree result
+        (own_type (said_of format.entry) (map column_tree children.items)) }
 {
     let Format { kind, zone, ids } = format;
     if !takes(&kind, ids.len(), children.len()) {
@@ -81,7 +82,8 @@ fn dictionary_type(
     ordered: bool,
     inner: Vec<SchemaColumn>,
 ) -> Result<AnyType, Refusal>
-    ensures { Makes type_tree result (dictionary_type kind.now ordered (map column_tree inner.items)) }
+    ensures { Makes type_tree result
+        (dictionary_type kind.now ordered (map column_tree inner.items)) }
 {
     let Some(integers) = integers_of(kind) else {
         return Err(Refusal::Rule(Rule::Format));
