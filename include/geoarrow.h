@@ -1,8 +1,8 @@
 /* GeoArrow's schema types as calls of C: the answers of the program geoarrow_fields, and the report, the differences of files, the
  * columns in normal form and the Arrow stream of geoarrow_check, these two also of a schema in memory.
  *
- * A call takes bytes as a pointer and a length, or a structure of Arrow's C data interface, and writes text, or a stream's bytes, to the front of `out`. It returns a
- * status; at GEOARROW_DONE, and where bytes are refused, `*len` is the length of what is written. Where `out` is too small nothing
+ * A call takes bytes as a pointer and a length, or a structure of Arrow's C data interface, and writes text, or a stream's bytes, to
+ * the front of `out`. It returns a status; at GEOARROW_DONE, and where bytes are refused, `*len` is the length of what is written. Where `out` is too small nothing
  * is written to it, and `*len` is what is needed, so a call with `out_len` 0 asks for the length. The text has no NUL at its end.
  *
  * At GEOARROW_REFUSED, and at GEOARROW_FIRST_REFUSED of geoarrow_same, what is written is one line, with a line feed behind it,
@@ -17,10 +17,12 @@
  * - Each pointer is not null, also where its length is 0, and leads to so many bytes; `len` leads to a size_t. No length is
  *   greater than PTRDIFF_MAX.
  * - `out` and `*len` overlap nothing else that is passed. While a call runs, nobody else touches them, or writes to what it reads.
- * - An ArrowSchema is NULL, or a structure as Arrow's C data interface has it, down to its last child and dictionary: a format, a name
- *   and metadata that are not NULL lead to a text that ends in a NUL, or to metadata as long as their numbers say; `children` to
- *   `n_children` pointers, each to a structure or NULL. No reader of that interface can check this. What it can, it does: NULL where
- *   something is to stand, structures that are released, wrong counts, formats and texts, circles and what is too deep are refused.
+ * - An ArrowSchema is NULL, or a structure as Arrow's C data interface has it, down to its last child
+ *   and dictionary: a format, a name and metadata that are not NULL lead to a text that ends in a NUL,
+ *   or to metadata as long as their numbers say; `children` to `n_children` pointers, each to a
+ *   structure or NULL. No reader of that interface can check this. What can be checked is, and
+ *   refused: NULL where something is to stand, structures that are released, wrong counts, formats and
+ *   texts, circles and what is too deep.
  * - The thread has GEOARROW_STACK bytes of stack left.
  * - No call is made from a signal handler, nor from the forked child of a process with threads.
  * - malloc, realloc and free are those of one allocator, with blocks that are aligned to 16 bytes.
@@ -77,8 +79,8 @@ struct ArrowArray {
 /* What is asked of a line. */
 enum { GEOARROW_READ = 0, GEOARROW_INFER = 1, GEOARROW_CANON = 2, GEOARROW_COLUMNS = 3 };
 
-/* Options of geoarrow_report, geoarrow_read_schema, geoarrow_read_field and geoarrow_same, 0 or a sum of these: infer a type for columns without an extension name; notes among the findings, of
- * columns and of the file (docs/FORMAT.md, 2.6, 4.3 and 5). */
+/* Options of geoarrow_report, geoarrow_read_schema, geoarrow_read_field and geoarrow_same, 0 or a sum of these: infer a type for
+ * columns without an extension name; notes among the findings, of columns and of the file (docs/FORMAT.md, 2.6, 4.3 and 5). */
 enum { GEOARROW_INFER_TYPES = 1, GEOARROW_NOTES = 2 };
 
 /* Statuses. */
@@ -162,27 +164,30 @@ uint8_t geoarrow_same(uint8_t options, const uint8_t *first, size_t first_len, c
  * unchanged. */
 uint8_t geoarrow_canonical(const uint8_t *bytes, size_t bytes_len, uint8_t *out, size_t out_len, size_t *len);
 
-/* The report of a schema in memory (docs/FORMAT.md, 2.5 to 2.7): its columns are its children. It is that of an Arrow stream of this
- * schema, its metadata, of which `geo` is looked at, among it. The lines are those of geoarrow_report without the name of a file. Where a
- * key stands several times in metadata, its last text counts, and nothing is said of it. The structure stays the caller's: it is read,
- * not written to, and not released. It is of the format `+s`, and has no dictionary.
+/* The report of a schema in memory (docs/FORMAT.md, 2.5 to 2.7), which has the format `+s` and no
+ * dictionary: its columns are its children. It is that of an Arrow stream of this schema, in whose
+ * metadata `geo` is looked at; its lines are those of geoarrow_report without the name of a file.
+ * Where a key stands several times in metadata, its last text counts, and nothing is said of it. The
+ * structure stays the caller's: it is read, not written to, and not released.
  *
- * Where the schema is refused, the line that says why (2.8), with the code `BadSchema` and at `index` the column in which it
- * is broken, if it is in one; or with `ReportTooLarge`. As
+ * Where the schema is refused, the line that says why (2.8), with the code `BadSchema`, and at `index`
+ * the column that is broken, if one is; or with `ReportTooLarge`. As
  * `{"kind":"finding","severity":"error","code":"BadSchema","index":1,"found":"a structure that is released","expected":"a structure that is not released"}`.
  * `options` is as for geoarrow_report.
  * Statuses: DONE and REFUSED, with the lines in `out`; SHORT, of either; MEMORY and UNKNOWN, at which `out` and `*len` are
  * unchanged. */
 uint8_t geoarrow_read_schema(uint8_t options, const struct ArrowSchema *schema, uint8_t *out, size_t out_len, size_t *len);
 
-/* The same of one column, whatever its format is: the report of a schema with that one column and without metadata. `index`
- * is 0. */
+/* The same of one column, whatever its format is: the report of a schema with that one column and
+ * without metadata. `index` is 0. */
 uint8_t geoarrow_read_field(uint8_t options, const struct ArrowSchema *field, uint8_t *out, size_t out_len, size_t *len);
 
-/* An Arrow stream of a schema in memory (docs/FORMAT.md, 2.7 and 3.6), with its metadata: bytes which all other calls take as those
- * of a file. As that of geoarrow_write_schema it has the schema alone. The structure is taken as by geoarrow_read_schema.
- * Statuses: DONE, with the stream in `out`; REFUSED, with the line that says why (2.8), where the schema is refused, or no message
- * can hold it; SHORT, of either; MEMORY, at which `out` and `*len` are unchanged. */
+/* An Arrow stream of a schema in memory (docs/FORMAT.md, 2.7 and 3.6), with its metadata: bytes which
+ * all other calls take as those of a file. As that of geoarrow_write_schema it has the schema alone.
+ * The structure is as for geoarrow_read_schema.
+ * Statuses: DONE, with the stream in `out`; REFUSED, with the line that says why (2.8), where the
+ * schema is refused, or no message can hold it; SHORT, of either; MEMORY, at which `out` and `*len`
+ * are unchanged. */
 uint8_t geoarrow_stream_of_schema(const struct ArrowSchema *schema, uint8_t *out, size_t out_len, size_t *len);
 
 #ifdef __cplusplus
