@@ -4,7 +4,6 @@ use Rattle.std.specs.Prelude.{◌≡◌, ℕ, ◌-◌, ◌/◌, ◌%◌, Bool, t
 use Rattle.std.specs.Prelude.{Option, Some, None, Result, Ok, Err, codes, bytes_eq, ◌==◌}
 use Rattle.std.specs.Prelude.{if◌then◌else◌}
 use Rattle.arrow_values.specs.Tree.{Text, Metadata}
-
 use Rattle.arrow_values.specs.declared.tree.DataType.{DataType}
 use Rattle.arrow_values.specs.declared.tree.DataType.TheVariants.{Int8, Int16, Int32, Int64, UInt8}
 use Rattle.arrow_values.specs.declared.tree.DataType.TheVariants.{UInt16, UInt32, UInt64}
@@ -115,7 +114,6 @@ columns_at bytes = last_as columns_of bytes
 abbrev pub column_at : List ℕ → Result ColumnTree Fault
 column_at bytes = last_as column_of bytes
 
-<<<<<<< HEAD
 -- a structure as a schema with its metadata
 unfoldable pub schema_of : LastAs (List ColumnTree × Metadata)
 schema_of s cs = do
@@ -125,11 +123,10 @@ schema_of s cs = do
 
 abbrev pub schema_at : List ℕ → Result (List ColumnTree × Metadata) Fault
 schema_at bytes = last_as schema_of bytes
-=======
+
 -- that is made of a whole tree; where it breaks a rule of its own, in the record at the front of
 -- some bytes
 abbrev pub IsMadeOf : {A : Type 0} → LastAs A → Result (Structure × List ColumnTree) Fault
     → Result A Fault → Type 0
 IsMadeOf make (Ok whole) made = (last : List ℕ) × (made ≡ within last (make whole.0 whole.1))
 IsMadeOf make (Err fault) made = made ≡ Err fault
->>>>>>> 63af24d7d31058979c3a64ecd67a5e3d7a4da832
