@@ -4,3 +4,4 @@ mod Compared
 mod Written
 mod Placed
 mod GeoTexts
+mod Walked

@@ -1,5 +1,5 @@
 //! How the walk over the structures of a schema ended (`native/records.c`).
-ghost use Rattle.std.specs.Prelude.{◌≡◌, ◌<◌, ◌≤◌, ◌×◌, MatchOption};
+ghost use Rattle.std.specs.Prelude.{◌≡◌, ◌<◌, ◌≤◌, MatchOption};
 ghost use Rattle.column_files.specs.Refusals.{told};
 ghost use Rattle.geoarrow_c.specs.Walks.{walk_number, walk_message, walk_wanted, walk_told, place_in};
 
