@@ -35,12 +35,7 @@ fn stream_of(alloc: Global, schema: RecordSchema) -> Result<Vec<u8>, WriteError>
 
 /// Writes the stream of a schema to the front of a buffer, or the line that says why there is none,
 /// as `refuse` does.
-fn stream_schema(
-    alloc: Global,
-    schema: RecordSchema,
-    out: &mut [u8],
-    len: &mut usize,
-) -> u8
+fn stream_schema(alloc: Global, schema: RecordSchema, out: &mut [u8], len: &mut usize) -> u8
     ensures done { result ≡ 0 → Makes (IsStreamRead (Ok schema)) len.new (λ stream. Fills stream out.old out.new) }
     ensures refused { result ≡ 5 → Makes (IsUnstreamedRead (Ok schema)) len.new (λ line. Fills line out.old out.new) }
     ensures short { result ≡ 1 → Makes (λ text. IsStreamRead (Ok schema) text ⊎ IsUnstreamedRead (Ok schema) text) len.new (λ text. Lacks text out.old out.new) }
