@@ -54,7 +54,6 @@ fn opened<'a>(alloc: Global, schema: RecordSchema) -> File<'a>
 }
 
 /// The lines of the report of a schema that took so many bytes as records.
-#[tactic(auto, using(crate::proofs::Walked::reports_as))]
 fn lines_of(
     alloc: Global,
     asked: Options,

@@ -74,9 +74,9 @@ fn stream_read(
 ///
 /// Returns 0; or 5 where the schema is refused, or no message can hold it: the line that says why,
 /// with its line feed, stands in place of a stream (docs/FORMAT.md, 2.8). Returns 1 where `out` is
-/// too small for what would stand there: it is then unchanged, and `len` says what is needed; 2 when
-/// out of memory, also where the walk was, and 3 where the number is that of no walk, with both
-/// unchanged.
+/// too small for what would stand there: it is then unchanged, and `len` says what is needed; 2
+/// when out of memory, also where the walk was, and 3 where the number is that of no walk, with
+/// both unchanged.
 #[unsafe(no_mangle)]
 pub extern "C" fn schema_stream(
     alloc: Global,
