@@ -1,5 +1,5 @@
 -- The report of a schema that lies in memory (docs/FORMAT.md, 2.5 to 2.8): that of an Arrow stream of it.
-use Rattle.std.specs.Prelude.{◌≡◌, ◌⊎◌, ℕ, [], Option, None, Some, Result, Ok, Err, String, string_bytes}
+use Rattle.std.specs.Prelude.{◌≡◌, ◌⊎◌, ℕ, [], Option, None, Result, Ok, Err, String, string_bytes}
 use Rattle.std.specs.Global.{Global}
 use Rattle.arrow_values.specs.Texts.{text_at}
 use Rattle.arrow_values.specs.View.{texts_of}
@@ -17,7 +17,6 @@ use Rattle.column_reports.specs.declared.report.Options.{Options}
 use Rattle.geoarrow_fields.specs.Lines.{Bytes}
 use Rattle.parquet_columns.specs.Budget.{budget}
 use Rattle.parquet_columns.specs.Findings.{geo_key}
-use Rattle.record_columns.specs.Schemas.{schema_tree}
 use Rattle.record_columns.specs.declared.schema.RecordSchema.{RecordSchema}
 use Rattle.geoarrow_c.specs.Records.{Schema, IsRead}
 use Rattle.geoarrow_c.specs.Refusals.{line_of, IsLineOfFile}
