@@ -1,8 +1,8 @@
 /* GeoArrow's schema types as calls of C: the answers of the program geoarrow_fields, and the report, the differences of files, the
- * columns in normal form and the Arrow stream of geoarrow_check.
+ * columns in normal form and the Arrow stream of geoarrow_check, these two also of a schema in memory.
  *
- * A call takes bytes as a pointer and a length, and writes text, or a stream's bytes, to the front of `out`. It returns a
- * status; at GEOARROW_DONE, and where bytes are refused, `*len` is the length of what is written. Where `out` is too small nothing
+ * A call takes bytes as a pointer and a length, or a structure of Arrow's C data interface, and writes text, or a stream's bytes, to
+ * the front of `out`. It returns a status; at GEOARROW_DONE, and where bytes are refused, `*len` is the length of what is written. Where `out` is too small nothing
  * is written to it, and `*len` is what is needed, so a call with `out_len` 0 asks for the length. The text has no NUL at its end.
  *
  * At GEOARROW_REFUSED, and at GEOARROW_FIRST_REFUSED of geoarrow_same, what is written is one line, with a line feed behind it,
@@ -17,6 +17,12 @@
  * - Each pointer is not null, also where its length is 0, and leads to so many bytes; `len` leads to a size_t. No length is
  *   greater than PTRDIFF_MAX.
  * - `out` and `*len` overlap nothing else that is passed. While a call runs, nobody else touches them, or writes to what it reads.
+ * - An ArrowSchema is NULL, or a structure as Arrow's C data interface has it, down to its last child
+ *   and dictionary: a format, a name and metadata that are not NULL lead to a text that ends in a NUL,
+ *   or to metadata as long as their numbers say; `children` to `n_children` pointers, each to a
+ *   structure or NULL. No reader of that interface can check this. What can be checked is, and
+ *   refused: NULL where something is to stand, structures that are released, wrong counts, formats and
+ *   texts, circles and what is too deep.
  * - The thread has GEOARROW_STACK bytes of stack left.
  * - No call is made from a signal handler, nor from the forked child of a process with threads.
  * - malloc, realloc and free are those of one allocator, with blocks that are aligned to 16 bytes.
@@ -35,11 +41,46 @@ extern "C" {
 #define GEOARROW_VERSION 20000
 #define GEOARROW_STACK 262144
 
+/* The structures of Arrow's C data interface, as each of its headers declares them; the calls here take the first. */
+#ifndef ARROW_C_DATA_INTERFACE
+#define ARROW_C_DATA_INTERFACE
+
+#define ARROW_FLAG_DICTIONARY_ORDERED 1
+#define ARROW_FLAG_NULLABLE 2
+#define ARROW_FLAG_MAP_KEYS_SORTED 4
+
+struct ArrowSchema {
+    const char *format;
+    const char *name;
+    const char *metadata;
+    int64_t flags;
+    int64_t n_children;
+    struct ArrowSchema **children;
+    struct ArrowSchema *dictionary;
+    void (*release)(struct ArrowSchema *);
+    void *private_data;
+};
+
+struct ArrowArray {
+    int64_t length;
+    int64_t null_count;
+    int64_t offset;
+    int64_t n_buffers;
+    int64_t n_children;
+    const void **buffers;
+    struct ArrowArray **children;
+    struct ArrowArray *dictionary;
+    void (*release)(struct ArrowArray *);
+    void *private_data;
+};
+
+#endif
+
 /* What is asked of a line. */
 enum { GEOARROW_READ = 0, GEOARROW_INFER = 1, GEOARROW_CANON = 2, GEOARROW_COLUMNS = 3 };
 
-/* Options of geoarrow_report and geoarrow_same, 0 or a sum of these: infer a type for columns without an extension name; notes among the findings, of
- * columns and of the file (docs/FORMAT.md, 2.6, 4.3 and 5). */
+/* Options of geoarrow_report, geoarrow_read_schema, geoarrow_read_field and geoarrow_same, 0 or a sum of these: infer a type for
+ * columns without an extension name; notes among the findings, of columns and of the file (docs/FORMAT.md, 2.6, 4.3 and 5). */
 enum { GEOARROW_INFER_TYPES = 1, GEOARROW_NOTES = 2 };
 
 /* Statuses. */
@@ -49,7 +90,7 @@ enum {
     GEOARROW_MEMORY = 2,  /* out of memory */
     GEOARROW_UNKNOWN = 3, /* no such command, or no such options, or a name that is not UTF-8 */
     GEOARROW_LIMIT = 4,   /* more than 1,000,000 lines, or a line of more than 1,048,576 bytes */
-    GEOARROW_REFUSED = 5, /* the bytes are refused; the line that says why stands in `out` */
+    GEOARROW_REFUSED = 5, /* the bytes, or the schema, are refused; the line that says why stands in `out` */
     GEOARROW_FIRST_REFUSED = 6 /* of two files those of the first are; the line that says why stands in `out` */
 };
 
@@ -122,6 +163,32 @@ uint8_t geoarrow_same(uint8_t options, const uint8_t *first, size_t first_len, c
  * Statuses: DONE, with the lines in `out`; REFUSED, with the line; SHORT, of either; MEMORY, at which `out` and `*len` are
  * unchanged. */
 uint8_t geoarrow_canonical(const uint8_t *bytes, size_t bytes_len, uint8_t *out, size_t out_len, size_t *len);
+
+/* The report of a schema in memory (docs/FORMAT.md, 2.5 to 2.7), which has the format `+s` and no
+ * dictionary: its columns are its children. It is that of an Arrow stream of this schema, in whose
+ * metadata `geo` is looked at; its lines are those of geoarrow_report without the name of a file.
+ * Where a key stands several times in metadata, its last text counts, and nothing is said of it. The
+ * structure stays the caller's: it is read, not written to, and not released.
+ *
+ * Where the schema is refused, the line that says why (2.8), with the code `BadSchema`, and at `index`
+ * the column that is broken, if one is; or with `ReportTooLarge`. As
+ * `{"kind":"finding","severity":"error","code":"BadSchema","index":1,"found":"a structure that is released","expected":"a structure that is not released"}`.
+ * `options` is as for geoarrow_report.
+ * Statuses: DONE and REFUSED, with the lines in `out`; SHORT, of either; MEMORY and UNKNOWN, at which `out` and `*len` are
+ * unchanged. */
+uint8_t geoarrow_read_schema(uint8_t options, const struct ArrowSchema *schema, uint8_t *out, size_t out_len, size_t *len);
+
+/* The same of one column, whatever its format is: the report of a schema with that one column and
+ * without metadata. `index` is 0. */
+uint8_t geoarrow_read_field(uint8_t options, const struct ArrowSchema *field, uint8_t *out, size_t out_len, size_t *len);
+
+/* An Arrow stream of a schema in memory (docs/FORMAT.md, 2.7 and 3.6), with its metadata: bytes which
+ * all other calls take as those of a file. As that of geoarrow_write_schema it has the schema alone.
+ * The structure is as for geoarrow_read_schema.
+ * Statuses: DONE, with the stream in `out`; REFUSED, with the line that says why (2.8), where the
+ * schema is refused, or no message can hold it; SHORT, of either; MEMORY, at which `out` and `*len`
+ * are unchanged. */
+uint8_t geoarrow_stream_of_schema(const struct ArrowSchema *schema, uint8_t *out, size_t out_len, size_t *len);
 
 #ifdef __cplusplus
 }

@@ -17,6 +17,7 @@ IPC, FOOTER, ELEMENTS, FILES, ENDS = (
                         ("column_files", "Refusals.antt"), ("column_files", "Endings.antt")))
 PRINTED = (CRATES / "file_check/specs/Printed.antt").read_text(encoding="utf-8")
 RECORDS = (CRATES / "record_wire/specs/Fault.antt").read_text(encoding="utf-8")
+WALKS, SCHEMAS = ((CRATES / "geoarrow_c/specs" / file).read_text(encoding="utf-8") for file in ("Walks.antt", "Records.antt"))
 UNLIKE = (CRATES / "same_columns/specs/Unlike.antt").read_text(encoding="utf-8")
 FORMAT = (CRATES.parent / "docs/FORMAT.md").read_text(encoding="utf-8")
 BUDGET = (CRATES / "parquet_columns/specs/Budget.antt").read_text(encoding="utf-8")
@@ -57,7 +58,14 @@ def defined():
         | {(said(FILES, "end_code")["Encrypted"], *it, said(FILES, "end_help")["Encrypted"]) for it in encrypted}
         | rows(of_rules, said(IPC, "rule_message"), said(IPC, "rule_wanted"), no_help)
         | rows(said(FILES, "ipc_code"), said(IPC, "error_message"), said(IPC, "error_wanted"), no_help)
-        | rows(said(IPC, "write_code"), said(IPC, "write_message"), said(IPC, "write_wanted"), no_help))
+        | rows(said(IPC, "write_code"), said(IPC, "write_message"), said(IPC, "write_wanted"), no_help)
+        | rows({"": code_of(WALKS)}, said(WALKS, "walk_message"), said(WALKS, "walk_wanted"), no_help))
+
+
+def code_of(spec):
+    """The one code of a definition of what is told."""
+    code, = re.findall(f"^  code = {TEXT};$", spec, re.M)
+    return code
 
 
 class Words(unittest.TestCase):
@@ -69,7 +77,7 @@ class Words(unittest.TestCase):
         codes, ends = said(FILES, "fault_code"), said(FILES, "end_code")
         cut = [(ends["Truncated"], words, said(FILES, "end_help")["Truncated"]) for words in (*said(ENDS, "magic_words").values(), None)]
         self.assertEqual(sorted((row[0], row[2] or "", row[3]) for row in told if row[0] == ends["Truncated"]), sorted((code, words or "", help) for code, words, help in cut))
-        others = [*re.findall(f"^  code = {TEXT};$", PRINTED, re.M), codes["Foreign"], codes["Footer"], codes["Tree"], said(FILES, "rule_code")[""],
+        others = [code_of(SCHEMAS), *re.findall(f"^  code = {TEXT};$", PRINTED, re.M), codes["Foreign"], codes["Footer"], codes["Tree"], said(FILES, "rule_code")[""],
                   ends["FooterLength"], *(code for code, _, _ in cut)]
         self.assertEqual(sorted(row[0] for row in told if row[1] is None), sorted(others))
 
@@ -77,8 +85,8 @@ class Words(unittest.TestCase):
         told = tables("code | found | expected | help | place")
         codes = dict.fromkeys(text_in(row[0]) for row in told)  # each once, in their order
         weighed = [text_in(row[0]) for row in tables("code | weighs | when")]
-        # Memory and what is written are no files.
-        self.assertEqual(sorted(weighed), sorted(code for code in codes if code not in ("OutOfMemory", "ColumnType", "SchemaTooLarge")))
+        # Memory, what is written and schemas in memory are no files.
+        self.assertEqual(sorted(weighed), sorted(code for code in codes if code not in ("OutOfMemory", "ColumnType", "SchemaTooLarge", "BadSchema")))
 
     def test_same(self):
         told = tables("what differs | where | found | expected | help")

@@ -1,18 +1,19 @@
 /* A caller of geoarrow.h, which native/test compiles: caller answers|faults|threads|stack|leaks < REQUESTS
  *
  * A request is a byte for the call (0 geoarrow_answer, 1 geoarrow_run, 2 geoarrow_report, 3 geoarrow_write_schema, 4 geoarrow_same,
- * 5 geoarrow_canonical), one for the number that the call takes, if it does, the length of the name that it takes, if it does, that of its
+ * 5 geoarrow_canonical, 6 geoarrow_read_schema, 7 geoarrow_read_field, 8 geoarrow_stream_of_schema), one for the number that the call takes, if it does, the length of the name that it takes, if it does, that of its
  * bytes, and that of those of the other file, if it takes two, each in four bytes, the lowest first, and behind them the name and the bytes of
- * each. A command, options and a status are told by their place in the lists of the header's names below; a number past a list is sent as it is.
+ * each; the bytes of the last three calls describe a schema (lent.h). A command, options and a status are told by their place in the lists of the header's names below; a number past a list is sent as it is.
  *   answers  calls with room, with each size of buffer that is too small (of long texts some), and between guards; writes for each
  *            request its status in a byte (255 for a number that the header does not name), `*len` in eight, and the text
  *   faults   over the library of bin/faults: each request for memory refused, one at a time: out of memory, or the same answer
  *   threads  all calls from eight threads at once
  *   stack    all calls from a thread with GEOARROW_STACK bytes of stack
  *   leaks    no calls: it forgets blocks of memory, so that a detector of leaks shows whether it works
- * The last line on standard error is `N passed, M failed`, calls counted. */
+ * Behind all calls no schema has changed, and none is released. The last line on standard error is `N passed, M failed`, calls counted. */
 #define _POSIX_C_SOURCE 200809L
 #include "geoarrow.h"
+#include "lent.h"
 #include <pthread.h>
 #include <stdio.h>
 #include <stdlib.h>
@@ -30,6 +31,7 @@ typedef struct request {
     size_t size;
     uint8_t *other;
     size_t other_size;
+    struct ArrowSchema *schema;
     uint8_t status; /* with room */
     size_t len;
     uint8_t *text;
@@ -62,7 +64,20 @@ static uint8_t canonical(const request_t *of, uint8_t *out, size_t out_len, size
     return geoarrow_canonical(of->bytes, of->size, out, out_len, len);
 }
 
-static const call_t CALLS[] = {answer_line, run, report, write_schema, same, canonical};
+static uint8_t read_schema(const request_t *of, uint8_t *out, size_t out_len, size_t *len) {
+    return geoarrow_read_schema(of->number, of->schema, out, out_len, len);
+}
+
+static uint8_t read_field(const request_t *of, uint8_t *out, size_t out_len, size_t *len) {
+    return geoarrow_read_field(of->number, of->schema, out, out_len, len);
+}
+
+static uint8_t stream_of_schema(const request_t *of, uint8_t *out, size_t out_len, size_t *len) {
+    return geoarrow_stream_of_schema(of->schema, out, out_len, len);
+}
+
+static const call_t CALLS[] = {answer_line, run, report, write_schema, same, canonical, read_schema, read_field, stream_of_schema};
+enum { FIRST_OF_SCHEMAS = 6 };
 
 /* The numbers of the header by their names, in the order of native/test. */
 static const uint8_t COMMANDS[] = {GEOARROW_READ, GEOARROW_INFER, GEOARROW_CANON, GEOARROW_COLUMNS};
@@ -176,7 +191,7 @@ static void faults(request_t *of) {
         judge(is_right || is_answer(of, status, len, out), of, "a refused request for memory");
         was_refused = 1;
     }
-    judge(!was_refused || lost, of, "no refused request is out of memory");
+    judge(!was_refused || lost || of->status == GEOARROW_UNKNOWN, of, "no refused request is out of memory"); /* (options are looked at behind the walk) */
     judge(is_answer(of, status, len, out), of, "another answer behind a refused request");
     give(out);
 }
@@ -240,6 +255,9 @@ static void read_requests(void) {
         of->name = read_bytes(of->name_size);
         of->bytes = read_bytes(of->size);
         of->other = read_bytes(of->other_size);
+        const uint8_t *from = of->bytes;
+        of->schema = head[0] < FIRST_OF_SCHEMAS ? NULL : lent_schema(&from, NULL);
+        if (of->schema && from != of->bytes + of->size) exit(5);
     }
 }
 
@@ -257,6 +275,7 @@ int main(int words, char **word) {
     } else {
         for (size_t i = 0; i < count; i++) strcmp(mode, "faults") ? answers(&requests[i]) : faults(&requests[i]);
     }
+    judge(is_lent_unchanged(), requests, "a schema that was lent is changed or released");
     fprintf(stderr, "%zu passed, %zu failed\n", passed, failed);
     return failed != 0;
 }

@@ -1,25 +1,10 @@
 /* A tree of ArrowSchema structures as records, and back (docs/FORMAT.md, 6), within the library. */
 #ifndef GEOARROW_RECORDS_H
 #define GEOARROW_RECORDS_H
-#include <stddef.h>
-#include <stdint.h>
+#include "../include/geoarrow.h"
 
 #if !defined(__BYTE_ORDER__) || __BYTE_ORDER__ != __ORDER_LITTLE_ENDIAN__
 #error "The numbers of records have their least byte first, and so must those of the machine."
-#endif
-
-#ifndef ARROW_C_DATA_INTERFACE
-#define ARROW_C_DATA_INTERFACE
-#define ARROW_FLAG_DICTIONARY_ORDERED 1
-#define ARROW_FLAG_NULLABLE 2
-#define ARROW_FLAG_MAP_KEYS_SORTED 4
-struct ArrowSchema {
-    const char *format, *name, *metadata;
-    int64_t flags, n_children;
-    struct ArrowSchema **children, *dictionary;
-    void (*release)(struct ArrowSchema *);
-    void *private_data;
-};
 #endif
 
 /* The most levels, structures and bytes. */

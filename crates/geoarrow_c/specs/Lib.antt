@@ -1,7 +1,12 @@
 pub mod Buffer
 pub mod Calls
 pub mod Canonical
+pub mod Places
+pub mod Records
 pub mod Refusals
 pub mod Reports
 pub mod Same
+pub mod SchemaReports
+pub mod SchemaStreams
 pub mod Streams
+pub mod Walks

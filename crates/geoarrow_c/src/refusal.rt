@@ -51,7 +51,7 @@ fn line_of(alloc: Global, file: Option<&str>, fault: &Fault<'_>) -> Result<Strin
 
 /// Writes the line of a fault to the front of a buffer, if it has room, and its length in either
 /// case. Returns the status. Out of memory it writes nothing.
-fn refuse(
+pub(crate) fn refuse(
     alloc: Global,
     file: Option<&str>,
     fault: &Fault<'_>,
