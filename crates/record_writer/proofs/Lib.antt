@@ -1,0 +1,4 @@
+pub mod Entries
+pub mod Below
+pub mod Grows
+pub mod Ones
