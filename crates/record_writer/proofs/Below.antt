@@ -34,14 +34,16 @@ one_more ps qs p n le =
 one_within : (ps : List Placed) (p : Placed) → 1 ≤ length (ps ++ p ∷ [])
 one_within ps p = let b = length-append ps (p ∷ []) in omega (arith, b)
 
-fields_few : (l : ℕ) (fs : FieldTrees) → length (map column_of (field_list fs)) ≤ length (fields_within l fs)
+fields_few : (l : ℕ) (fs : FieldTrees)
+    → length (map column_of (field_list fs)) ≤ length (fields_within l fs)
 fields_few l no_fields = omega arith
 fields_few l (field n t b m fs) =
     let p = at l (column_of (field_tree n t b m)) in
     let h = one_more (within (l + 1) t) (fields_within l fs) p _ (fields_few l fs) in
     omega (arith, h)
 
-members_few : (l : ℕ) (ms : MemberTrees) → length (map (λ m. column_of m.1) (member_list ms)) ≤ length (members_within l ms)
+members_few : (l : ℕ) (ms : MemberTrees)
+    → length (map (λ m. column_of m.1) (member_list ms)) ≤ length (members_within l ms)
 members_few l no_members = omega arith
 members_few l (member i n t b m ms) =
     let p = at l (column_of (field_tree n t b m)) in
@@ -50,8 +52,11 @@ members_few l (member i n t b m ms) =
 
 pub below_few : (l : ℕ) (t : Tree) → length (below (known t)) ≤ length (within l t)
 below_few l (plain p) = omega arith
-below_few l (list n t b m) = one_within (within (l + 1) t) (at l (column_of (field_tree n t b m)))
-below_few l (large_list n t b m) = one_within (within (l + 1) t) (at l (column_of (field_tree n t b m)))
-below_few l (fixed_size_list n t b m s) = one_within (within (l + 1) t) (at l (column_of (field_tree n t b m)))
+below_few l (list n t b m) =
+    one_within (within (l + 1) t) (at l (column_of (field_tree n t b m)))
+below_few l (large_list n t b m) =
+    one_within (within (l + 1) t) (at l (column_of (field_tree n t b m)))
+below_few l (fixed_size_list n t b m s) =
+    one_within (within (l + 1) t) (at l (column_of (field_tree n t b m)))
 below_few l (struct fs) = fields_few l fs
 below_few l (union ms mode) = members_few l ms

@@ -1,6 +1,8 @@
 -- Metadata that are written are read.
-use Rattle.std.proofs.Common.{◌≡◌, ℕ, zero, suc, ◌+◌, ◌*◌, ◌^◌, ◌<◌, ◌≤◌, ◌==◌, Bool, true, false, List}
-use Rattle.std.proofs.Common.{[], ◌∷◌, ◌++◌, length, Ok, Some, None, String, string_bytes, string_cmp}
+use Rattle.std.proofs.Common.{◌≡◌, ℕ, zero, suc, ◌+◌, ◌*◌, ◌^◌, ◌<◌, ◌≤◌, ◌==◌, Bool, true, false}
+use Rattle.std.proofs.Common.{List}
+use Rattle.std.proofs.Common.{[], ◌∷◌, ◌++◌, length, Ok, Some, None, String, string_bytes}
+use Rattle.std.proofs.Common.{string_cmp}
 use Rattle.std.proofs.Common.{Ordering, Less, Greater, refl, sym, ap, ◌∙◌, subst, arith}
 use Rattle.std.proofs.Common.{append_assoc, append-nil, take, drop, map}
 use Rattle.std.specs.declared.alloc.Global.{Global}
@@ -60,8 +62,8 @@ entry_is : (m : Metadata) (e : Text × Text) (rest : List ℕ) → IsEntry e
     → put_entry m ((text_bytes e.0 ++ text_bytes e.1) ++ rest) ≡ Ok (put_text e.0 e.1 m, rest)
 unfolding put_entry
 entry_is m e rest ok =
-    let all : (text_bytes e.0 ++ text_bytes e.1) ++ rest ≡ text_bytes e.0 ++ (text_bytes e.1 ++ rest) =
-    append_assoc (text_bytes e.0) (text_bytes e.1) rest in
+    let x = text_bytes e.0 in let y = text_bytes e.1 in
+    let all : (x ++ y) ++ rest ≡ x ++ (y ++ rest) = append_assoc x y rest in
     rw (
       all,
       text_is e.0 (text_bytes e.1 ++ rest) ok.key ok.short_key,
@@ -84,7 +86,8 @@ module _ {K : Type 0} {cmp : K → K → Ordering} (total : IsTotalOrder cmp) wh
   insert_last (e ∷ es) k v more h =
       let above : cmp k e.0 ≡ Greater =
       total.antisymm k e.0 ∙ ap ordering_reverse (below_middle e.0 (keys_of es) k more h.0) in
-      ap (λ r. match_ordering r ((k, v) ∷ e ∷ es) ((e.0, v) ∷ es) (e ∷ insert_entry cmp es k v)) above
+      ap (λ r. match_ordering r ((k, v) ∷ e ∷ es) ((e.0, v) ∷ es)
+      (e ∷ insert_entry cmp es k v)) above
       ∙ ap (λ l. e ∷ l) (insert_last es k v more h.1)
 
 abbrev pub Texts : Type 0
@@ -106,7 +109,8 @@ entries_are : (done left : Texts) → IsStrictlySortedBy string_cmp (keys_of (do
 unfolding put_entries
 entries_are done [] h each = ap (λ (l : Texts). Ok (texts_of l)) (sym (append-nil done))
 entries_are done (e ∷ left) h each =
-    let all : done ++ (e ∷ left) ≡ (done ++ e ∷ []) ++ left = sym (append_assoc done (e ∷ []) left) in
+    let all : done ++ (e ∷ left) ≡ (done ++ e ∷ []) ++ left =
+    sym (append_assoc done (e ∷ []) left) in
     let sorted = subst (λ (l : Texts). IsStrictlySortedBy string_cmp (keys_of l)) all h in
     let next = entries_are (done ++ e ∷ []) left sorted each.1 in
     let one = entry_is (texts_of done) (string_bytes e.0, string_bytes e.1)

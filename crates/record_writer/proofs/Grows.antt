@@ -1,6 +1,7 @@
 -- Records of columns behind others.
 use Rattle.std.proofs.Common.{◌≡◌, ℕ, ◌+◌, ◌≤◌, ◌<◌, Bool, true, false, ◌||◌, List, [], ◌∷◌, ◌++◌}
-use Rattle.std.proofs.Common.{length, Result, Ok, Err, refl, sym, ap, ◌∙◌, subst, arith, append_assoc}
+use Rattle.std.proofs.Common.{length, Result, Ok, Err, refl, sym, ap, ◌∙◌, subst, arith}
+use Rattle.std.proofs.Common.{append_assoc}
 use Rattle.std.proofs.Common.{inl, inr, append-nil, drop, get_or, map, ℤ}
 use Rattle.std.specs.List.{list_any, AllByRecursion}
 use Rattle.std.proofs.lemmas.List.{length-append, at_drop_more}
@@ -75,8 +76,8 @@ refused_first refusals.TooLarge n ps qs (inr large) =
     let k = room_append ps qs in inr (omega (arith, k, large))
 refused_first refusals.OutOfMemory n ps qs r = tt
 
-pub refused_behind : (e : Refusal) (n m : ℕ) (ps qs : List Placed) → m ≤ n + length ps → Refuses e m qs
-    → Refuses e n (ps ++ qs)
+pub refused_behind : (e : Refusal) (n m : ℕ) (ps qs : List Placed) → m ≤ n + length ps
+    → Refuses e m qs → Refuses e n (ps ++ qs)
 refused_behind refusals.Format n m ps qs le r = any_later _ ps qs r
 refused_behind refusals.Nul n m ps qs le r = any_later _ ps qs r
 refused_behind refusals.TooDeep n m ps qs le r = any_later _ ps qs r
@@ -176,7 +177,8 @@ module _ (a now : Records) (l i : ℕ) where
         let F = λ (ns : Members). members_within l (member_trees ns) in
         let e = at_drop_more F ms i m more
         ∙ ap (λ (n : ℤ × FieldTree). F (n ∷ drop (i + 1) ms)) (sym is) in
-        subst (λ (left : List Placed). Done a now left (members_within l (member_trees ms))) e so_far
+        subst (λ (left : List Placed). Done a now left (members_within l (member_trees ms))) e
+        so_far
 
     pub member_more : (next : Records) → Grown now next (placed l (column_of m.1))
         → Done a next (members_within l (member_trees (drop (i + 1) ms)))

@@ -2,3 +2,5 @@ pub mod Entries
 pub mod Below
 pub mod Grows
 pub mod Ones
+pub mod Back
+pub mod Whole

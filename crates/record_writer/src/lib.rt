@@ -8,5 +8,7 @@ mod structure;
 mod texts;
 mod trees;
 mod types;
+mod write;
 
 pub use error::WriteError;
+pub use write::{write_column, write_columns};

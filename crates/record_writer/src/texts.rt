@@ -1,5 +1,6 @@
 //! Metadata, as they stand in memory.
-ghost use Rattle.std.specs.Prelude.{◌≡◌, ◌++◌, ◌^◌, ◌<◌, IfOk, IfErr, OnOk, Ok, length, option_map, true};
+ghost use Rattle.std.specs.Prelude.{◌≡◌, ◌++◌, ◌^◌, ◌<◌, IfOk, IfErr, OnOk, Ok, length, option_map};
+ghost use Rattle.std.specs.Prelude.{true};
 ghost use Rattle.std.specs.Str.{is_utf8};
 ghost use Rattle.arrow_values.specs.View.{texts_of};
 ghost use Rattle.record_wire.specs.Write.{word, text_of};
