@@ -1,12 +1,12 @@
 -- What is read of the records of columns.
-use Rattle.std.proofs.Common.{◌≡◌, ℕ, ◌+◌, ◌==◌, Bool, true, false, List, [], ◌∷◌, ◌++◌, length}
+use Rattle.std.proofs.Common.{◌≡◌, ℕ, ◌+◌, Bool, true, false, List, [], ◌∷◌, ◌++◌, length}
 use Rattle.std.proofs.Common.{map}
-use Rattle.std.proofs.Common.{Option, Some, None, Result, Ok, refl, sym, ap, ◌∙◌, subst, arith}
-use Rattle.std.proofs.Common.{append-nil, ℤ}
+use Rattle.std.proofs.Common.{Some, None, Ok, refl, sym, ap, ◌∙◌, subst, arith}
+use Rattle.std.proofs.Common.{append-nil}
 use Rattle.std.specs.List.{AllByRecursion, zip}
 use Rattle.std.proofs.lemmas.List.{length-append, length-map}
 use Rattle.std.proofs.lemmas.Bool.{eq-eqb}
-use Rattle.arrow_values.specs.Tree.{Metadata, Tree, plain, list, large_list, fixed_size_list}
+use Rattle.arrow_values.specs.Tree.{Tree, plain, list, large_list, fixed_size_list}
 use Rattle.arrow_values.specs.Tree.{struct}
 use Rattle.arrow_values.specs.Tree.{union, FieldTrees, no_fields, field, MemberTrees, no_members}
 use Rattle.arrow_values.specs.Tree.{member, FieldTree, field_tree, Members, Text, Plain, null}
@@ -22,13 +22,9 @@ use Rattle.arrow_columns.specs.Column.{column_of as field_column}
 use Rattle.arrow_columns.specs.Below.{below, below_tree}
 use Rattle.arrow_columns.specs.Nested.{all_known, known_fields}
 use Rattle.arrow_kinds.specs.Types.{type_of}
-use Rattle.format_strings.specs.Formats.{Said, format_of}
-use Rattle.format_strings.specs.Reading.{said_in}
 use Rattle.format_strings.proofs.Forth.{written_is_read}
 use Rattle.record_wire.specs.Trees.{Adds}
 use Rattle.record_wire.specs.Write.{bytes_of}
-use Rattle.record_wire.specs.declared.fault.Rule.{Rule}
-use Rattle.record_wire.specs.declared.fault.Rule.TheVariants.{Children}
 use Rattle.record_wire.proofs.TreeLemmas.{begins, closes, follows}
 use Rattle.record_columns.specs.Columns.{own_type, column_of, is_nullable}
 use Rattle.record_columns.specs.Texts.{texts_in}

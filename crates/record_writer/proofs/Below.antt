@@ -1,5 +1,5 @@
 -- What lies right in a type.
-use Rattle.std.proofs.Common.{◌≡◌, ℕ, ◌+◌, ◌≤◌, List, [], ◌∷◌, ◌++◌, length, map, refl, ap, ◌∙◌}
+use Rattle.std.proofs.Common.{◌≡◌, ℕ, ◌+◌, ◌≤◌, List, [], ◌∷◌, ◌++◌, length, map, ap}
 use Rattle.std.proofs.Common.{arith}
 use Rattle.std.proofs.lemmas.List.{length-append, length-map}
 use Rattle.arrow_values.specs.Tree.{Tree, plain, list, large_list, fixed_size_list, struct, union}
@@ -7,7 +7,6 @@ use Rattle.arrow_values.specs.Tree.{FieldTrees, no_fields, field, MemberTrees, n
 use Rattle.arrow_values.specs.Tree.{FieldTree, Members, field_tree}
 use Rattle.arrow_values.specs.View.{field_trees, member_trees, listed_fields, listed_members}
 use Rattle.arrow_values.specs.View.{field_list, member_list}
-use Rattle.arrow_values.specs.declared.tree.UnionMode.{UnionMode}
 use Rattle.arrow_columns.specs.Types.{known}
 use Rattle.arrow_columns.specs.Column.{column_of}
 use Rattle.arrow_columns.specs.Below.{below}

@@ -1,10 +1,10 @@
 -- Metadata that are written are read.
-use Rattle.std.proofs.Common.{◌≡◌, ℕ, zero, suc, ◌+◌, ◌*◌, ◌^◌, ◌<◌, ◌≤◌, ◌==◌, Bool, true, false}
+use Rattle.std.proofs.Common.{◌≡◌, ℕ, ◌+◌, ◌*◌, ◌^◌, ◌<◌, ◌≤◌, true}
 use Rattle.std.proofs.Common.{List}
-use Rattle.std.proofs.Common.{[], ◌∷◌, ◌++◌, length, Ok, Some, None, String, string_bytes}
+use Rattle.std.proofs.Common.{[], ◌∷◌, ◌++◌, length, Ok, Some, String, string_bytes}
 use Rattle.std.proofs.Common.{string_cmp}
 use Rattle.std.proofs.Common.{Ordering, Less, Greater, refl, sym, ap, ◌∙◌, subst, arith}
-use Rattle.std.proofs.Common.{append_assoc, append-nil, take, drop, map}
+use Rattle.std.proofs.Common.{append_assoc, append-nil}
 use Rattle.std.specs.declared.alloc.Global.{Global}
 use Rattle.std.specs.Str.{is_utf8, IsUtf8}
 use Rattle.std.specs.Ordering.{ordering_reverse, match_ordering}
@@ -16,11 +16,11 @@ use Rattle.std.specs.BTreeMap.{insert_entry}
 use Rattle.std.specs.String.{string_cmp_total}
 use Rattle.std.proofs.lemmas.Str.{is_utf8-from_IsUtf8}
 use Rattle.std.proofs.lemmas.List.{length-append, length-map, map-append, take_at, drop_at}
-use Rattle.std.proofs.lemmas.Bool.{le-leb, eq-eqb}
+use Rattle.std.proofs.lemmas.Bool.{le-leb}
 use Rattle.arrow_values.specs.Tree.{Text, Metadata}
 use Rattle.arrow_values.specs.View.{texts_of}
 use Rattle.arrow_values.specs.Texts.{put_text}
-use Rattle.record_wire.specs.Record.{number_at, bytes_at, utf8_at}
+use Rattle.record_wire.specs.Record.{bytes_at, utf8_at}
 use Rattle.record_wire.specs.Write.{word, text_of}
 use Rattle.record_wire.proofs.Written.{number_is}
 use Rattle.record_columns.specs.Texts.{put_entry, put_entries, texts_at, texts_in}

@@ -13,7 +13,7 @@ use Rattle.arrow_columns.specs.Types.{known, ColumnTree}
 use Rattle.arrow_columns.specs.Column.{column_of, column_tree}
 use Rattle.arrow_columns.specs.declared.column.SchemaColumn.{SchemaColumn}
 use Rattle.arrow_columns.specs.Below.{below}
-use Rattle.record_wire.specs.Write.{bytes_of, size_of}
+use Rattle.record_wire.specs.Write.{bytes_of}
 use Rattle.record_wire.specs.declared.trees.Records.{Records}
 use Rattle.record_writer.specs.Placed.{Placed, at, placed, within, fields_within}
 use Rattle.record_writer.specs.Placed.{members_within, all_placed}

@@ -1,9 +1,8 @@
 -- The record of one column.
-use Rattle.std.proofs.Common.{◌≡◌, ℕ, ◌+◌, ◌*◌, ◌/◌, ◌^◌, ◌≤◌, ◌<◌, Bool, true, false, ◌||◌, List}
+use Rattle.std.proofs.Common.{◌≡◌, ℕ, ◌+◌, ◌≤◌, Bool, true, false, ◌||◌, List}
 use Rattle.std.proofs.Common.{[]}
-use Rattle.std.proofs.Common.{◌∷◌, ◌++◌, length, Some, None, Ok, refl, sym, ap, ◌∙◌, subst, arith}
+use Rattle.std.proofs.Common.{◌∷◌, ◌++◌, length, Some, None, Ok, refl, sym, ap, ◌∙◌, arith}
 use Rattle.std.proofs.Common.{inl, inr, append-nil}
-use Rattle.std.specs.List.{list_any, AllByRecursion}
 use Rattle.std.specs.Option.{unwrap_or}
 use Rattle.std.proofs.lemmas.Bool.{lt-ltb}
 use Rattle.arrow_values.specs.Tree.{Text}
@@ -16,9 +15,9 @@ use Rattle.record_columns.specs.Texts.{texts_in}
 use Rattle.record_writer.specs.Placed.{Placed}
 use Rattle.record_writer.specs.Formats.{format_in}
 use Rattle.record_writer.specs.Texts.{metadata_bytes}
-use Rattle.record_writer.specs.Structures.{structure_of, records_of, room_of}
+use Rattle.record_writer.specs.Structures.{structure_of, room_of}
 use Rattle.record_writer.specs.Refusals.{refusal_of}
-use Rattle.record_writer.specs.Writes.{IsRead, Grown, Refuses, RefusesRoom}
+use Rattle.record_writer.specs.Writes.{Grown, Refuses, RefusesRoom}
 use Rattle.record_writer.specs.declared.error.Refusal.{Refusal}
 use Rattle.record_writer.specs.declared.error.Refusal.TheVariants as refusals
 

@@ -1,10 +1,9 @@
 -- A whole tree of records of columns.
-use Rattle.std.proofs.Common.{◌≡◌, ℕ, zero, suc, ◌+◌, ◌≤◌, ◌<◌, ◌^◌, true, false, List, [], ◌∷◌}
+use Rattle.std.proofs.Common.{◌≡◌, ℕ, ◌+◌, ◌≤◌, ◌<◌, ◌^◌, List, [], ◌∷◌}
 use Rattle.std.proofs.Common.{◌++◌}
 use Rattle.std.proofs.Common.{length, map, Option, Some, None, Result, Ok, refl, sym, ap, ◌∙◌}
 use Rattle.std.proofs.Common.{subst, arith, inl, inr}
-use Rattle.std.proofs.Common.{get_or, slice_get, append-nil, ◌⊎◌}
-use Rattle.std.specs.List.{list_any, AllByRecursion}
+use Rattle.std.proofs.Common.{get_or, slice_get, ◌⊎◌}
 use Rattle.std.specs.Option.{option_map, unwrap_or}
 use Rattle.std.proofs.lemmas.List.{length-append}
 use Rattle.std.proofs.lemmas.Option.{slice_get-map, slice_get_read}
@@ -14,7 +13,7 @@ use Rattle.arrow_columns.specs.Column.{column_tree}
 use Rattle.arrow_columns.specs.Below.{below}
 use Rattle.arrow_columns.specs.declared.column.SchemaColumn.{SchemaColumn}
 use Rattle.record_wire.specs.Record.{Structure}
-use Rattle.record_wire.specs.Write.{bytes_of, size_of, has_nuls}
+use Rattle.record_wire.specs.Write.{bytes_of}
 use Rattle.record_wire.specs.Fault.{within}
 use Rattle.record_wire.specs.Trees.{whole_at, Adds, inner_count, RefusesWhole}
 use Rattle.record_wire.specs.declared.fault.Rule.{Rule}
@@ -37,7 +36,7 @@ use Rattle.record_writer.specs.declared.error.Refusal.TheVariants as refusals
 use Rattle.record_writer.specs.declared.error.WriteError.{WriteError}
 use Rattle.record_writer.specs.declared.error.WriteError.TheVariants as errors
 use Rattle.record_writer.proofs.Grows.{room_append, refused_first, refused_behind}
-use Rattle.record_writer.proofs.Grows.{Done, done_refused, done_all}
+use Rattle.record_writer.proofs.Grows.{Done, done_refused}
 use Rattle.record_writer.proofs.Ones.{formless, wire_refused}
 use Rattle.record_writer.proofs.Back.{type_adds, all_add, column_is}
 

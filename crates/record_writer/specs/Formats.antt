@@ -1,5 +1,5 @@
 -- What the format string of a column says.
-use Rattle.std.specs.Prelude.{ℤ, List, [], map, Option, None}
+use Rattle.std.specs.Prelude.{ℤ, List, [], Option, None}
 use Rattle.arrow_values.specs.Tree.{Text, Plain, null, boolean, int8, int16, int32, int64, uint8}
 use Rattle.arrow_values.specs.Tree.{uint16, uint32, uint64, float16, float32, float64, date32}
 use Rattle.arrow_values.specs.Tree.{date64, binary, large_binary, binary_view, utf8, large_utf8}

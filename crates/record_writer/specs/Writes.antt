@@ -1,5 +1,5 @@
 -- What records of columns are, and why they are not written.
-use Rattle.std.specs.Prelude.{◌≡◌, ℕ, ◌+◌, ◌^◌, ◌<◌, ◌≤◌, ◌⊎◌, Bool, true, List, [], ◌∷◌, ◌++◌}
+use Rattle.std.specs.Prelude.{◌≡◌, ℕ, ◌+◌, ◌^◌, ◌<◌, ◌≤◌, ◌⊎◌, Bool, true, List, ◌++◌}
 use Rattle.std.specs.Prelude.{length, Some, Result, Ok, Err, slice_get}
 use Rattle.std.specs.List.{list_any, AllByRecursion}
 use Rattle.arrow_columns.specs.Types.{ColumnTree}

@@ -1,4 +1,4 @@
-use Rattle.std.proofs.Common.{◌≡◌, ◌∷◌, ◌++◌, ◌+◌, ◌<◌, ◌≤◌, ◌^◌, [], List, ℕ, length, ap, ◌∙◌}
+use Rattle.std.proofs.Common.{◌≡◌, ◌∷◌, ◌++◌, ◌<◌, ◌^◌, List, ℕ, length, ap, ◌∙◌}
 use Rattle.std.proofs.Common.{arith, rules}
 use Rattle.std.proofs.Common.{string_bytes}
 use Rattle.arrow_values.specs.View.{texts_of}

@@ -1,10 +1,10 @@
-use Rattle.std.proofs.Common.{◌≡◌, ◌+◌, ℕ, length, map, ap, ◌∙◌, subst, sym, arith}
+use Rattle.std.proofs.Common.{◌≡◌, ◌+◌, length, map, ap, ◌∙◌, subst, sym, arith}
 use Rattle.std.proofs.lemmas.List.{length-map}
 use Rattle.arrow_columns.specs.Column.{column_tree}
 use Rattle.record_wire.specs.Record.{Structure, structure}
 use Rattle.record_wire.specs.Trees.{RefusesWhole}
 use Rattle.record_writer.specs.Structures.{root_of}
-use Rattle.record_writer.specs.Refusals.{refusal_of, with_index}
+use Rattle.record_writer.specs.Refusals.{with_index}
 use Rattle.record_writer.specs.Writes.{RefusesColumns}
 use Rattle.record_writer.specs.declared.error.Refusal.{Refusal}
 use Rattle.record_writer.specs.declared.error.WriteError.{WriteError}
