@@ -20,6 +20,7 @@ use Rattle.record_writer.specs.Refusals.{refusal_of}
 use Rattle.record_writer.specs.Writes.{Grown, Refuses, RefusesRoom}
 use Rattle.record_writer.specs.declared.error.Refusal.{Refusal}
 use Rattle.record_writer.specs.declared.error.Refusal.TheVariants as refusals
+use Rattle.record_writer.proofs.Nuls.{format_none}
 
 or_false : (b : Bool) → b ≡ true → (b || false) ≡ true
 or_false true is = refl
@@ -52,7 +53,8 @@ refuses_more refusals.OutOfMemory n ps r = tt
 
 pub wire_refused : (e : wire.WriteError) (p : Placed) (n : ℕ)
     → RefusesRecord e (n + 1) (structure_of p) → Refuses (refusal_of e) n (p ∷ [])
-wire_refused wires.Nul p n r = or_false _ r
+wire_refused wires.Nul p n r =
+    let none = format_none p.column.data_type in or_false _ (rw none at r)
 wire_refused wires.TooDeep p n r = rw (lt-ltb 61 p.level r) refl
 wire_refused wires.TooLarge p n (inl many) = inl (omega (arith, many))
 wire_refused wires.TooLarge p n (inr large) = inr (omega (arith, large))

@@ -5,7 +5,8 @@ use Rattle.std.specs.Option.{option_map_or, unwrap_or}
 use Rattle.arrow_columns.specs.Types.{ColumnTree}
 use Rattle.arrow_columns.specs.Below.{below}
 use Rattle.record_wire.specs.Record.{Structure}
-use Rattle.record_wire.specs.Write.{size_of, bytes_of, has_nuls}
+use Rattle.record_wire.specs.Record as wire
+use Rattle.record_wire.specs.Write.{size_of, bytes_of}
 use Rattle.record_writer.specs.Placed.{Placed}
 use Rattle.record_writer.specs.Formats.{format_in}
 use Rattle.record_writer.specs.Texts.{metadata_bytes}
@@ -47,12 +48,12 @@ abbrev pub room_of : List Placed → ℕ
 room_of [] = 0
 room_of (p ∷ ps) = size_of (structure_of p) + room_of ps
 
--- why one is not written: it has no format string, a text of it has a NUL, or it lies too deep
+-- why one is not written: it has no format string, its name has a NUL, or it lies too deep
 abbrev pub has_no_format : Placed → Bool
 has_no_format p = option_map_or (λ f. false) (format_in p.column.data_type) true
 
 abbrev pub has_nul : Placed → Bool
-has_nul p = has_nuls (structure_of p)
+has_nul p = wire.has_nul p.column.name
 
 abbrev pub is_too_deep : Placed → Bool
 is_too_deep p = nat_lt 61 p.level

@@ -11,7 +11,7 @@ use std::alloc::AllocError;
 pub(crate) enum Refusal {
     /// A type has no format string.
     Format,
-    /// A text has a NUL.
+    /// A name has a NUL.
     Nul,
     /// A structure lies in more than 61.
     TooDeep,
