@@ -4,7 +4,7 @@ ghost use Rattle.arrow_columns.specs.Column.{column_tree};
 ghost use Rattle.record_wire.specs.Fault.{Returns};
 ghost use Rattle.record_wire.specs.Record.{structure};
 ghost use Rattle.record_columns.specs.Errors.{Makes};
-ghost use Rattle.record_columns.specs.Columns.{column_of, columns_of};
+ghost use Rattle.record_columns.specs.Columns.{is_nullable, column_of, columns_of};
 
 use crate::error::Refusal;
 use crate::texts::texts_in;
@@ -12,6 +12,13 @@ use crate::types::{format_of, type_by};
 use arrow_columns::SchemaColumn;
 use record_wire::{Record, Rule};
 use std::alloc::Global;
+
+/// Tells whether flags say that values may be null.
+fn is_nullable(flags: u32) -> bool
+    ensures { result ≡ is_nullable flags }
+{
+    flags / 2 % 2 == 1
+}
 
 /// Returns a structure as a column, by the columns that those became that lie right in it.
 #[tactic(auto, unfolding(crate::specs::Columns::column_of))]
@@ -29,7 +36,7 @@ pub(crate) fn column_of(
     let name = String::from_str(alloc, one.name.unwrap_or(""))?;
     Ok(SchemaColumn {
         name,
-        nullable: one.flags / 2 % 2 == 1,
+        nullable: is_nullable(one.flags),
         data_type,
         metadata,
     })

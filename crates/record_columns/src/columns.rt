@@ -62,8 +62,7 @@ fn put_column(
     one: &Record<'_>,
 ) -> Result<Waiting, Refusal>
     requires { place ≤ length waiting.levels.items }
-    ensures { Makes waiting_of result
-        (placed (structure one.now) (waiting_of waiting) place) }
+    ensures { Makes waiting_of result (placed (structure one.now) (waiting_of waiting) place) }
 {
     let Waiting { columns, levels } = waiting;
     let (others, inner) = split(columns, place)?;

@@ -5,8 +5,8 @@ ghost use Rattle.format_strings.specs.Reading.{said_of, said_in};
 ghost use Rattle.record_wire.specs.Record.{structure};
 ghost use Rattle.record_wire.specs.declared.fault.Rule.TheVariants.{Format as format_rule};
 ghost use Rattle.record_columns.specs.Errors.{Makes};
-ghost use Rattle.record_columns.specs.Columns.{or_rule, takes, own_type, integers_of};
-ghost use Rattle.record_columns.specs.Columns.{dictionary_type, type_by};
+ghost use Rattle.record_columns.specs.Columns.{or_rule, takes, own_type, is_ordered};
+ghost use Rattle.record_columns.specs.Columns.{integers_of, dictionary_type, type_by};
 
 use crate::error::Refusal;
 use arrow_columns::{AnyType, SchemaColumn, only_column};
@@ -74,6 +74,13 @@ fn integers_of(kind: &Kind) -> Option<DataType>
     }
 }
 
+/// Tells whether flags say that the order of a dictionary's values is that of its integers.
+fn is_ordered(flags: u32) -> bool
+    ensures { result ≡ is_ordered flags }
+{
+    flags % 2 == 1
+}
+
 /// Returns the type of a structure with a dictionary, which lies in it alone.
 #[tactic(auto, unfolding(crate::specs::Columns::dictionary_type))]
 fn dictionary_type(
@@ -107,7 +114,7 @@ pub(crate) fn type_by(
         (type_by (structure one.now) (said_of format.entry) (map column_tree inner.items)) }
 {
     if one.has_dictionary {
-        dictionary_type(alloc, &format.kind, one.flags % 2 == 1, inner)
+        dictionary_type(alloc, &format.kind, is_ordered(one.flags), inner)
     } else {
         own_type(alloc, format, inner)
     }
