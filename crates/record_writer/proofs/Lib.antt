@@ -1,0 +1,7 @@
+pub mod Entries
+pub mod Below
+pub mod Grows
+pub mod Nuls
+pub mod Ones
+pub mod Back
+pub mod Whole

@@ -1,0 +1,67 @@
+-- What the format string of a column says.
+use Rattle.std.specs.Prelude.{ℤ, List, [], Option, None}
+use Rattle.arrow_values.specs.Tree.{Text, Plain, null, boolean, int8, int16, int32, int64, uint8}
+use Rattle.arrow_values.specs.Tree.{uint16, uint32, uint64, float16, float32, float64, date32}
+use Rattle.arrow_values.specs.Tree.{date64, binary, large_binary, binary_view, utf8, large_utf8}
+use Rattle.arrow_values.specs.Tree.{utf8_view, Tree, plain, list, large_list, fixed_size_list}
+use Rattle.arrow_values.specs.Tree.{struct, union}
+use Rattle.arrow_values.specs.View.{member_list}
+use Rattle.arrow_values.specs.Union.{ids_of}
+use Rattle.arrow_values.specs.declared.tree.DataType.{DataType}
+use Rattle.arrow_values.specs.declared.tree.DataType.TheVariants.{Null, Boolean, Int8, Int16, Int32}
+use Rattle.arrow_values.specs.declared.tree.DataType.TheVariants.{Int64, UInt8, UInt16, UInt32}
+use Rattle.arrow_values.specs.declared.tree.DataType.TheVariants.{UInt64, Float16, Float32, Float64}
+use Rattle.arrow_values.specs.declared.tree.DataType.TheVariants.{Date32, Date64, Binary}
+use Rattle.arrow_values.specs.declared.tree.DataType.TheVariants.{LargeBinary, BinaryView, Utf8}
+use Rattle.arrow_values.specs.declared.tree.DataType.TheVariants.{LargeUtf8, Utf8View}
+use Rattle.arrow_columns.specs.Types.{TypeTree, known, other}
+use Rattle.arrow_columns.specs.declared.nested.ListForm.TheVariants.{Small, Large, Fixed}
+use Rattle.arrow_kinds.specs.declared.kind.Kind.{Kind}
+use Rattle.arrow_kinds.specs.declared.kind.Kind.TheVariants as kinds
+use Rattle.format_strings.specs.Formats.{Said, format_of}
+
+abbrev pub plain_type : Plain → DataType
+plain_type null = Null
+plain_type boolean = Boolean
+plain_type int8 = Int8
+plain_type int16 = Int16
+plain_type int32 = Int32
+plain_type int64 = Int64
+plain_type uint8 = UInt8
+plain_type uint16 = UInt16
+plain_type uint32 = UInt32
+plain_type uint64 = UInt64
+plain_type float16 = Float16
+plain_type float32 = Float32
+plain_type float64 = Float64
+plain_type date32 = Date32
+plain_type date64 = Date64
+plain_type binary = Binary
+plain_type large_binary = LargeBinary
+plain_type binary_view = BinaryView
+plain_type utf8 = Utf8
+plain_type large_utf8 = LargeUtf8
+plain_type utf8_view = Utf8View
+
+-- the kind of a data type, whatever lies in it
+abbrev pub kind_of : Tree → Kind
+kind_of (plain p) = kinds.Plain (plain_type p)
+kind_of (list n t b m) = kinds.List Small
+kind_of (large_list n t b m) = kinds.List Large
+kind_of (fixed_size_list n t b m s) = kinds.List (Fixed s)
+kind_of (struct fs) = kinds.Struct
+kind_of (union ms mode) = kinds.Union mode
+
+-- the type ids of a union
+abbrev pub ids_in : Tree → List ℤ
+ids_in (union ms mode) = ids_of (member_list ms)
+ids_in t = []
+
+abbrev pub said_of : Tree → Said
+said_of t = record { kind = kind_of t; zone = []; ids = ids_in t }
+
+-- the format string of a type; none of one that is known by its notation, nor of a list of negative
+-- size, nor of a union whose type ids are not 0 to 127, each once
+abbrev pub format_in : TypeTree → Option Text
+format_in (known t) = format_of (said_of t)
+format_in (other s f ids ps) = None

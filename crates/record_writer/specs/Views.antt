@@ -1,0 +1,25 @@
+-- A column that is lent, as contracts see it.
+use Rattle.std.specs.Prelude.{◌≡◌, ℕ, Option, Some, None}
+use Rattle.arrow_values.specs.View.{tree, texts_of}
+use Rattle.arrow_columns.specs.Types.{known, ColumnTree}
+use Rattle.arrow_columns.specs.Column.{type_tree, column_tree}
+use Rattle.arrow_columns.specs.declared.column.SchemaColumn.{SchemaColumn}
+use Rattle.record_writer.specs.Placed.{Placed, at}
+use Rattle.record_writer.specs.Formats.{format_in}
+use Rattle.record_writer.specs.declared.part.Part.{Part}
+
+abbrev pub column_in : Part → ColumnTree
+column_in p = record {
+  name = p.name.now;
+  data_type = known (tree p.data_type.now);
+  nullable = p.nullable;
+  metadata = texts_of p.metadata.now.entries;
+}
+
+abbrev pub placed_in : Part → Placed
+placed_in p = at p.level (column_in p)
+
+-- a column of a schema as one of a level; none where its type has no format string
+abbrev pub IsPartOf : SchemaColumn → ℕ → Option Part → Type 0
+IsPartOf c level None = format_in (type_tree c.data_type) ≡ None
+IsPartOf c level (Some p) = (column_in p ≡ column_tree c) × (p.level ≡ level)
