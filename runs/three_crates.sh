@@ -3,6 +3,7 @@ mkdir -p "$TMPDIR/three" && cd "$TMPDIR/three"
 mkdir -p bin native include crates/low/src crates/fields_program/src crates/geoarrow_c/src
 cp "$top"/bin/* bin
 cp "$top/native/archive" "$top/native/geoarrow.map" native
+touch native/records.c native/schema.c # the call here takes no schema
 cp "$top/HANDLES" .
 printf 'low:\nfields_program: low\ngeoarrow_c staticlib: low\n' > crates.txt
 echo 'uint8_t geoarrow_seven(void);' > include/geoarrow.h
