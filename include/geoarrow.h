@@ -1,5 +1,5 @@
 /* GeoArrow's schema types as calls of C: the answers of the program geoarrow_fields, and the report, the differences of files, the
- * columns in normal form and the Arrow stream of geoarrow_check, these two also of a schema in memory.
+ * columns in normal form and the Arrow stream of geoarrow_check; the report, the lines and the stream of a schema in memory.
  *
  * A call takes bytes as a pointer and a length, or a structure of Arrow's C data interface, and writes text, or a stream's bytes, to
  * the front of `out`. It returns a status; at GEOARROW_DONE, and where bytes are refused, `*len` is the length of what is written. Where `out` is too small nothing
@@ -181,6 +181,24 @@ uint8_t geoarrow_read_schema(uint8_t options, const struct ArrowSchema *schema, 
 /* The same of one column, whatever its format is: the report of a schema with that one column and
  * without metadata. `index` is 0. */
 uint8_t geoarrow_read_field(uint8_t options, const struct ArrowSchema *field, uint8_t *out, size_t out_len, size_t *len);
+
+/* The columns of a schema in memory as lines: of each, in their order, the line that denotes it
+ * (docs/FORMAT.md, 2.7), with a line feed behind it. The structure is as for geoarrow_read_schema; its
+ * own metadata are not told.
+ * Statuses: DONE, with the lines in `out`; REFUSED, with the line that says why (2.8); SHORT, of
+ * either; MEMORY, at which `out` and `*len` are unchanged. */
+uint8_t geoarrow_lines_of_schema(const struct ArrowSchema *schema, uint8_t *out, size_t out_len, size_t *len);
+
+/* The same of one column, as for geoarrow_read_field: its line. */
+uint8_t geoarrow_lines_of_field(const struct ArrowSchema *field, uint8_t *out, size_t out_len, size_t *len);
+
+/* Whether a structure is to be read as a schema, where what gives it gives schemas and fields alike, as
+ * objects of Python do: `*is` is 1 for one of the format `+s` without a dictionary, without an extension
+ * name in its metadata and, unless `may_have_name` is not 0, without a name; and 0 for a field. The
+ * first structure of an ArrowArrayStream may have a name. Nothing that lies in it is looked at. Of a
+ * structure that is refused it is 1: geoarrow_read_schema says why.
+ * Statuses: DONE; MEMORY, at which `*is` is unchanged. */
+uint8_t geoarrow_is_schema(uint8_t may_have_name, const struct ArrowSchema *schema, uint8_t *is);
 
 /* An Arrow stream of a schema in memory (docs/FORMAT.md, 2.7 and 3.6), with its metadata: bytes which
  * all other calls take as those of a file. As that of geoarrow_write_schema it has the schema alone.

@@ -1,8 +1,8 @@
 """From Arrow schemas to the lines of geoarrow_fields, and back: a package that needs only Python 3.8 and its library, and the
-package in python/ beside it, which has `lines` and `Schema`.
+package in python/ beside it, of which `Schema` is.
 
     lines(schema)           a line a column, of an object with `__arrow_c_schema__` or with `__arrow_c_stream__` (whose
-                            rows are not read), and of the others that `c_schema.columns_of` names
+                            rows are not read), and of the others that `structures.columns_of` names
     Schema(lines)           an object with `__arrow_c_schema__`, of such lines
     lines_of_file(path)     the lines of a file or of a layer of it, the name of that layer, and the names of all layers
     layers_of_file(path)    the layers of a file with their lines and geometry types, and the names of all layers
@@ -12,9 +12,10 @@ gives no schema is a `TypeError`, an address among them, and a file that cannot 
 `python3 -m interop` runs it too.
 """
 from .package import c_schema  # before the others, which import geoarrow_fields by its name
+from . import structures
 from .files import layers_of_file, lines_of_file
 from .gdal_layers import FileError, Layer
-from geoarrow_fields.c_schema import SchemaError
-from geoarrow_fields.schema_lines import Schema, lines
+from .structures import lines
+from geoarrow_fields import Schema, SchemaError
 
 __all__ = ["FileError", "Layer", "Schema", "SchemaError", "layers_of_file", "lines", "lines_of_file"]

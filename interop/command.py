@@ -24,7 +24,8 @@ import subprocess
 import sys
 from typing import List, Optional, Sequence, TextIO, Tuple
 
-from geoarrow_fields.c_schema import SchemaError, shown
+from geoarrow_fields import SchemaError
+from geoarrow_fields.c_schema import shown
 
 from .files import FileError, Layer, layers_of_file
 

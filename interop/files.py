@@ -4,7 +4,7 @@ import pathlib
 from typing import Any, List, Optional, Tuple
 
 from geoarrow_fields.c_schema import shown
-from geoarrow_fields.schema_lines import lines
+from .structures import lines
 
 from . import gdal_layers
 from .gdal_layers import FileError, Layer

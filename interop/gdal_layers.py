@@ -9,9 +9,9 @@ import ctypes.util
 import json
 from typing import Any, Dict, Iterator, List, NamedTuple, Optional, Tuple
 
-from geoarrow_fields import c_schema
-from geoarrow_fields.c_schema import EXTENSION_NAME, Field, SchemaError, shown
-from geoarrow_fields.schema_lines import lines_of_columns
+from geoarrow_fields import SchemaError
+from geoarrow_fields.c_schema import EXTENSION_NAME, Field, shown
+from . import structures
 
 VECTOR = 4  # GDAL_OF_VECTOR; reading alone is the default
 FAILURE = 3  # CE_Failure: what is worse than a warning
@@ -138,14 +138,14 @@ def _named_layer(gdal: Any, layer: int, name: str) -> Layer:
 
 
 def _layer(gdal: Any, layer: int, name: str) -> Layer:
-    stream = c_schema.ArrowArrayStream()
+    stream = structures.ArrowArrayStream()
     if not gdal.OGR_L_GetArrowStream(layer, ctypes.addressof(stream), _texts(OPTIONS)):
         raise FileError(_said(gdal, "GDAL gives no schema of it"))
-    columns = c_schema.columns_of_stream_at(ctypes.addressof(stream))
+    columns = structures.columns_of_stream_at(ctypes.addressof(stream))
     geometries = list(_geometries(gdal, layer))
     _refuse_failure(gdal)
     columns, types = with_geometries(columns, geometries)
-    return Layer(name, lines_of_columns(columns), types)
+    return Layer(name, structures.lines_of_columns(columns), types)
 
 
 def _geometries(gdal: Any, layer: int) -> Iterator[Geometry]:

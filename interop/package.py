@@ -1,4 +1,4 @@
-"""Where `geoarrow_fields` comes from, which reads and makes Arrow's schemas: the folder `python` beside this one, whatever is
+"""Where `geoarrow_fields` comes from, which makes Arrow's schemas: the folder `python` beside this one, whatever is
 installed, unless it is imported already. Nothing of it is used here that needs the library of C.
 """
 import pathlib

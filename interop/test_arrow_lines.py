@@ -12,9 +12,10 @@ import sys
 import threading
 import unittest
 
-from . import arrow_lines, c_schema
-from geoarrow_fields.c_schema import ArrowArrayStream, ArrowSchema, SchemaError
-from geoarrow_fields.schema_lines import lines_of_columns
+from . import arrow_lines, c_schema, structures
+from .structures import ArrowArrayStream, lines_of_columns
+from geoarrow_fields import SchemaError
+from geoarrow_fields.c_schema import ArrowSchema
 from .testing import HERE, TOP
 
 # From the format's page "The Arrow C data interface", "Data type description".
@@ -45,7 +46,7 @@ def pairs(*texts):
 
 def lines_at(structure):
     """The lines of a structure."""
-    return lines_of_columns(c_schema.columns_at(ctypes.addressof(structure)))
+    return lines_of_columns(structures.columns_at(ctypes.addressof(structure)))
 
 
 class Producer:
@@ -263,7 +264,7 @@ class Stream:
     def __init__(self, of, status=0, said=b"no rows"):
         self.of, self.status, self.said, self.asked, self.released = of, status, said, 0, 0
         self.callbacks = (
-            c_schema.GET_SCHEMA(self.get_schema), ctypes.CFUNCTYPE(ctypes.c_void_p, ctypes.c_void_p)(self.last_error),
+            structures.GET_SCHEMA(self.get_schema), ctypes.CFUNCTYPE(ctypes.c_void_p, ctypes.c_void_p)(self.last_error),
             c_schema.RELEASE(self.release))
         asked, error, release = (ctypes.cast(one, ctypes.c_void_p) for one in self.callbacks)
         self.stream = ArrowArrayStream(asked, None, error if said is not None else None, release, None)
@@ -282,7 +283,7 @@ class Stream:
         ArrowArrayStream.from_address(stream).release = None
 
     def __arrow_c_stream__(self, requested_schema=None):
-        return c_schema._capsule_new(ctypes.addressof(self.stream), ctypes.addressof(c_schema.STREAM_CAPSULE), None)
+        return c_schema._capsule_new(ctypes.addressof(self.stream), ctypes.addressof(structures.STREAM_CAPSULE), None)
 
 
 class OutOfStreams(unittest.TestCase):
@@ -395,7 +396,7 @@ class Hostile(unittest.TestCase):
             with self.assertRaisesRegex(TypeError, "gives no Arrow schema"):
                 arrow_lines.lines(given)
         with self.assertRaisesRegex(SchemaError, "no address"):
-            c_schema.columns_at(0)
+            structures.columns_at(0)
         stream = Stream(self.of)
 
         class Mistaken:
@@ -478,7 +479,7 @@ class IntoStructures(unittest.TestCase):
         kind = '{"fixed_size_list":%s,"size":2}' % FLOAT
         line = '{"metadata":{"a":"é","k":""},"name":"gé","nullable":true,"type":%s}' % kind
         given = arrow_lines.Schema([line, of_type('"null"', "", "false")]).__arrow_c_schema__()
-        root = ArrowSchema.from_address(c_schema._address_in(given, c_schema.SCHEMA_CAPSULE))
+        root = ArrowSchema.from_address(structures._address_in(given, c_schema.SCHEMA_CAPSULE))
         self.assertEqual((root.format, root.name, root.flags, root.n_children), (b"+s", b"", 0, 2))
         self.assertEqual((root.metadata, root.dictionary), (None, None))
         first, second = (ArrowSchema.from_address(root.children[at]) for at in range(2))
@@ -493,8 +494,8 @@ class IntoStructures(unittest.TestCase):
 
     def test_child_moved_out_of_its_parent(self):
         given = arrow_lines.Schema([of_type('{"list":%s}' % FLOAT), of_type('"null"')]).__arrow_c_schema__()
-        root = ArrowSchema.from_address(c_schema._address_in(given, c_schema.SCHEMA_CAPSULE))
-        child = c_schema.moved(ArrowSchema, root.children[0])
+        root = ArrowSchema.from_address(structures._address_in(given, c_schema.SCHEMA_CAPSULE))
+        child = structures.moved(ArrowSchema, root.children[0])
         c_schema.release(root)
         self.assertEqual((root.release, c_schema.held_count()), (None, self.before + 2))
         del given
@@ -532,7 +533,7 @@ class IntoStructures(unittest.TestCase):
 
     def test_moved_schema_outlives_its_capsule(self):
         schema = arrow_lines.Schema([of_type('"null"', "gé")])
-        ours = c_schema.moved(ArrowSchema, c_schema._address_in(schema.__arrow_c_schema__(), c_schema.SCHEMA_CAPSULE))
+        ours = structures.moved(ArrowSchema, structures._address_in(schema.__arrow_c_schema__(), c_schema.SCHEMA_CAPSULE))
         del schema
         self.assertEqual(c_schema.held_count(), self.before + 2)
         self.assertEqual(ArrowSchema.from_address(ours.children[0]).name, "gé".encode())

@@ -22,13 +22,13 @@ class ArrowInvalid(ValueError, ArrowException): pass
     "parquet.py": """
 import ctypes, json
 from pyarrow import ArrowInvalid
-from interop import c_schema
+from interop import c_schema, structures
 class Schema:
     def __init__(self, text):
         self.columns = [json.loads(line) for line in text.splitlines()]
     def _export_to_c(self, address):
         capsule = c_schema.export(self.columns)
-        moved = c_schema.moved(c_schema.ArrowSchema, c_schema._address_in(capsule, c_schema.SCHEMA_CAPSULE))
+        moved = structures.moved(c_schema.ArrowSchema, structures._address_in(capsule, c_schema.SCHEMA_CAPSULE))
         ctypes.memmove(address, ctypes.addressof(moved), ctypes.sizeof(moved))
 def read_schema(path):
     text = open(path).read()
@@ -39,7 +39,7 @@ def read_schema(path):
     "ipc.py": """
 from pyarrow import ArrowInvalid
 from pyarrow.parquet import Schema
-from interop import c_schema
+from interop import c_schema, structures
 import json
 class Newer:
     def __init__(self, text):

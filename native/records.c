@@ -67,16 +67,21 @@ static enum records_status put_one(struct records *o, const struct ArrowSchema *
     return RECORDS_DONE;
 }
 
-/* The records of a structure: of its children in their order, of its dictionary, its own. */
-static enum records_status put_all(struct records *o, const struct ArrowSchema *s, uint32_t level) {
-    enum records_status is = RECORDS_DONE;
-    o->depth = level;
+/* Why a structure of a level has no record, if it has none. */
+static enum records_status looked_at(const struct ArrowSchema *s, uint32_t level) {
     if (!s) return RECORDS_NULL;
     if (!s->release) return RECORDS_RELEASED;
     if (level == RECORDS_LEVELS) return RECORDS_DEEP;
     if (!s->format) return RECORDS_FORMAT;
     if (s->n_children < 0 || s->n_children > RECORDS_MOST) return RECORDS_COUNT;
-    if (s->n_children && !s->children) return RECORDS_CHILDREN;
+    return s->n_children && !s->children ? RECORDS_CHILDREN : RECORDS_DONE;
+}
+
+/* The records of a structure: of its children in their order, of its dictionary, its own. */
+static enum records_status put_all(struct records *o, const struct ArrowSchema *s, uint32_t level) {
+    enum records_status is = looked_at(s, level);
+    o->depth = level;
+    if (is) return is;
     for (int64_t i = 0; i < s->n_children; i++) {
         o->path[level] = i;
         if ((is = put_all(o, s->children[i], level + 1))) return is;
@@ -85,6 +90,11 @@ static enum records_status put_all(struct records *o, const struct ArrowSchema *
     if (s->dictionary && (is = put_all(o, s->dictionary, level + 1))) return is;
     o->depth = level;
     return put_one(o, s, level);
+}
+
+enum records_status record_of_structure(const struct ArrowSchema *s, struct records *out) {
+    enum records_status is = looked_at(s, 0);
+    return is ? is : put_one(out, s, 0);
 }
 
 enum records_status records_of_schema(const struct ArrowSchema *schema, struct records *out) {

@@ -40,6 +40,9 @@ struct records {
  * out->bytes, whatever the status is. */
 enum records_status records_of_schema(const struct ArrowSchema *schema, struct records *out);
 
+/* The same of one structure, without what lies in it, and without a number before its record. */
+enum records_status record_of_structure(const struct ArrowSchema *s, struct records *out);
+
 /* Makes a tree, which the caller releases. Where it is not made, out->release is NULL. */
 enum records_status schema_of_records(const uint8_t *bytes, size_t len, struct ArrowSchema *out);
 #endif

@@ -9,8 +9,14 @@ uint8_t schema_report(uint8_t options, uint8_t walk, int64_t column, const uint8
                       size_t records_len, uint8_t *out, size_t out_len, size_t *len);
 uint8_t field_report(uint8_t options, uint8_t walk, const uint8_t *records, size_t records_len,
                      uint8_t *out, size_t out_len, size_t *len);
+uint8_t schema_lines(uint8_t walk, int64_t column, const uint8_t *records, size_t records_len,
+                     uint8_t *out, size_t out_len, size_t *len);
+uint8_t field_lines(uint8_t walk, const uint8_t *records, size_t records_len, uint8_t *out,
+                    size_t out_len, size_t *len);
 uint8_t schema_stream(uint8_t walk, int64_t column, const uint8_t *records, size_t records_len,
                       uint8_t *out, size_t out_len, size_t *len);
+uint8_t schema_rule(uint8_t may_have_name, uint8_t walk, const uint8_t *record, size_t record_len,
+                    uint8_t *is);
 
 /* A tree that was walked: `at` leads to its records, and is not NULL where there are none. */
 struct walked {
@@ -21,39 +27,55 @@ struct walked {
     uint8_t walk;
 };
 
-static void walk(const struct ArrowSchema *schema, struct walked *to) {
+typedef enum records_status walk_of(const struct ArrowSchema *, struct records *);
+
+static struct walked walked_by(walk_of *walk, const struct ArrowSchema *schema) {
     static const uint8_t none[1];
-    *to = (struct walked){.at = none, .column = -1};
-    to->walk = (uint8_t)records_of_schema(schema, &to->records);
-    if (to->records.depth) to->column = to->records.path[0];
-    if (to->walk) return;
-    to->at = to->records.bytes;
-    to->len = to->records.len;
+    struct walked w = {.at = none, .column = -1};
+    w.walk = (uint8_t)walk(schema, &w.records);
+    if (w.records.depth) w.column = w.records.path[0];
+    if (w.walk) return w;
+    w.at = w.records.bytes;
+    w.len = w.records.len;
+    return w;
+}
+
+static uint8_t freed(struct walked w, uint8_t status) {
+    free(w.records.bytes);
+    return status;
 }
 
 uint8_t geoarrow_read_schema(uint8_t options, const struct ArrowSchema *schema, uint8_t *out,
                              size_t out_len, size_t *len) {
-    struct walked w;
-    walk(schema, &w);
-    uint8_t is = schema_report(options, w.walk, w.column, w.at, w.len, out, out_len, len);
-    free(w.records.bytes);
-    return is;
+    struct walked w = walked_by(records_of_schema, schema);
+    return freed(w, schema_report(options, w.walk, w.column, w.at, w.len, out, out_len, len));
 }
 
 uint8_t geoarrow_read_field(uint8_t options, const struct ArrowSchema *field, uint8_t *out,
                             size_t out_len, size_t *len) {
-    struct walked w;
-    walk(field, &w);
-    uint8_t is = field_report(options, w.walk, w.at, w.len, out, out_len, len);
-    free(w.records.bytes);
-    return is;
+    struct walked w = walked_by(records_of_schema, field);
+    return freed(w, field_report(options, w.walk, w.at, w.len, out, out_len, len));
+}
+
+uint8_t geoarrow_lines_of_schema(const struct ArrowSchema *schema, uint8_t *out, size_t out_len,
+                                 size_t *len) {
+    struct walked w = walked_by(records_of_schema, schema);
+    return freed(w, schema_lines(w.walk, w.column, w.at, w.len, out, out_len, len));
+}
+
+uint8_t geoarrow_lines_of_field(const struct ArrowSchema *field, uint8_t *out, size_t out_len,
+                                size_t *len) {
+    struct walked w = walked_by(records_of_schema, field);
+    return freed(w, field_lines(w.walk, w.at, w.len, out, out_len, len));
 }
 
 uint8_t geoarrow_stream_of_schema(const struct ArrowSchema *schema, uint8_t *out, size_t out_len,
                                   size_t *len) {
-    struct walked w;
-    walk(schema, &w);
-    uint8_t is = schema_stream(w.walk, w.column, w.at, w.len, out, out_len, len);
-    free(w.records.bytes);
-    return is;
+    struct walked w = walked_by(records_of_schema, schema);
+    return freed(w, schema_stream(w.walk, w.column, w.at, w.len, out, out_len, len));
+}
+
+uint8_t geoarrow_is_schema(uint8_t may_have_name, const struct ArrowSchema *schema, uint8_t *is) {
+    struct walked w = walked_by(record_of_structure, schema);
+    return freed(w, schema_rule(may_have_name, w.walk, w.at, w.len, is));
 }

@@ -13,17 +13,16 @@ declares; `lines` and `Schema` are written in Python. It needs Python 3.8 or lat
 """
 from typing import Any, Iterable, List, Union
 
-from . import library, sources
-from .c_schema import SchemaError
+from . import library, objects, sources
 from .columns import Column, Columns, Finding, columns_of
 from .compared import Differences, differences_of
 from .library import Command
-from .refusals import InvalidColumns, RefusedSource, moved, moved_lines, named
+from .refusals import GeoArrowError, InvalidColumns, RefusedSource, SchemaError, moved, moved_lines, named
 from .schema_lines import Schema, lines
 from .weights import Weights, Words
 
 __all__ = [
-    "Column", "Columns", "Differences", "Finding", "InvalidColumns", "RefusedSource", "Schema", "SchemaError", "canon", "canonical", "check", "lines", "read", "same",
+    "Column", "Columns", "Differences", "Finding", "GeoArrowError", "InvalidColumns", "RefusedSource", "Schema", "SchemaError", "canon", "canonical", "check", "lines", "read", "same",
     "write_schema"]
 
 __version__ = "2.0.0"
@@ -54,19 +53,29 @@ def check(source: Any, infer: bool = False, strict: bool = False, notes: bool = 
     `SchemaError`, which is one too, where the schema of the object is wrong; `OSError` for the file; and `MemoryError`.
     """
     weights = Weights(notes, deny, allow)
-    given = sources.given_of(source)
-    if given.is_schema and not given.content:
-        return Columns()
-    status, text = library.report(given.name, given.content, infer, weights.with_notes)
-    if status == library.REFUSED:
-        raise RefusedSource(moved(text.rstrip("\n"), given.left_out))
-    columns = columns_of(weights.weighed(moved_lines(text, given.left_out)))
+    columns = columns_of(weights.weighed(_report_of(source, infer, weights.with_notes)))
     if strict and columns.bad_lines:
         raise RefusedSource(columns.bad_lines[0].json)
     invalid = [one for one in columns if one.is_invalid and one.is_error] if strict else []
     if invalid:
         raise InvalidColumns(invalid)
     return columns
+
+
+def _report_of(source: Any, infer: bool, notes: bool) -> str:
+    """The report of a source. Of an object that gives a schema the structure itself is reported, and not its lines, which have no metadata of the schema."""
+    if sources.is_schema_object(source):
+        status, text = objects.read(source, lambda at, may_have_name: library.report_of_structure(at, may_have_name, infer, notes))
+        if status == library.REFUSED:
+            raise SchemaError(text.rstrip("\n"))
+        return text
+    given = sources.given_of(source)
+    if given.is_schema and not given.content:
+        return ""
+    status, text = library.report(given.name, given.content, infer, notes)
+    if status == library.REFUSED:
+        raise RefusedSource(moved(text.rstrip("\n"), given.left_out))
+    return moved_lines(text, given.left_out)
 
 
 def same(first: Any, *others: Any, infer: bool = False, notes: bool = False) -> List[Differences]:

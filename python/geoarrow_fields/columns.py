@@ -36,8 +36,13 @@ class Finding:
         """Whether it counts for the status."""
         return self.severity == "error"
 
+    @property
+    def place(self) -> str:
+        """The place, in words; empty where all that is given is at fault."""
+        return ", ".join(self._places())
+
     def __str__(self) -> str:
-        place = ", ".join(self._places())
+        place = self.place
         found = "" if self.found is None else f"found {self.found}; "
         help = "" if self.help is None else f". {self.help}"
         return f"{self.severity}[{self.code}]{' ' if place else ''}{place}: {found}expected {self.expected}{help}"

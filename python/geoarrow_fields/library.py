@@ -22,6 +22,7 @@ _ROOM_OF_ANSWERS = 4096  # at first
 _ROOM_OF_REPORTS = 65536  # at first, and twice the bytes of the source, up to 64 MiB: enough for nearly all
 _MOST_ROOM = 1 << 26
 _MUCH_ROOM = 1 << 20
+_ROOM_OF_SCHEMAS = 1 << 23  # at first, for the lines of some 50,000 columns
 
 
 class Command(enum.IntEnum):
@@ -62,22 +63,23 @@ def _library() -> Any:
 
 
 @functools.lru_cache(maxsize=None)
-def _call(name: str, numbers: int, texts: int) -> Any:
-    """A call of the header, which takes so many numbers of a byte, then so many texts, and then room for what it writes."""
+def _call(name: str, numbers: int, texts: int, structures: int = 0) -> Any:
+    """A call of the header, which takes so many numbers of a byte, then so many texts and structures, and then room for what it writes."""
     call = getattr(_library(), name)
     call.restype = ctypes.c_uint8
     call.argtypes = [
-        *[ctypes.c_uint8] * numbers, *[ctypes.c_char_p, ctypes.c_size_t] * texts, ctypes.c_void_p, ctypes.c_size_t, ctypes.POINTER(ctypes.c_size_t)]
+        *[ctypes.c_uint8] * numbers, *[ctypes.c_char_p, ctypes.c_size_t] * texts, *[ctypes.c_void_p] * structures,
+        ctypes.c_void_p, ctypes.c_size_t, ctypes.POINTER(ctypes.c_size_t)]
     return call
 
 
-def _called(name: str, numbers: Sequence[int], texts: Sequence[bytes], size: int) -> Tuple[int, memoryview]:
-    """The status of a call, DONE, REFUSED or FIRST_REFUSED, with room of this size at first, and what it writes.
+def _called(name: str, numbers: Sequence[int], texts: Sequence[bytes], size: int, *structures: int) -> Tuple[int, memoryview]:
+    """The status of a call, DONE, REFUSED or FIRST_REFUSED, with room of this size at first, and what it writes. Structures are given by their addresses.
 
     The room is this call's own, so any number of threads may call at once.
     """
-    call = _call(name, len(numbers), len(texts))
-    given = [*numbers, *(part for text in texts for part in (text, len(text)))]
+    call = _call(name, len(numbers), len(texts), len(structures))
+    given = [*numbers, *(part for text in texts for part in (text, len(text))), *structures]
     length = ctypes.c_size_t()
     while True:
         room = _room(size)
@@ -135,3 +137,29 @@ def stream(lines: bytes) -> Tuple[int, bytes]:
     """The status of a schema that is written, DONE or REFUSED, with its Arrow stream or the line that says why."""
     status, found = _called("geoarrow_write_schema", [], [lines], _first_room(lines))
     return status, bytes(found)
+
+
+def _is_schema(structure: int, may_have_name: bool) -> bool:
+    """Whether the structure at an address is to be read as a schema, and not as one column."""
+    call = _library().geoarrow_is_schema
+    call.restype = ctypes.c_uint8
+    call.argtypes = [ctypes.c_uint8, ctypes.c_void_p, ctypes.POINTER(ctypes.c_uint8)]
+    found = ctypes.c_uint8()
+    if call(may_have_name, structure, ctypes.byref(found)) != DONE:
+        raise MemoryError
+    return bool(found.value)
+
+
+def report_of_structure(structure: int, may_have_name: bool, infer: bool, notes: bool) -> Tuple[int, str]:
+    """The status of a check of the structure at an address, DONE or REFUSED, with the report, or the line that says why. A wrong address cannot be noticed."""
+    options = (INFER_TYPES if infer else 0) | (NOTES if notes else 0)
+    name = "geoarrow_read_schema" if _is_schema(structure, may_have_name) else "geoarrow_read_field"
+    status, text = _called(name, [options], [], _ROOM_OF_SCHEMAS, structure)
+    return status, str(text, "utf-8")
+
+
+def lines_of_structure(structure: int, may_have_name: bool) -> Tuple[int, str]:
+    """The status of the structure at an address, DONE or REFUSED, with the lines of its columns, or the line that says why. A wrong address cannot be noticed."""
+    name = "geoarrow_lines_of_schema" if _is_schema(structure, may_have_name) else "geoarrow_lines_of_field"
+    status, text = _called(name, [], [], _ROOM_OF_SCHEMAS, structure)
+    return status, str(text, "utf-8")

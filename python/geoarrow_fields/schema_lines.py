@@ -3,27 +3,24 @@ import json
 import sys
 from typing import Any, Callable, Iterable, List, NoReturn, Union
 
-from . import c_schema
-from .c_schema import SchemaError
+from . import c_schema, library, objects
+from .refusals import SchemaError
 
 
 def lines(schema: Any) -> List[str]:
     """The line of each column of an object that gives an Arrow schema, in order, as the program prints such a line; one that gives a field, a data type or an
-    array has one column. `c_schema.columns_of` says which objects do, and what each is asked for.
+    array has one column. `objects.read` says which objects do, and what each is asked for.
+
+    The interface has one structure for a schema, a field and a data type, so the structure decides: one of the format `+s` without a name, without the name of
+    an extension type and without a dictionary is a schema, whose columns are its children; any other is one column. So a data type that is a struct is taken
+    for a schema, as is a field of a struct without a name, and a schema with a name for a column; but that of a stream may have a name.
 
     Raises `TypeError` for an object that gives neither, an integer among them, and `SchemaError`, a `ValueError`, where what it gives is wrong.
     """
-    return lines_of_columns(c_schema.columns_of(schema))
-
-
-def lines_of_columns(columns: List[c_schema.Field]) -> List[str]:
-    """The line of each of these columns."""
-    found = [json.dumps(one, ensure_ascii=False, sort_keys=True, separators=(",", ":")) for one in columns]
-    for at, line in enumerate(found):
-        length = len(line.encode("utf-8"))
-        if length > c_schema.LINE_BYTES:
-            name = c_schema.shown(columns[at]["name"])
-            raise SchemaError(f"column {at} ({name}): a line of {length} bytes, of {c_schema.LINE_BYTES} at most")
+    status, text = objects.read(schema, library.lines_of_structure)
+    found = text.split("\n")[:-1]
+    if status == library.REFUSED:
+        raise SchemaError(found[0])
     return found
 
 

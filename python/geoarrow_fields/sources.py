@@ -3,7 +3,7 @@ lines (docs/FORMAT.md, 2.7)."""
 import os
 from typing import Any, Iterable, List, NamedTuple, Optional, Union
 
-from . import c_schema
+from . import c_schema, objects
 from .schema_lines import lines
 
 _HEAD = 8  # bytes that tell the format; of a stream they have the size of its first message
@@ -34,9 +34,14 @@ def given_of(source: Any) -> Given:
         return Given(bytes(source))
     if isinstance(source, (list, tuple)):
         return Given(of_lines(source), is_schema=True)
-    if c_schema.gives_columns(source):
+    if is_schema_object(source):
         return Given(of_lines(lines(source)), is_schema=True)
     return _of_open_file(source) if callable(getattr(source, "read", None)) else Given(_of_buffer(source))
+
+
+def is_schema_object(source: Any) -> bool:
+    """Whether a source is an object that gives a schema, and none of the others."""
+    return not isinstance(source, (str, os.PathLike, bytes, bytearray, memoryview, list, tuple)) and objects.gives_schema(source)
 
 
 def file_name(path: Union[str, bytes, "os.PathLike[Any]"]) -> str:

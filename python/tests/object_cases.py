@@ -3,7 +3,7 @@ block or used after its end: `test_objects` runs them."""
 import gc
 import unittest
 
-from geoarrow_fields import Schema, SchemaError, c_schema, lines
+from geoarrow_fields import GeoArrowError, Schema, SchemaError, c_schema, check, lines
 
 from . import stand_ins
 from .stand_ins import FLOAT, POINT, SCHEMA, XY, Newer, Older, Other, Type
@@ -25,10 +25,11 @@ DICTIONARY_LINE = line('{"other":"dictionary<values=utf8, indices=int32, ordered
 
 class Cases(unittest.TestCase):
     def tearDown(self):
-        """What was made is released, each once, and nothing of ours is held."""
+        """What was lent is unchanged, what was given is released, each once, and nothing of ours is held."""
         gc.collect()
         c_schema.sweep()
-        self.assertEqual(stand_ins.released, stand_ins.made)
+        self.assertTrue(stand_ins.is_lent_unchanged())
+        self.assertEqual(stand_ins.released, stand_ins.given)
         self.assertEqual(c_schema.held_count(), 0)
 
     def refused(self, given, error, message):
@@ -39,12 +40,19 @@ class Cases(unittest.TestCase):
     # --- schemas ---
 
     def test_schemas(self):
-        for given in (Newer.Schema(TWO), Older.Schema(TWO), Other.Schema(TWO)):
+        for given in (Newer.Schema(TWO), Other.Schema(TWO)):
             self.assertEqual(lines(given), TWO_LINES)
 
     def test_schemas_without_columns(self):
-        for given in (Newer.Schema(Type("+s")), Older.Schema(Type("+s")), Other.Stream(Type("+s", "result"))):
+        for given in (Newer.Schema(Type("+s")), Other.Stream(Type("+s", "result"))):
             self.assertEqual(lines(given), [])
+            self.assertEqual(check(given), [])
+
+    def test_what_only_an_address_would_take(self):
+        for of in (Older.Schema, Older.Field, Older.DataType, Older.RecordBatch, Older.RecordBatchReader, Older.Table, Older.Array, Older.DictionaryArray):
+            self.refused(of(TWO), TypeError, f"^{of.__name__} gives no Arrow schema$")
+            with self.assertRaises(TypeError):
+                check(of(TWO))
 
     def test_a_schema_without_a_name_at_all(self):
         self.assertEqual(lines(Other.Schema(Type("+s", None, ID))), TWO_LINES[:1])
@@ -54,17 +62,11 @@ class Cases(unittest.TestCase):
     def test_record_batches(self):
         self.assertEqual(lines(Newer.RecordBatch(TWO)), TWO_LINES)
 
-    def test_older_record_batches(self):
-        self.assertEqual(lines(Older.RecordBatch(TWO)), TWO_LINES)
-
     def test_readers(self):
         self.assertEqual(lines(Newer.RecordBatchReader(TWO)), TWO_LINES)
 
-    def test_older_readers(self):
-        self.assertEqual(lines(Older.RecordBatchReader(TWO)), TWO_LINES)
-
     def test_tables_and_datasets(self):
-        for given in (Newer.Table(TWO), Older.Table(TWO), Newer.Dataset(TWO)):
+        for given in (Newer.Table(TWO), Newer.Dataset(TWO)):
             self.assertEqual(lines(given), TWO_LINES)
 
     def test_a_stream_whose_rows_have_a_name(self):
@@ -90,12 +92,12 @@ class Cases(unittest.TestCase):
                 (Type("+s", "f", *XY), line('{"struct":[%s]}' % X_AND_Y, "f")), (Type("+s", "f"), line('{"struct":[]}', "f")),
                 (Type("+s", "f", *XY, metadata=POINT), line('{"struct":[%s]}' % X_AND_Y, "f", OF_POINT)),
                 (Type("+s", "", *XY, metadata=POINT), line('{"struct":[%s]}' % X_AND_Y, "", OF_POINT))):
-            for of in (Newer.Field, Older.Field, Other.Schema):
+            for of in (Newer.Field, Other.Schema):
                 with self.subTest(text=text, of=of):
                     self.assertEqual(lines(of(kind)), [text])
 
     def test_data_types(self):
-        for of in (Newer.DataType, Older.DataType, stand_ins.OfAnExtension):
+        for of in (Newer.DataType, stand_ins.OfAnExtension):
             self.assertEqual(lines(of(Type("g"))), [line('"float64"')])
             self.assertEqual(lines(of(DICTIONARY)), [DICTIONARY_LINE])
         self.assertEqual(lines(Newer.StructType(TWO)), TWO_LINES)  # as a schema
@@ -111,14 +113,30 @@ class Cases(unittest.TestCase):
     def test_dictionary_arrays(self):
         self.assertEqual(lines(Newer.DictionaryArray(DICTIONARY)), [DICTIONARY_LINE])
 
-    def test_older_arrays(self):
-        self.refused(Older.Array(Type("g")), TypeError, "^Array gives no Arrow schema$")
-
-    def test_older_dictionary_arrays(self):
-        self.refused(Older.DictionaryArray(DICTIONARY), TypeError, "^DictionaryArray gives no Arrow schema$")
-
     def test_an_array_whose_schema_is_wrong(self):
-        self.refused(Other.Array(Type("nonsense")), SchemaError, "unknown format nonsense")
+        self.refused(Other.Array(Type("nonsense")), SchemaError, "column 0: found an unknown type; expected a format string of Arrow's C data interface$")
+
+    # --- what is refused, and what is said of it ---
+
+    def test_schemas_that_are_wrong(self):
+        for given, words, place in (
+                (Other.Schema(Type("+s", "", ID, Type("nonsense"))), "an unknown type", "column 1"),
+                (Other.Schema(Type("+s", "", ID, Type("+l"))), "a type with a wrong number of children", "column 1"),
+                (Other.Stream(Type("+s", "", Type("+s", "a", Type("?")))), "an unknown type", "column 0"),
+                (Other.Schema(Type("?")), "an unknown type", "column 0")):
+            for call in (lines, check):
+                with self.assertRaisesRegex(SchemaError, words) as caught:
+                    call(given)
+                self.assertIsInstance(caught.exception, GeoArrowError)
+                self.assertEqual((caught.exception.code, caught.exception.place), ("BadSchema", place))
+
+    # --- what the report says of a structure, and not of its lines ---
+
+    def test_the_metadata_of_a_schema(self):
+        given = Other.Schema(Type("+s", "", Type("z", "g"), metadata={"geo": '{"version":"1.1.0"}'}))
+        self.assertEqual([one.code for one in check(given).findings if one.source == "geo"], ["GeoColumns", "GeoPrimaryColumn"])
+        self.assertEqual(check(lines(given)).findings, ())
+        self.assertEqual(check(Other.Schema(Type("z", "g", metadata=POINT)))[0].extension, "geoarrow.point")
 
     def test_an_export_of_that_name_that_is_not_of_pyarrow(self):
         self.refused(Other.Exporter(TWO), TypeError, "gives no Arrow schema")
@@ -156,7 +174,7 @@ class Cases(unittest.TestCase):
 
         for found in (None, 3, "a text", stand_ins.capsule(SCHEMA, bytes(SCHEMA), stand_ins.ARRAY)):
             self.refused(Gives(found), SchemaError, "no capsule of the name arrow_schema")
-        self.refused(Gives(stand_ins.capsule(SCHEMA, bytes(SCHEMA))), SchemaError, "released before")
+        self.refused(Gives(stand_ins.capsule(SCHEMA, bytes(SCHEMA))), SchemaError, "found a structure that is released")
 
     # --- what the package gives out ---
 
@@ -180,7 +198,7 @@ class Cases(unittest.TestCase):
         self.assertEqual(c_schema.held_count(), 3000)
         for one in held[::2]:
             self.assertEqual(lines(type("Gives", (), {"__arrow_c_schema__": lambda self: one})()), TWO_LINES)
-        self.assertEqual(c_schema.held_count(), 1500)
+        self.assertEqual(c_schema.held_count(), 3000)
         del held, one
         for _ in range(1000 // 16 + 2):
             c_schema.sweep()

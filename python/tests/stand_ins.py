@@ -14,7 +14,8 @@ AT = {SCHEMA: 56, ARRAY: 64, STREAM: 24}  # where the release callback stands
 _new = ctypes.PYFUNCTYPE(ctypes.py_object, ctypes.c_void_p, ctypes.c_void_p, ctypes.c_void_p)(("PyCapsule_New", ctypes.pythonapi))
 _kept = []  # for ever: what structures point at
 released = {SCHEMA: 0, ARRAY: 0, STREAM: 0}  # how many were
-made = {SCHEMA: 0, ARRAY: 0, STREAM: 0}
+given = {SCHEMA: 0, ARRAY: 0, STREAM: 0}  # how many are whoever takes them's to release: the schemas of streams
+lent = []  # what stands in capsules, which is theirs: each structure, and its bytes as they were
 
 
 def kept(given):
@@ -76,13 +77,11 @@ POINT = {"ARROW:extension:name": "geoarrow.point"}
 
 
 def schema_bytes(of):
-    made[SCHEMA] += 1
     return of.bytes(_RELEASES[SCHEMA])
 
 
 def array_bytes(of):
     """An array without values: of a dictionary it has a dictionary, which is one of no type here."""
-    made[ARRAY] += 1
     dictionary = ctypes.addressof(kept(ctypes.create_string_buffer(ARRAY))) if of.dictionary else 0
     return struct.pack("=10q", 0, 0, 0, 0, 0, 0, 0, dictionary, _RELEASES[ARRAY], 0)
 
@@ -90,16 +89,23 @@ def array_bytes(of):
 def stream_bytes(of, status=0):
     def get_schema(stream, address):
         if not status:
+            given[SCHEMA] += 1
             ctypes.memmove(address, schema_bytes(of), SCHEMA)
         return status
 
-    made[STREAM] += 1
     return struct.pack("=5q", address_of(GET_SCHEMA(get_schema)), 0, 0, _RELEASES[STREAM], 0)
 
 
 def capsule(kind, found, named=None):
-    """A capsule of a structure. (Its destructor is left out: what nobody takes is not released.)"""
-    return _new(ctypes.addressof(kept(ctypes.create_string_buffer(found, kind))), ctypes.addressof(NAMES[named or kind]), None)
+    """A capsule of a structure, which it lends. (Its destructor, which would release it, is left out.)"""
+    structure = kept(ctypes.create_string_buffer(found, kind))
+    lent.append((structure, structure.raw))
+    return _new(ctypes.addressof(structure), ctypes.addressof(NAMES[named or kind]), None)
+
+
+def is_lent_unchanged():
+    """Whether all that capsules have lent is as it was."""
+    return all(structure.raw == found for structure, found in lent)
 
 
 # --- pyarrow: its classes say that they are of pyarrow.lib ---
@@ -148,7 +154,7 @@ class _GivesStream(_Of):
 
 
 class Older:
-    """pyarrow before version 14, which has the older export alone."""
+    """pyarrow before version 14, which has the older export alone, to addresses."""
 
     Schema = of_pyarrow(type("Schema", (_ExportsSchema,), {}))
     Field = of_pyarrow(type("Field", (_ExportsSchema,), {}))
@@ -211,7 +217,7 @@ class Newer:
             return Newer.Schema(self.of)
 
 
-class OfAnExtension(Older.DataType):
+class OfAnExtension(Newer.DataType):
     """A data type that a user derives from pyarrow's; its class is of the user's module."""
 
 

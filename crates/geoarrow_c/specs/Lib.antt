@@ -8,5 +8,7 @@ pub mod Reports
 pub mod Same
 pub mod SchemaReports
 pub mod SchemaStreams
+pub mod SchemaLines
+pub mod SchemaRule
 pub mod Streams
 pub mod Walks

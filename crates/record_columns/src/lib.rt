@@ -13,4 +13,4 @@ mod waiting;
 
 pub use columns::{read_column, read_columns};
 pub use error::RecordsError;
-pub use schema::{RecordSchema, read_schema};
+pub use schema::{RecordSchema, is_schema, read_schema};
