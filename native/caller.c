@@ -1,9 +1,10 @@
 /* A caller of geoarrow.h, which native/test compiles: caller answers|faults|threads|stack|leaks < REQUESTS
  *
  * A request is a byte for the call (0 geoarrow_answer, 1 geoarrow_run, 2 geoarrow_report, 3 geoarrow_write_schema, 4 geoarrow_same,
- * 5 geoarrow_canonical, 6 geoarrow_read_schema, 7 geoarrow_read_field, 8 geoarrow_stream_of_schema), one for the number that the call takes, if it does, the length of the name that it takes, if it does, that of its
+ * 5 geoarrow_canonical, 6 geoarrow_read_schema, 7 geoarrow_read_field, 8 geoarrow_stream_of_schema, 9 geoarrow_lines_of_schema,
+ * 10 geoarrow_lines_of_field, 11 geoarrow_is_schema, whose answer is here a digit), one for the number that the call takes, if it does, the length of the name that it takes, if it does, that of its
  * bytes, and that of those of the other file, if it takes two, each in four bytes, the lowest first, and behind them the name and the bytes of
- * each; the bytes of the last three calls describe a schema (lent.h). A command, options and a status are told by their place in the lists of the header's names below; a number past a list is sent as it is.
+ * each; the bytes of the calls from 6 on describe a schema (lent.h). A command, options and a status are told by their place in the lists of the header's names below; a number past a list is sent as it is.
  *   answers  calls with room, with each size of buffer that is too small (of long texts some), and between guards; writes for each
  *            request its status in a byte (255 for a number that the header does not name), `*len` in eight, and the text
  *   faults   over the library of bin/faults: each request for memory refused, one at a time: out of memory, or the same answer
@@ -76,7 +77,24 @@ static uint8_t stream_of_schema(const request_t *of, uint8_t *out, size_t out_le
     return geoarrow_stream_of_schema(of->schema, out, out_len, len);
 }
 
-static const call_t CALLS[] = {answer_line, run, report, write_schema, same, canonical, read_schema, read_field, stream_of_schema};
+static uint8_t lines_of_schema(const request_t *of, uint8_t *out, size_t out_len, size_t *len) {
+    return geoarrow_lines_of_schema(of->schema, out, out_len, len);
+}
+
+static uint8_t lines_of_field(const request_t *of, uint8_t *out, size_t out_len, size_t *len) {
+    return geoarrow_lines_of_field(of->schema, out, out_len, len);
+}
+
+static uint8_t is_schema(const request_t *of, uint8_t *out, size_t out_len, size_t *len) {
+    uint8_t is = 9, status = geoarrow_is_schema(of->number, of->schema, &is);
+    if (status != GEOARROW_DONE) return is == 9 ? status : 255;
+    *len = 1;
+    if (!out_len) return GEOARROW_SHORT;
+    *out = (uint8_t)('0' + is);
+    return status;
+}
+
+static const call_t CALLS[] = {answer_line, run, report, write_schema, same, canonical, read_schema, read_field, stream_of_schema, lines_of_schema, lines_of_field, is_schema};
 enum { FIRST_OF_SCHEMAS = 6 };
 
 /* The numbers of the header by their names, in the order of native/test. */

@@ -5,6 +5,7 @@ true where it is not given; `flags` in its place; `children`, a list, or null fo
 `released`. A text is a string, or an object with the key `hex`; metadata are an object, a list of pairs, or bytes in hexadecimal. A structure that is NULL is null,
 and "outermost" is the outermost one once more. An object with the key `levels` is so many structures in one another, each of these keys, the last around `children`.
 """
+import json
 import struct
 
 # The format strings of the types that a line can hold, and of others by their notation (docs/FORMAT.md, 2.1 and 3.4).
@@ -16,6 +17,7 @@ OTHER = {
     "timestamp[s]": "tss:", "timestamp[ms]": "tsm:", "timestamp[us]": "tsu:", "timestamp[ns]": "tsn:", "time32[s]": "tts", "time32[ms]": "ttm",
     "time64[us]": "ttu", "time64[ns]": "ttn", "duration[s]": "tDs", "duration[ms]": "tDm", "duration[us]": "tDu", "duration[ns]": "tDn", "month_interval": "tiM",
     "day_time_interval": "tiD", "month_day_nano_interval": "tin"}
+WORDS = {text: word for word, text in PLAIN.items()}
 IS_NULL, IS_OUTERMOST, IS_RELEASED, NO_FORMAT, NO_NAME, HAS_METADATA, HAS_DICTIONARY, NO_CHILDREN = (1 << bit for bit in range(8))
 
 
@@ -87,3 +89,39 @@ def of_type(kind):
         text, below = {"list": "+l", "large_list": "+L", "fixed_size_list": f"+w:{kind.get('size')}"}[word], [kind[word]]
     children = [of_column(one) for one in below]
     return None if None in children else {"format": text, "children": children}
+
+
+def line_of(tree, notation):
+    """The line of the column of a structure, whose type has this notation; None where a part of it is bytes, or has levels."""
+    kind = type_of(tree) or {"other": notation}
+    metadata = tree.get("metadata") or {}
+    if isinstance(metadata, str) or isinstance(tree.get("name"), dict) or "hex" in json.dumps(tree) or "levels" in json.dumps(tree):
+        return None
+    return json.dumps(field_of(tree, kind), ensure_ascii=False, sort_keys=True, separators=(",", ":"))
+
+
+def field_of(tree, kind):
+    """The field of a structure, and of its type."""
+    metadata = dict(tree.get("metadata") or {})
+    nullable = bool(tree.get("flags", 2 * tree.get("nullable", True)) & 2)
+    return {"name": tree.get("name") or "", "nullable": nullable, "type": kind, **({"metadata": metadata} if metadata else {})}
+
+
+def type_of(tree):
+    """The type of a structure as a line has it; None of one that no line has."""
+    text, kinds = tree["format"], list(map(type_of, tree.get("children") or []))
+    if "dictionary" in tree or None in kinds:
+        return None
+    below = [field_of(child, kind) for child, kind in zip(tree.get("children") or [], kinds)]
+    if text in WORDS:
+        return WORDS[text]
+    if text == "+s":
+        return {"struct": below}
+    if text in ("+l", "+L"):
+        return {"list" if text == "+l" else "large_list": below[0]}
+    if text.startswith("+w:"):
+        return {"fixed_size_list": below[0], "size": int(text[3:])}
+    if text.startswith("+u"):
+        ids = map(int, text[4:].split(",")) if text[4:] else []
+        return {"mode": {"d": "dense", "s": "sparse"}[text[2]], "union": [[one, field] for one, field in zip(ids, below)]}
+    return None

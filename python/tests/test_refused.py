@@ -9,7 +9,7 @@ import tempfile
 import traceback
 import unittest
 
-from geoarrow_fields import Finding, InvalidColumns, RefusedSource, check, files, write_schema
+from geoarrow_fields import Finding, GeoArrowError, InvalidColumns, RefusedSource, Schema, SchemaError, check, files, write_schema
 
 from .shared import BROKEN, DATA, NO_NAME, OTHER, POINT, READ, TEXT, TOP, printed
 
@@ -312,6 +312,21 @@ class Errors(InAFolder):
         error = RefusedSource(line_of(EMPTY))
         error.more = 7
         self.assertEqual(pickle.loads(pickle.dumps(error)).more, 7)
+
+    def test_one_base(self):
+        """Each error has the code, the place and the path of what it says; of a schema that is made here nothing but its words."""
+        column = {"name": "a", "nullable": True, "type": {"other": "map"}}
+        for call, kind, code, place, path in (
+                (lambda: check(b""), RefusedSource, "EmptyFile", "byte 0", ()),
+                (lambda: write_schema([TEXT, json.dumps(column)]), RefusedSource, "ColumnType", "column 1", ()),
+                (lambda: check([TEXT, BROKEN], strict=True), InvalidColumns, "BadFieldCount", "column 1, at v, field", ("v",)),
+                (lambda: Schema([json.dumps(column)]), SchemaError, "BadSchema", "", ())):
+            with self.assertRaises(GeoArrowError) as caught:
+                call()
+            error = caught.exception
+            self.assertEqual((type(error), error.code, error.place, error.path), (kind, code, place, path))
+            other = pickle.loads(pickle.dumps(error))
+            self.assertEqual((type(other), str(other), vars(other)), (type(error), str(error), vars(error)))
 
     def test_invalid_columns_cross_processes(self):
         error = InvalidColumns(check([BROKEN]))

@@ -24,7 +24,7 @@ fn lines_of(alloc: Global, columns: Vec<SchemaColumn>) -> Result<String, AllocEr
     ensures { IfOk result (λ lines. string_bytes lines ≡ flat_map line_of (map column_tree columns.items)) }
 {
     let mut lines = String::new(alloc);
-    for column in columns {
+    'columns: for column in columns {
         add_line(alloc, &mut lines, column)?;
     }
     Ok(lines)
