@@ -271,6 +271,8 @@ class _Column:
             raise SchemaError(f"{self.where}: unknown format {shown(text)}")
         below = [self.field(child, level) for child in _children(schema, self.left, self.where)]
         if text in notation.NESTED:
+            if len(below) != 1 + (text == "+r"):
+                raise SchemaError(f"{self.where}: format {text} with {len(below)} children")
             return {"other": notation.nested(notation.NESTED[text], *map(notation.part, below))}
         if text == "+s":
             return {"struct": below}

@@ -47,7 +47,7 @@ def pairs(given):
     """Metadata of these keys and values."""
     parts = [struct.pack("=i", len(given))]
     for one in (one for pair in given.items() for one in pair):
-        parts.append(struct.pack("=i", len(one)) + one.encode())
+        parts.append(struct.pack("=i", len(one.encode())) + one.encode())
     return ctypes.addressof(kept(ctypes.create_string_buffer(b"".join(parts))))
 
 
