@@ -31,7 +31,8 @@ use Rattle.format_strings.proofs.Written.{decimal_of_number, byte_text, text_of_
 use Rattle.format_strings.proofs.Forth.{mapped}
 
 -- ---- choices that were made
-pub either : {A : Type 0} (o p : Option A) (x : A) → or_else o p ≡ Some x → (o ≡ Some x) ⊎ (p ≡ Some x)
+pub either : {A : Type 0} (o p : Option A) (x : A) → or_else o p ≡ Some x
+    → (o ≡ Some x) ⊎ (p ≡ Some x)
 either None p x e = inr e
 either (Some y) p x e = inl e
 

@@ -67,8 +67,9 @@ data_read Date64 t e = found t (codes "tdm") (Plain Date64) refl refl e
 data_read _ t e = absurd (none-some t e)
 
 -- a fact of each unit is one of a unit that has a letter
-pub units : (P : ℕ → Text → Type 0) (front : Text) → P 0 (front ++ codes "s") → P 1 (front ++ codes "m")
-    → P 2 (front ++ codes "u") → P 3 (front ++ codes "n") → (unit : ℕ) (t : Text)
+pub units : (P : ℕ → Text → Type 0) (front : Text) → P 0 (front ++ codes "s")
+    → P 1 (front ++ codes "m") → P 2 (front ++ codes "u") → P 3 (front ++ codes "n")
+    → (unit : ℕ) (t : Text)
     → with_unit front unit ≡ Some t → P unit t
 units P front a b c d unit t e = elim (cases_eq unit 0) [
   | inl z ↦ (let f : with_unit front 0 ≡ Some t = subst (λ (n : ℕ). with_unit front n ≡ Some t) z e

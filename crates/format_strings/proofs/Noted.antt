@@ -5,10 +5,11 @@ use Rattle.std.proofs.Common.{Option, Some, None, MatchOption, option_map, optio
 use Rattle.std.proofs.Common.{decimal, refl, sym, ap, subst, ◌∙◌, eqb, ltb, arith, lit≤, lit<}
 use Rattle.std.proofs.Common.{append_assoc, drop, ◌+◌}
 use Rattle.std.specs.Fmt.{signed_decimal}
-use Rattle.std.specs.List.{AllByRecursion}
+use Rattle.std.specs.List.{list_all}
+use Rattle.std.specs.Option.{option_map_or}
 use Rattle.std.specs.Str.Pattern.{FindsCharSuffix, FindsTextPrefix}
 use Rattle.std.proofs.lemmas.Bool.{cases_Bool, cases_eq, ne_eqb, eqb-true, eq-eqb, ltb-true}
-use Rattle.std.proofs.lemmas.Bool.{lt-ltb, true≢false}
+use Rattle.std.proofs.lemmas.Bool.{lt-ltb, and_parts, true≢false}
 use Rattle.std.proofs.lemmas.Option.{cond_some, same_Some, none-some}
 use Rattle.std.proofs.lemmas.Str.Pattern.{strip_suffix_char}
 use Rattle.arrow_values.specs.Tree.{Text}
@@ -21,16 +22,16 @@ use Rattle.format_strings.specs.Numbers.{is_byte, number_in, cut}
 use Rattle.format_strings.specs.Formats.{with_unit, with_zone, word_of, with_size, decimal_format}
 use Rattle.format_strings.specs.Formats.{decimal_text, wide_text, are_places, format_by, alone}
 use Rattle.format_strings.specs.Reading.{or_else, places_in, decimal_by}
-use Rattle.format_strings.specs.Notations.{IsNotation, behind, before, between, unit_kinds, is_noted}
-use Rattle.format_strings.specs.Notations.{unit_noted, places_noted, decimal_noted, binary_noted}
-use Rattle.format_strings.specs.Notations.{unit_in, with_zone_noted, zone_noted, zoned_noted}
-use Rattle.format_strings.specs.Notations.{bare_noted, notation_in}
+use Rattle.format_strings.specs.Notations.{IsNotation, behind, before, between, unit_kinds}
+use Rattle.format_strings.specs.Notations.{is_noted, unit_noted, places_noted, decimal_noted}
+use Rattle.format_strings.specs.Notations.{binary_noted, unit_in, with_zone_noted, zone_noted}
+use Rattle.format_strings.specs.Notations.{zoned_noted, bare_noted, notation_in}
 use Rattle.format_strings.proofs.Parsed.{cut_at}
 use Rattle.format_strings.proofs.Written.{number_of_decimal, decimal_of_number, small_byte, no_such}
 use Rattle.format_strings.proofs.Forth.{units, intervals, places_read, picked, are_two, mapped}
 use Rattle.format_strings.proofs.Forth.{alone_is}
-use Rattle.format_strings.proofs.Back.{either, bound, chosen, same_text, parts, IsPlaces, places_are}
-use Rattle.format_strings.proofs.Back.{are}
+use Rattle.format_strings.proofs.Back.{either, bound, chosen, same_text, parts, IsPlaces}
+use Rattle.format_strings.proofs.Back.{places_are, are}
 
 -- ---- what stands between texts
 none_unless : {A : Type 0} (o : Option A) → ((x : A) → o ≢ Some x) → o ≡ None
@@ -113,68 +114,31 @@ noted : (text : Text) (kind : named.Named) (zone : Text) → text ≡ named_text
 noted text kind zone is h = record { is = sym is; format = h.0; says = h.1 }
 
 -- a type of a unit
-each_found : (P : named.Named → Type 0) (text : Text) (kinds : List named.Named)
-    → AllByRecursion P kinds → (kind : named.Named) → find (is_noted text) kinds ≡ Some kind
-    → (is_noted text kind ≡ true) × P kind
-each_found P text [] all kind e = absurd (none-some kind e)
-each_found P text (k ∷ kinds) all kind e = elim (cases_Bool (is_noted text k)) [
-  | inl is ↦ (let same : k ≡ kind = same_Some k kind (rw is at e) in
-      subst (λ (n : named.Named). (is_noted text n ≡ true) × P n) same (is, all.0))
-  | inr other ↦ each_found P text kinds all.1 kind (rw other at e)
-]
+abbrev has_format : named.Named → Bool
+has_format kind = option_map_or (λ f. true) (format_by (Named kind) [] []) false
 
-unit_formats : AllByRecursion (λ kind. HasFormat kind []) unit_kinds
-unit_formats = (
-  (_, refl),
-  (
-    (_, refl),
-    (
-      (_, refl),
-      (
-        (_, refl),
-        (
-          (_, refl),
-          (
-            (_, refl),
-            (
-              (_, refl),
-              (
-                (_, refl),
-                (
-                  (_, refl),
-                  (
-                    (_, refl),
-                    (
-                      (_, refl),
-                      (
-                        (_, refl),
-                        (
-                          (_, refl),
-                          (
-                            (_, refl),
-                            (
-                              (_, refl),
-                              tt,
-                            ),
-                          ),
-                        ),
-                      ),
-                    ),
-                  ),
-                ),
-              ),
-            ),
-          ),
-        ),
-      ),
-    ),
-  ),
-)
+some_format : (o : Option Text) → option_map_or (λ f. true) o false ≡ true → (format : Text)
+    × (o ≡ Some format)
+some_format None e = absurd (true≢false (sym e))
+some_format (Some format) e = (format, refl)
+
+each_found : (text : Text) (kinds : List named.Named) → list_all has_format kinds ≡ true
+    → (kind : named.Named) → find (is_noted text) kinds ≡ Some kind
+    → (is_noted text kind ≡ true) × (has_format kind ≡ true)
+each_found text [] all kind e = absurd (none-some kind e)
+each_found text (k ∷ kinds) all kind e =
+    let q = and_parts (has_format k) (list_all has_format kinds) all in
+    elim (cases_Bool (is_noted text k)) [
+      | inl is ↦ (let same : k ≡ kind = same_Some k kind (rw is at e) in
+          subst (λ (n : named.Named). (is_noted text n ≡ true) × (has_format n ≡ true)) same
+          (is, q.0))
+      | inr other ↦ each_found text kinds q.1 kind (rw other at e)
+    ]
 
 unit_is : (text : Text) (kind : named.Named) → unit_noted text ≡ Some kind → IsNotation text kind []
 unit_is text kind e =
-    let f = each_found (λ n. HasFormat n []) text unit_kinds unit_formats kind e in
-    noted text kind [] (same_text text (named_text kind []) f.0) f.1
+    let f = each_found text unit_kinds refl kind e in
+    noted text kind [] (same_text text (named_text kind []) f.0) (some_format _ f.1)
 
 -- a decimal
 width_is : (w : ℕ) (word : Text) → number_in 257 word ≡ Some w → word ≡ decimal w
@@ -222,23 +186,22 @@ wide_at precision scale width word w kind is formats h =
 wide_is : (precision scale width : Text) (kind : named.Named)
     → decimal_by precision scale width ≡ Some kind → IsWide precision scale width kind
 wide_is precision scale width kind e =
-    elim (chosen (bytes_eq width (codes "128")) (places_in precision scale 128) _ kind e) [
+    let places = places_in precision scale in
+    elim (chosen (bytes_eq width (codes "128")) (places 128) _ kind e) [
       | inl h ↦ wide_at precision scale width (codes "128") 128 kind is_128
           (λ p s a. (decimal_text p s, rw a refl)) h
-      | inr f ↦ elim (chosen (bytes_eq width (codes "32")) (places_in precision scale 32) _ kind f) [
+      | inr f ↦ elim (chosen (bytes_eq width (codes "32")) (places 32) _ kind f) [
         | inl h ↦ wide_at precision scale width (codes "32") 32 kind is_32
             (λ p s a. (wide_text p s (codes "32"), rw a refl)) h
-        | inr g ↦ elim (chosen (bytes_eq width (codes "64")) (places_in precision scale 64) _ kind
-            g) [
-              | inl h ↦ wide_at precision scale width (codes "64") 64 kind is_64
-                  (λ p s a. (wide_text p s (codes "64"), rw a refl)) h
-              | inr i ↦ elim (chosen (bytes_eq width (codes "256")) (places_in precision scale 256)
-                  None kind i) [
-                    | inl h ↦ wide_at precision scale width (codes "256") 256 kind is_256
-                        (λ p s a. (wide_text p s (codes "256"), rw a refl)) h
-                    | inr j ↦ absurd (none-some kind j)
-                  ]
-            ]
+        | inr g ↦ elim (chosen (bytes_eq width (codes "64")) (places 64) _ kind g) [
+          | inl h ↦ wide_at precision scale width (codes "64") 64 kind is_64
+              (λ p s a. (wide_text p s (codes "64"), rw a refl)) h
+          | inr i ↦ elim (chosen (bytes_eq width (codes "256")) (places 256) None kind i) [
+            | inl h ↦ wide_at precision scale width (codes "256") 256 kind is_256
+                (λ p s a. (wide_text p s (codes "256"), rw a refl)) h
+            | inr j ↦ absurd (none-some kind j)
+          ]
+        ]
       ]
     ]
 
@@ -431,7 +394,8 @@ joined_read : (unit : ℕ) (zone : Text) → eqb (length zone) 0 ≡ false
     → notation_in (zoned_cut (unit_word unit) zone) ≡ Some (Timestamp unit, zone)
     → IsRead (Timestamp unit) zone zone
 joined_read unit zone some e =
-    subst (λ (t : Text). notation_in t ≡ Some (Timestamp unit, zone)) (zoned_joined unit zone some) e
+    let read = λ (t : Text). notation_in t ≡ Some (Timestamp unit, zone) in
+    subst read (zoned_joined unit zone some) e
 
 stamps_zoned : (unit : ℕ) (zone format : Text) → eqb (length zone) 0 ≡ false
     → with_unit (codes "ts") unit ≡ Some format → IsRead (Timestamp unit) zone zone

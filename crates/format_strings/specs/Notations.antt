@@ -1,6 +1,5 @@
--- The notations of the types that a format string says and that none of the 26 data types is
--- (docs/FORMAT.md, 3.4): decimals, times, timestamps, durations, intervals, and binary values of one
--- size.
+-- The notations of the types that a format string says and that are none of the 26 data types:
+-- decimals, times, timestamps, durations, intervals, and binary values of one size.
 use Rattle.std.specs.Prelude.{◌≡◌, ℕ, ◌^◌, pos, Bool, List, [], ◌∷◌, codes, bytes_eq, find, length}
 use Rattle.std.specs.Prelude.{Option, Some, None, option_map, ◌==◌, if◌then◌else◌}
 use Rattle.std.specs.Option.{option_and_then}
