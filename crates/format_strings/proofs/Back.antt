@@ -31,16 +31,17 @@ use Rattle.format_strings.proofs.Written.{decimal_of_number, byte_text, text_of_
 use Rattle.format_strings.proofs.Forth.{mapped}
 
 -- ---- choices that were made
-either : {A : Type 0} (o p : Option A) (x : A) → or_else o p ≡ Some x → (o ≡ Some x) ⊎ (p ≡ Some x)
+pub either : {A : Type 0} (o p : Option A) (x : A) → or_else o p ≡ Some x
+    → (o ≡ Some x) ⊎ (p ≡ Some x)
 either None p x e = inr e
 either (Some y) p x e = inl e
 
-bound : {A B : Type 0} (f : A → Option B) (o : Option A) (y : B) → option_and_then f o ≡ Some y
+pub bound : {A B : Type 0} (f : A → Option B) (o : Option A) (y : B) → option_and_then f o ≡ Some y
     → (x : A) × (o ≡ Some x) × (f x ≡ Some y)
 bound f None y e = absurd (none-some y e)
 bound f (Some x) y e = (x, refl, e)
 
-chosen : {A : Type 0} (b : Bool) (o p : Option A) (x : A) → cond b o p ≡ Some x
+pub chosen : {A : Type 0} (b : Bool) (o p : Option A) (x : A) → cond b o p ≡ Some x
     → ((b ≡ true) × (o ≡ Some x)) ⊎ (p ≡ Some x)
 chosen true o p x e = inl (refl, e)
 chosen false o p x e = inr e
@@ -54,7 +55,7 @@ passes {A} test (y ∷ ys) x e = elim (cases_Bool (test y)) [
   | inr other ↦ passes test ys x (rw other at e)
 ]
 
-same_text : (t w : Text) → bytes_eq t w ≡ true → t ≡ w
+pub same_text : (t w : Text) → bytes_eq t w ≡ true → t ≡ w
 same_text t w h = (bytes_eq-Decides t w).0 h
 
 -- ---- words
@@ -96,7 +97,7 @@ word_format LargeListView t e = e
 
 -- ---- parameters
 -- what stands around the first such byte
-parts : (c : ℕ) (t : Text) (p : Text × Text) → cut c t ≡ Some p → t ≡ p.0 ++ (c ∷ p.1)
+pub parts : (c : ℕ) (t : Text) (p : Text × Text) → cut c t ≡ Some p → t ≡ p.0 ++ (c ∷ p.1)
 unfolding cut
 parts c [] p e = absurd (none-some p e)
 parts c (b ∷ t) p e =
@@ -133,16 +134,16 @@ list_says : (n : ℕ) → n < 2 ^ 31 → Says (codes "+w") (decimal n) (bare (Li
 list_says n h = inl (rw (lt-ltb n (2 ^ 31) h) refl)
 
 -- a decimal
-record IsPlaces (precision scale : Text) (width : ℕ) (n : named.Named) : Type 0 where
-  p : ℕ
-  s : ℤ
-  low : p < 128
-  byte : is_byte s ≡ true
-  is_precision : precision ≡ decimal p
-  is_scale : scale ≡ signed_decimal s
-  is : n ≡ Decimal width p s
+pub record IsPlaces (precision scale : Text) (width : ℕ) (n : named.Named) : Type 0 where
+  pub p : ℕ
+  pub s : ℤ
+  pub low : p < 128
+  pub byte : is_byte s ≡ true
+  pub is_precision : precision ≡ decimal p
+  pub is_scale : scale ≡ signed_decimal s
+  pub is : n ≡ Decimal width p s
 
-places_are : (precision scale : Text) (width : ℕ) (n : named.Named)
+pub places_are : (precision scale : Text) (width : ℕ) (n : named.Named)
     → places_in precision scale width ≡ Some n → IsPlaces precision scale width n
 places_are precision scale width n e =
     let b = bound (λ p. option_map (Decimal width p) (byte_in scale)) (number_in 128 precision) n e
@@ -161,7 +162,7 @@ places_are precision scale width n e =
           sym m.2;
     }
 
-are : (p : ℕ) (s : ℤ) → p < 128 → is_byte s ≡ true → are_places p s ≡ true
+pub are : (p : ℕ) (s : ℤ) → p < 128 → is_byte s ≡ true → are_places p s ≡ true
 are p s low byte = rw (lt-ltb p 128 low, byte) refl
 
 narrow_says : (p : ℕ) (s : ℤ) → are_places p s ≡ true

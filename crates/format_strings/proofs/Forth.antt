@@ -67,8 +67,9 @@ data_read Date64 t e = found t (codes "tdm") (Plain Date64) refl refl e
 data_read _ t e = absurd (none-some t e)
 
 -- a fact of each unit is one of a unit that has a letter
-units : (P : ℕ → Text → Type 0) (front : Text) → P 0 (front ++ codes "s") → P 1 (front ++ codes "m")
-    → P 2 (front ++ codes "u") → P 3 (front ++ codes "n") → (unit : ℕ) (t : Text)
+pub units : (P : ℕ → Text → Type 0) (front : Text) → P 0 (front ++ codes "s")
+    → P 1 (front ++ codes "m") → P 2 (front ++ codes "u") → P 3 (front ++ codes "n")
+    → (unit : ℕ) (t : Text)
     → with_unit front unit ≡ Some t → P unit t
 units P front a b c d unit t e = elim (cases_eq unit 0) [
   | inl z ↦ (let f : with_unit front 0 ≡ Some t = subst (λ (n : ℕ). with_unit front n ≡ Some t) z e
@@ -93,7 +94,7 @@ units P front a b c d unit t e = elim (cases_eq unit 0) [
   ]
 ]
 
-intervals : (P : ℕ → Text → Type 0) → P 0 (codes "tiM") → P 1 (codes "tiD") → P 2 (codes "tin")
+pub intervals : (P : ℕ → Text → Type 0) → P 0 (codes "tiM") → P 1 (codes "tiD") → P 2 (codes "tin")
     → (unit : ℕ) (t : Text) → interval_word unit ≡ Some t → P unit t
 intervals P a b c unit t e = elim (cases_eq unit 0) [
   | inl z ↦ (let f : interval_word 0 ≡ Some t = subst (λ (n : ℕ). interval_word n ≡ Some t) z e in
@@ -184,7 +185,7 @@ sized front K read (pos n) t e =
 sized front K read (negsuc n) t e = absurd (none-some t e)
 
 -- a decimal
-places_read : (width p : ℕ) (s : ℤ) → p < 128 → is_byte s ≡ true
+pub places_read : (width p : ℕ) (s : ℤ) → p < 128 → is_byte s ≡ true
     → places_in (decimal p) (signed_decimal s) width ≡ Some (Decimal width p s)
 places_read width p s low byte = rw (number_of_decimal 128 p (lit≤ tt) low, byte_of s byte) refl
 
@@ -253,7 +254,7 @@ decimal_read width p s t low byte e = elim (cases_eq width 128) [
 ]
 
 -- a choice that is made
-picked : {A : Type 0} (b : Bool) (o : Option A) (x : A) → cond b o None ≡ Some x → (b ≡ true)
+pub picked : {A : Type 0} (b : Bool) (o : Option A) (x : A) → cond b o None ≡ Some x → (b ≡ true)
     × (o ≡ Some x)
 picked true o x e = (refl, e)
 picked false o x e = absurd (none-some x e)
@@ -263,7 +264,7 @@ pub mapped : {A B : Type 0} (f : A → B) (o : Option A) (y : B) → option_map 
 mapped f None y e = absurd (none-some y e)
 mapped f (Some x) y e = (x, refl, same_Some (f x) y e)
 
-are_two : (p : ℕ) (s : ℤ) → are_places p s ≡ true → (p < 128) × (is_byte s ≡ true)
+pub are_two : (p : ℕ) (s : ℤ) → are_places p s ≡ true → (p < 128) × (is_byte s ≡ true)
 are_two p s h = let q = and_parts (ltb p 128) (is_byte s) h in (ltb-true p 128 q.0, q.1)
 
 decimals : (width p : ℕ) (s : ℤ) (t : Text) → decimal_format width p s ≡ Some t

@@ -2,3 +2,4 @@ pub mod Parsed
 pub mod Written
 pub mod Forth
 pub mod Back
+pub mod Noted

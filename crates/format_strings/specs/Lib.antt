@@ -1,3 +1,4 @@
 pub mod Numbers
 pub mod Formats
 pub mod Reading
+pub mod Notations

@@ -53,6 +53,13 @@ pub(crate) fn cut_at_comma(text: &str) -> Option<(&str, &str)>
     text.split_once(',')
 }
 
+/// Returns what stands before the first parenthesis that opens, and behind it.
+pub(crate) fn cut_at_parenthesis(text: &str) -> Option<(&str, &str)>
+    ensures { option_map (λ p. (p.0.now, p.1.now)) result ≡ cut 40 text.now }
+{
+    text.split_once('(')
+}
+
 /// Tells whether a type id is among those before it.
 fn has(id: u32, ids: &[i8]) -> bool
     requires { id < 128 }

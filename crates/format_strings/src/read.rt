@@ -32,7 +32,7 @@ fn places_in(precision: &str, scale: &str, width: usize) -> Option<Named>
 }
 
 /// Reads a decimal by the texts of its precision, scale and width.
-fn decimal_by(precision: &str, scale: &str, width: &str) -> Option<Named>
+pub(crate) fn decimal_by(precision: &str, scale: &str, width: &str) -> Option<Named>
     ensures { result ≡ decimal_by precision.now scale.now width.now }
 {
     match width {

@@ -1,11 +1,12 @@
 -- What is read of the records of columns.
-use Rattle.std.proofs.Common.{◌≡◌, ℕ, ◌+◌, Bool, true, false, List, [], ◌∷◌, ◌++◌, length}
+use Rattle.std.proofs.Common.{◌≡◌, ℕ, ℤ, ◌+◌, Bool, true, false, List, [], ◌∷◌, ◌++◌, length}
 use Rattle.std.proofs.Common.{map}
-use Rattle.std.proofs.Common.{Some, None, Ok, refl, sym, ap, ◌∙◌, subst, arith}
+use Rattle.std.proofs.Common.{Option, Some, None, Ok, refl, sym, ap, ◌∙◌, subst, arith, inl, inr}
 use Rattle.std.proofs.Common.{append-nil}
 use Rattle.std.specs.List.{AllByRecursion, zip}
 use Rattle.std.proofs.lemmas.List.{length-append, length-map}
-use Rattle.std.proofs.lemmas.Bool.{eq-eqb}
+use Rattle.std.proofs.lemmas.Bool.{cases_Bool, eq-eqb, true≢false}
+use Rattle.std.proofs.lemmas.Option.{none-some}
 use Rattle.arrow_values.specs.Tree.{Tree, plain, list, large_list, fixed_size_list}
 use Rattle.arrow_values.specs.Tree.{struct}
 use Rattle.arrow_values.specs.Tree.{union, FieldTrees, no_fields, field, MemberTrees, no_members}
@@ -17,12 +18,22 @@ use Rattle.arrow_values.specs.View.{tree, field_list, member_list, member_trees}
 use Rattle.arrow_values.specs.View.{field_trees_of_list}
 use Rattle.arrow_values.specs.declared.tree.UnionMode.{UnionMode}
 use Rattle.arrow_values.specs.Union.{ids_of}
-use Rattle.arrow_columns.specs.Types.{TypeTree, known, other, ColumnTree}
+use Rattle.arrow_columns.specs.Types.{TypeTree, known, other, leaf, PartTrees, no_parts, part}
+use Rattle.arrow_columns.specs.Types.{ColumnTree}
+use Rattle.arrow_columns.specs.declared.other.Form.{Form}
+use Rattle.arrow_columns.specs.declared.other.Form.TheVariants as forms
+use Rattle.arrow_columns.specs.declared.other.Form.TheVariants.{Leaf}
 use Rattle.arrow_columns.specs.Column.{column_of as field_column}
 use Rattle.arrow_columns.specs.Below.{below, below_tree}
 use Rattle.arrow_columns.specs.Nested.{all_known, known_fields}
 use Rattle.arrow_kinds.specs.Types.{type_of}
+use Rattle.format_strings.specs.Formats.{Said, format_of}
+use Rattle.format_strings.specs.Reading.{said_in}
+use Rattle.format_strings.specs.Notations.{notation_in}
 use Rattle.format_strings.proofs.Forth.{written_is_read}
+use Rattle.format_strings.proofs.Back.{bound}
+use Rattle.format_strings.proofs.Noted.{read_is_notation}
+use Rattle.record_wire.specs.Record.{has_nul}
 use Rattle.record_wire.specs.Trees.{Adds}
 use Rattle.record_wire.specs.Write.{bytes_of}
 use Rattle.record_wire.proofs.TreeLemmas.{begins, closes, follows}
@@ -30,7 +41,8 @@ use Rattle.record_columns.specs.Columns.{own_type, column_of, is_nullable}
 use Rattle.record_columns.specs.Texts.{texts_in}
 use Rattle.record_writer.specs.Placed.{Placed, at, within, fields_within, members_within, placed}
 use Rattle.record_writer.specs.Placed.{all_placed, within_type}
-use Rattle.record_writer.specs.Formats.{plain_type, said_of, format_in}
+use Rattle.record_writer.specs.Formats.{plain_type, said_of, is_leaf, said_with, without_nul}
+use Rattle.record_writer.specs.Formats.{noted_format, format_in}
 use Rattle.record_writer.specs.Structures.{flags_of, structure_of, records_of}
 use Rattle.record_writer.specs.Writes.{IsRead}
 use Rattle.record_writer.proofs.Grows.{records_append}
@@ -114,6 +126,40 @@ type_is (fixed_size_list n t b m s) = refl
 type_is (struct fs) = struct_is fs
 type_is (union ms mode) = union_is ms mode
 
+-- ---- the type whose notation a text is
+
+pub leaf_is : (f : Form) (ids : List ℤ) (ps : PartTrees) (s : Text) → is_leaf f ids ps ≡ true
+    → other s f ids ps ≡ leaf s
+leaf_is Leaf [] no_parts s is = refl
+leaf_is Leaf [] (part n t b m ps) s is = absurd (true≢false (sym is))
+leaf_is Leaf (i ∷ ids) ps s is = absurd (true≢false (sym is))
+leaf_is (forms.List form) ids ps s is = absurd (true≢false (sym is))
+leaf_is forms.ListView ids ps s is = absurd (true≢false (sym is))
+leaf_is forms.LargeListView ids ps s is = absurd (true≢false (sym is))
+leaf_is forms.Struct ids ps s is = absurd (true≢false (sym is))
+leaf_is (forms.Union mode) ids ps s is = absurd (true≢false (sym is))
+leaf_is forms.Map ids ps s is = absurd (true≢false (sym is))
+leaf_is forms.RunEndEncoded ids ps s is = absurd (true≢false (sym is))
+leaf_is forms.Dictionary ids ps s is = absurd (true≢false (sym is))
+
+kept : (o : Option Text) (format : Text) → without_nul o ≡ Some format → o ≡ Some format
+kept None format e = absurd (none-some format e)
+kept (Some text) format e = elim (cases_Bool (has_nul text)) [
+  | inl one ↦ absurd (none-some format (rw one at e))
+  | inr none ↦ rw none at e
+]
+
+noted_is : (s format : Text) → noted_format s ≡ Some format → (said : Said)
+    × (said_in format ≡ Some said) × (own_type said [] ≡ Ok (leaf s))
+unfolding own_type type_of
+noted_is s format e =
+    let b = bound (λ p. format_of (said_with p)) (notation_in s) format (kept _ format e) in
+    let is = (read_is_notation s b.0.0 b.0.1 b.1).is in (
+      said_with b.0,
+      written_is_read (said_with b.0) format b.2,
+      ap (λ (t : Text). Ok (leaf t)) is,
+    )
+
 -- ---- a column of its structure
 
 flag_is : (b : Bool) → is_nullable (flags_of b) ≡ b
@@ -141,12 +187,29 @@ known_is level c t is format texts =
     let own : own_type (said_of t) (below c.data_type) ≡ Ok c.data_type = rw is (type_is t) in
     rw (said, own, texts, flag_is c.nullable) refl
 
+leaf_column : (level : ℕ) (c : ColumnTree) (s : Text) → c.data_type ≡ leaf s
+    → HasForm level c c.data_type → HasTexts level c → IsOf level c
+unfolding column_of
+leaf_column level c s is format texts =
+    let n = noted_is s (form level c) (subst (λ (u : TypeTree). HasForm level c u) is format) in
+    let own = subst (λ (u : TypeTree). own_type n.0 (below u) ≡ Ok u) (sym is) n.2 in
+    rw (n.1, own, texts, flag_is c.nullable) refl
+
+other_column : (level : ℕ) (c : ColumnTree) (s : Text) (f : Form) (ids : List ℤ) (ps : PartTrees)
+    (b : Bool) → is_leaf f ids ps ≡ b → c.data_type ≡ other s f ids ps
+    → HasForm level c c.data_type → HasTexts level c → IsOf level c
+other_column level c s f ids ps true e is format texts =
+    leaf_column level c s (is ∙ leaf_is f ids ps s e) format texts
+other_column level c s f ids ps false e is format texts =
+    let there : HasForm level c (other s f ids ps) =
+    subst (λ (u : TypeTree). HasForm level c u) is format in
+    absurd (none-some (form level c) (rw e at there))
+
 column_by : (level : ℕ) (c : ColumnTree) (u : TypeTree) → c.data_type ≡ u
     → HasForm level c c.data_type → HasTexts level c → IsOf level c
 column_by level c (known t) is format texts = known_is level c t is format texts
 column_by level c (other s f ids ps) is format texts =
-    let e : None ≡ Some (form level c) = subst (λ (u : TypeTree). HasForm level c u) is format in
-    absurd (cc e)
+    other_column level c s f ids ps (is_leaf f ids ps) refl is format texts
 
 pub column_is : (level : ℕ) (c : ColumnTree) → HasForm level c c.data_type → HasTexts level c
     → IsOf level c
@@ -235,10 +298,19 @@ mutual
       both_add l ps qs (c ∷ []) (map (λ m. field_column m.1) (member_list ms)) one
       (members_add l ms (each_later ps qs all))
 
+other_adds : (l : ℕ) (s : Text) (f : Form) (ids : List ℤ) (ps : PartTrees) (b : Bool)
+    (text : List ℕ) → is_leaf f ids ps ≡ b → format_in (other s f ids ps) ≡ Some text
+    → AddsAll [] (below (other s f ids ps)) l
+other_adds l s f ids ps true text e is =
+    subst (λ (t : TypeTree). AddsAll [] (below t) l) (sym (leaf_is f ids ps s e))
+    (begins column_of l)
+other_adds l s f ids ps false text e is = absurd (none-some text (rw e at is))
+
 pub type_adds : (l : ℕ) (t : TypeTree) (text : List ℕ) → format_in t ≡ Some text
     → AllByRecursion IsRead (within_type l t) → AddsAll (within_type l t) (below t) l
 type_adds l (known t) text is all = within_adds l t all
-type_adds l (other s f ids ps) text is all = absurd (cc is)
+type_adds l (other s f ids ps) text is all =
+    other_adds l s f ids ps (is_leaf f ids ps) text refl is
 
 pub placed_adds : (l : ℕ) (c : ColumnTree) → AllByRecursion IsRead (placed l c)
     → AddsAll (placed l c) (c ∷ []) l

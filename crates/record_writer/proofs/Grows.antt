@@ -7,21 +7,23 @@ use Rattle.std.specs.List.{list_any, AllByRecursion}
 use Rattle.std.proofs.lemmas.List.{length-append, at_drop_more}
 use Rattle.std.proofs.lemmas.List.Folds.{list_any-append}
 use Rattle.std.proofs.lemmas.Bool.{lt-ltb}
-use Rattle.arrow_values.specs.Tree.{Tree, FieldTree, Members}
+use Rattle.arrow_values.specs.Tree.{FieldTree, Members}
 use Rattle.arrow_values.specs.View.{field_trees, member_trees}
-use Rattle.arrow_columns.specs.Types.{known, ColumnTree}
+use Rattle.arrow_columns.specs.Types.{ColumnTree}
 use Rattle.arrow_columns.specs.Column.{column_of, column_tree}
 use Rattle.arrow_columns.specs.declared.column.SchemaColumn.{SchemaColumn}
 use Rattle.arrow_columns.specs.Below.{below}
 use Rattle.record_wire.specs.Write.{bytes_of}
 use Rattle.record_wire.specs.declared.trees.Records.{Records}
-use Rattle.record_writer.specs.Placed.{Placed, at, placed, within, fields_within}
+use Rattle.record_writer.specs.Placed.{Placed, at, placed, within_type, fields_within}
 use Rattle.record_writer.specs.Placed.{members_within, all_placed}
+use Rattle.record_writer.specs.Views.{type_in}
+use Rattle.record_writer.specs.declared.part.PartType.{PartType}
 use Rattle.record_writer.specs.Structures.{structure_of, records_of, room_of, is_too_deep}
 use Rattle.record_writer.specs.Writes.{IsRead, Grown, Refuses, Puts}
 use Rattle.record_writer.specs.declared.error.Refusal.{Refusal}
 use Rattle.record_writer.specs.declared.error.Refusal.TheVariants as refusals
-use Rattle.record_writer.proofs.Below.{below_few}
+use Rattle.record_writer.proofs.Below.{type_few}
 
 pub records_append : (ps qs : List Placed) → records_of (ps ++ qs) ≡ records_of ps ++ records_of qs
 records_append [] qs = refl
@@ -99,10 +101,10 @@ deep_refused n level ps c deep =
     any_later is_too_deep ps (at level c ∷ []) (rw (lt-ltb 61 level deep) refl)
 
 -- as many are written as lie right in a type, so that these are few
-pub few_below : (a b : Records) (l : ℕ) (t : Tree) → Grown a b (within l t) → b.count ≤ 4000000
-    → length (below (known t)) ≤ 4000000
+pub few_below : (a b : Records) (l : ℕ) (t : PartType) → Grown a b (within_type l (type_in t))
+    → b.count ≤ 4000000 → length (below (type_in t)) ≤ 4000000
 few_below a b l t g few =
-    let x = g.count in let k = below_few l t in omega (arith, x, k, few)
+    let x = g.count in let k = type_few l t in omega (arith, x, k, few)
 
 -- others behind those that are there
 pub puts_then : (a b : Records) (ps qs : List Placed) (r : Result Records Refusal) → Grown a b ps

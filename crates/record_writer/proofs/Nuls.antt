@@ -4,7 +4,8 @@ use Rattle.std.proofs.Common.{◌&&◌, List, [], ◌∷◌, ◌++◌, nat_lt, r
 use Rattle.std.specs.Prelude.{codes}
 use Rattle.std.specs.Fmt.{decimal}
 use Rattle.std.specs.Option.{unwrap_or}
-use Rattle.std.proofs.lemmas.Bool.{ne_eqb, ltb-true, and_parts}
+use Rattle.std.proofs.Common.{Option, Some, None, option_and_then, cond, inl, inr}
+use Rattle.std.proofs.lemmas.Bool.{cases_Bool, ne_eqb, ltb-true, and_parts}
 use Rattle.std.proofs.lemmas.List.Folds.{list_any-append}
 use Rattle.arrow_values.specs.Tree.{Text, Plain, null, boolean, int8, int16, int32, int64, uint8}
 use Rattle.arrow_values.specs.Tree.{uint16, uint32, uint64, float16, float32, float64, date32}
@@ -18,10 +19,12 @@ use Rattle.arrow_values.specs.declared.tree.UnionMode.TheVariants.{Sparse, Dense
 use Rattle.arrow_columns.specs.Types.{TypeTree, known, other}
 use Rattle.format_strings.specs.Numbers.{are_ids, more_ids, ids_text}
 use Rattle.format_strings.specs.Formats.{format_of, with_size, with_ids, union_front}
+use Rattle.format_strings.specs.Notations.{notation_in}
 use Rattle.format_strings.proofs.Parsed.{HasNone}
 use Rattle.format_strings.proofs.Written.{no_such}
 use Rattle.record_wire.specs.Record.{has_nul}
-use Rattle.record_writer.specs.Formats.{said_of, format_in}
+use Rattle.record_writer.specs.Formats.{said_of, said_with, without_nul, noted_format, is_leaf}
+use Rattle.record_writer.specs.Formats.{format_in}
 
 none_any : (bs : List ℕ) → HasNone 0 bs → has_nul bs ≡ false
 none_any [] h = refl
@@ -105,6 +108,16 @@ tree_none (struct fs) = refl
 tree_none (union ms mode) =
     let is = ids_of (member_list ms) in union_by mode is (are_ids [] is) refl
 
+kept_none : (o : Option Text) → has_nul (unwrap_or (without_nul o) []) ≡ false
+kept_none None = refl
+kept_none (Some text) =
+    elim (cases_Bool (has_nul text)) [ inl one ↦ rw one refl | inr none ↦ rw none none ]
+
+leaf_none : (s : Text) (b : Bool)
+    → has_nul (unwrap_or (cond b (noted_format s) None) []) ≡ false
+leaf_none s true = kept_none (option_and_then (λ p. format_of (said_with p)) (notation_in s))
+leaf_none s false = refl
+
 pub format_none : (t : TypeTree) → has_nul (unwrap_or (format_in t) []) ≡ false
 format_none (known t) = tree_none t
-format_none (other s f ids ps) = refl
+format_none (other s f ids ps) = leaf_none s (is_leaf f ids ps)

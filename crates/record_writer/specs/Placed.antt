@@ -36,7 +36,7 @@ abbrev mutual
   members_within l (member i n t b m ms) =
       (within (l + 1) t ++ at l (column_of (field_tree n t b m)) ∷ []) ++ members_within l ms
 
--- of a type that is known by its notation, nothing that lies in it
+-- of a type that is none of the 26, nothing that lies in it
 abbrev pub within_type : ℕ → TypeTree → List Placed
 within_type l (known t) = within l t
 within_type l (other s f ids ps) = []

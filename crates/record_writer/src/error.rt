@@ -53,8 +53,9 @@ pub(crate) fn refusal_of(error: WireError) -> Refusal
 #[derive(Clone, Copy, Debug, PartialEq, Eq)]
 pub enum WriteError {
     /// The type of the column with that index, or of one that lies in it, has no format string: it
-    /// is known by its notation, is a list of negative size, or a union whose type ids are not 0 to
-    /// 127, each once.
+    /// is a list of negative size, a union whose type ids are not 0 to 127, each once, or none of
+    /// the 26 data types, and more is known of it than a notation, or that is not one of a kind
+    /// which a format string says, or has a time zone with a NUL.
     Column(usize),
     /// A name in the column with that index has a NUL, at which it would end.
     Nul(usize),

@@ -7,13 +7,22 @@ ghost use Rattle.record_writer.specs.Views.{placed_in};
 use arrow_values::{DataType, Field};
 use std::collections::BTreeMap;
 
-/// A column of a data type, and in how many structures it lies.
+/// The type of a column that is lent.
+#[derive(Clone, Copy)]
+pub(crate) enum PartType<'a> {
+    /// One of the 26 data types.
+    Data(&'a DataType),
+    /// One of which nothing is known but this notation.
+    Leaf(&'a str),
+}
+
+/// A column, and in how many structures it lies.
 #[derive(Clone, Copy)]
 pub(crate) struct Part<'a> {
     /// The name.
     pub name: &'a str,
     /// The type.
-    pub data_type: &'a DataType,
+    pub data_type: PartType<'a>,
     /// Whether values may be null.
     pub nullable: bool,
     /// The metadata.
@@ -28,7 +37,7 @@ pub(crate) fn part_of(field: &Field, level: u32) -> Part<'_>
 {
     Part {
         name: field.name(),
-        data_type: field.data_type(),
+        data_type: PartType::Data(field.data_type()),
         nullable: field.is_nullable(),
         metadata: field.metadata(),
         level,

@@ -1,13 +1,13 @@
 //! Columns with all that lies in them: each record behind those of what lies in it.
 ghost use Rattle.std.specs.Prelude.{[]};
-ghost use Rattle.arrow_values.specs.View.{tree, field_trees, member_trees};
+ghost use Rattle.arrow_values.specs.View.{field_trees, member_trees};
 ghost use Rattle.arrow_columns.specs.Column.{column_of};
-ghost use Rattle.record_writer.specs.Placed.{placed, within, fields_within, members_within};
-ghost use Rattle.record_writer.specs.Views.{column_in};
+ghost use Rattle.record_writer.specs.Placed.{placed, within_type, fields_within, members_within};
+ghost use Rattle.record_writer.specs.Views.{column_in, type_in};
 ghost use Rattle.record_writer.specs.Writes.{Puts};
 
 use crate::error::Refusal;
-use crate::part::{Part, part_of};
+use crate::part::{Part, PartType, part_of};
 use crate::structure::with_column;
 use arrow_values::{DataType, Field};
 use record_wire::{LEVEL_LIMIT, Records};
@@ -37,16 +37,19 @@ fn with_field(alloc: Global, records: Records, field: &Field, level: u32) -> Wri
     with_part(alloc, records, &part_of(field, level))
 }
 
-/// Returns these records, and those of what lies in a data type, from a level on.
+/// Returns these records, and those of what lies in a type, from a level on.
 #[cycle(write)]
 pub(crate) fn with_inner(
     alloc: Global,
     records: Records,
-    data_type: &DataType,
+    data_type: PartType<'_>,
     level: u32,
 ) -> Written
-    ensures { Puts records (within level (tree data_type.now)) result }
+    ensures { Puts records (within_type level (type_in data_type.entry)) result }
 {
+    let PartType::Data(data_type) = data_type else {
+        return Ok(records);
+    };
     match data_type {
         DataType::List(field) | DataType::LargeList(field) => {
             with_field(alloc, records, field, level)

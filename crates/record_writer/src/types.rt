@@ -1,15 +1,17 @@
-//! Format strings of data types.
+//! Format strings of types.
 ghost use Rattle.std.specs.Prelude.{◌≡◌, IfOk, length, option_map, string_bytes};
 ghost use Rattle.arrow_values.specs.View.{tree};
 ghost use Rattle.arrow_values.specs.Union.{ids_of};
-ghost use Rattle.arrow_columns.specs.Types.{known};
+ghost use Rattle.arrow_columns.specs.Types.{known, leaf};
 ghost use Rattle.arrow_columns.specs.Below.{below};
 ghost use Rattle.record_writer.specs.Formats.{kind_of, ids_in, format_in};
+ghost use Rattle.record_writer.specs.Views.{type_in};
 
+use crate::part::PartType;
 use arrow_columns::ListForm;
 use arrow_kinds::Kind;
 use arrow_values::{DataType, Field};
-use format_strings::write_format;
+use format_strings::{read_notation, write_format};
 use std::alloc::{AllocError, Global};
 
 /// Returns the kind of a data type.
@@ -68,8 +70,11 @@ fn ids_in(alloc: Global, data_type: &DataType) -> Result<Vec<i8>, AllocError>
     }
 }
 
-/// Writes the format string of a data type; `None` where it has none.
-pub(crate) fn format_of(alloc: Global, data_type: &DataType) -> Result<Option<String>, AllocError>
+/// What is written, or `None` of a type that has no format string; only memory may lack.
+type Written = Result<Option<String>, AllocError>;
+
+/// Writes the format string of a data type.
+fn data_format(alloc: Global, data_type: &DataType) -> Written
     ensures { IfOk result (λ o. option_map string_bytes o
         ≡ format_in (known (tree data_type.now))) }
 {
@@ -78,11 +83,37 @@ pub(crate) fn format_of(alloc: Global, data_type: &DataType) -> Result<Option<St
     write_format(alloc, &kind, "", ids.as_slice())
 }
 
-/// Returns how many columns lie right in a data type.
-#[tactic(auto, using(crate::proofs::Below::counted))]
-pub(crate) fn count_below(data_type: &DataType) -> usize
-    ensures { result ≡ length (below (known (tree data_type.now))) }
+/// Writes the format string of the kind and the time zone whose notation that is.
+fn noted_format(alloc: Global, notation: &str) -> Written
+    ensures { IfOk result (λ o. option_map string_bytes o ≡ format_in (leaf notation.now)) }
 {
+    let Some((named, zone)) = read_notation(notation) else {
+        return Ok(None);
+    };
+    match write_format(alloc, &Kind::Named(named), zone, &[])? {
+        Some(format) if format.as_bytes().contains(&0) => Ok(None),
+        format => Ok(format),
+    }
+}
+
+/// Writes the format string of a type; `None` where it has none.
+pub(crate) fn format_of(alloc: Global, data_type: PartType<'_>) -> Written
+    ensures { IfOk result (λ o. option_map string_bytes o ≡ format_in (type_in data_type.entry)) }
+{
+    match data_type {
+        PartType::Data(data_type) => data_format(alloc, data_type),
+        PartType::Leaf(notation) => noted_format(alloc, notation),
+    }
+}
+
+/// Returns how many columns lie right in a type.
+#[tactic(auto, using(crate::proofs::Below::counted))]
+pub(crate) fn count_below(data_type: PartType<'_>) -> usize
+    ensures { result ≡ length (below (type_in data_type.entry)) }
+{
+    let PartType::Data(data_type) = data_type else {
+        return 0;
+    };
     match data_type {
         DataType::List(_) | DataType::LargeList(_) | DataType::FixedSizeList(_, _) => 1,
         DataType::Struct(fields) => fields.len(),

@@ -1,23 +1,24 @@
 //! Columns as a whole tree of records.
 ghost use Rattle.std.specs.Prelude.{◌≡◌, ◌+◌, ◌≤◌, ◌^◌, ◌∷◌, [], List, Ok, IfOk, IfErr, length};
 ghost use Rattle.std.specs.Prelude.{map};
-ghost use Rattle.arrow_columns.specs.Types.{ColumnTree};
+ghost use Rattle.arrow_columns.specs.Types.{ColumnTree, part_trees};
 ghost use Rattle.arrow_columns.specs.Column.{column_tree};
 ghost use Rattle.record_columns.specs.Columns.{column_of, columns_at, column_at};
 ghost use Rattle.record_wire.specs.Record.{structure};
 ghost use Rattle.record_wire.specs.Trees.{Adds, RefusesWhole, inner_count, whole_at};
 ghost use Rattle.arrow_columns.specs.Below.{below};
 ghost use Rattle.record_writer.specs.Placed.{placed, within_type};
+ghost use Rattle.record_writer.specs.Formats.{is_leaf};
 ghost use Rattle.record_writer.specs.Refusals.{with_index};
 ghost use Rattle.record_writer.specs.Structures.{root_of};
-ghost use Rattle.record_writer.specs.Views.{column_in, IsPartOf};
+ghost use Rattle.record_writer.specs.Views.{column_in, IsTypeOf, IsPartOf};
 ghost use Rattle.record_writer.specs.Writes.{Puts, PutsColumns, Holds, RefusesColumns};
 
 use crate::error::{Refusal, WriteError, refusal_of, with_index};
-use crate::part::Part;
+use crate::part::{Part, PartType};
 use crate::structure::{own_of, record_of};
 use crate::trees::{with_inner, with_part};
-use arrow_columns::{AnyType, SchemaColumn};
+use arrow_columns::{AnyType, Form, OtherType, SchemaColumn};
 use record_wire::{Meaning, Record, Records, WriteError as WireError};
 use std::alloc::Global;
 
@@ -30,20 +31,42 @@ impl Meaning for Columns {
     ghost value_of = { column_of };
 }
 
-/// Returns a column of a data type as one of a level; `None` of any other type.
+/// Tells whether nothing is known of a type but its notation.
+#[tactic(auto, using(crate::proofs::Below::are_no_parts))]
+fn is_leaf(other: &OtherType) -> bool
+    ensures { result ≡ is_leaf other.now.form other.now.ids.items
+        (part_trees other.now.parts.items) }
+{
+    match other.form {
+        Form::Leaf if other.ids.is_empty() => other.parts.is_empty(),
+        _ => false,
+    }
+}
+
+/// Returns a type, lent; `None` of one that is none of the 26 and of which more is known than its
+/// notation.
+fn type_in(data_type: &AnyType) -> Option<PartType<'_>>
+    ensures { IsTypeOf data_type.now result }
+{
+    match data_type {
+        AnyType::Data(data_type) => Some(PartType::Data(data_type)),
+        AnyType::Other(other) if is_leaf(other) => Some(PartType::Leaf(other.notation.as_str())),
+        AnyType::Other(_) => None,
+    }
+}
+
+/// Returns a column as one of a level; `None` as [`type_in`].
 fn part_in(column: &SchemaColumn, level: u32) -> Option<Part<'_>>
     ensures { IsPartOf column.now level result }
 {
-    match &column.data_type {
-        AnyType::Data(data_type) => Some(Part {
-            name: column.name.as_str(),
-            data_type,
-            nullable: column.nullable,
-            metadata: &column.metadata,
-            level,
-        }),
-        AnyType::Other(_) => None,
-    }
+    let data_type = type_in(&column.data_type)?;
+    Some(Part {
+        name: column.name.as_str(),
+        data_type,
+        nullable: column.nullable,
+        metadata: &column.metadata,
+        level,
+    })
 }
 
 /// Returns these records, and those of a column of a schema behind them.

@@ -1,7 +1,6 @@
 use Rattle.std.proofs.Common.{◌+◌, ◌∷◌, [], arith}
-use Rattle.arrow_values.specs.View.{tree}
-use Rattle.record_writer.specs.Placed.{within}
-use Rattle.record_writer.specs.Views.{placed_in}
+use Rattle.record_writer.specs.Placed.{within_type}
+use Rattle.record_writer.specs.Views.{type_in, placed_in}
 use Rattle.record_writer.proofs.Grows.{puts_then, few_below, field_more, field_refused}
 use Rattle.record_writer.proofs.Grows.{member_more, member_refused}
 use Rattle.record_writer.proofs.trees.+write.Goals as goal
@@ -34,11 +33,11 @@ with_members-members-preserved t c =
 pub with_part-with_column-requires : goal.with_part-with_column-requires
 with_part-with_column-requires t c =
     few_below c.args.records c.in_ok-records.records (c.args.part.now.level + 1)
-    (tree c.args.part.now.data_type.now) c.in_ok-records.ensures c.in_ok-records.records.few
+    c.args.part.now.data_type c.in_ok-records.ensures c.in_ok-records.records.few
 
 pub with_part-returns : goal.with_part-returns
 with_part-returns t c =
     puts_then c.args.records c.in_ok-records.records
-    (within (c.args.part.now.level + 1) (tree c.args.part.now.data_type.now))
+    (within_type (c.args.part.now.level + 1) (type_in c.args.part.now.data_type))
     (placed_in c.args.part.now ∷ []) c.with_column.result c.in_ok-records.ensures
     c.with_column.ensures
