@@ -208,6 +208,17 @@ uint8_t geoarrow_is_schema(uint8_t may_have_name, const struct ArrowSchema *sche
  * are unchanged. */
 uint8_t geoarrow_stream_of_schema(const struct ArrowSchema *schema, uint8_t *out, size_t out_len, size_t *len);
 
+/* The schema whose columns the lines denote, one a line, without metadata of its own (docs/FORMAT.md,
+ * 2.7 and 6): blank lines are passed over, and no lines denote a schema without columns. At DONE `*schema`
+ * is the caller's, whom nothing of it was before, to release, or to hand on, and `*len` is 0. It is one
+ * block: a child may be moved out, and each released by any thread. Where a line denotes no column, or no
+ * structures can have the columns, the line that says so (2.8), which stands in `out`; at all statuses but
+ * DONE the release callback of `*schema` is NULL.
+ * Statuses: DONE; REFUSED, with the line; SHORT, where it has no room; MEMORY, at which `out` and `*len`
+ * are unchanged. */
+uint8_t geoarrow_schema_of_lines(const uint8_t *lines, size_t lines_len, struct ArrowSchema *schema, uint8_t *out,
+                                 size_t out_len, size_t *len);
+
 #ifdef __cplusplus
 }
 #endif

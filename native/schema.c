@@ -1,8 +1,10 @@
 /* The calls of geoarrow.h on an ArrowSchema. Each copies the tree into records (records.c), hands
  * these to a proved call of the crate geoarrow_c, and frees them. What the walk came to, and in
- * which column it ended, is handed on too: the proved call makes the line that says so. */
+ * which column it ended, is handed on too: the proved call makes the line that says so. The last
+ * call makes a tree of the records that a proved call writes. */
 #include "records.h"
 #include <stdlib.h>
+#include <string.h>
 
 /* The proved calls: how the walk ended, the column in which it did, or -1, and the records. */
 uint8_t schema_report(uint8_t options, uint8_t walk, int64_t column, const uint8_t *records,
@@ -17,6 +19,8 @@ uint8_t schema_stream(uint8_t walk, int64_t column, const uint8_t *records, size
                       uint8_t *out, size_t out_len, size_t *len);
 uint8_t schema_rule(uint8_t may_have_name, uint8_t walk, const uint8_t *record, size_t record_len,
                     uint8_t *is);
+uint8_t schema_records(const uint8_t *lines, size_t lines_len, uint8_t *out, size_t out_len,
+                       size_t *len);
 
 /* A tree that was walked: `at` leads to its records, and is not NULL where there are none. */
 struct walked {
@@ -78,4 +82,26 @@ uint8_t geoarrow_stream_of_schema(const struct ArrowSchema *schema, uint8_t *out
 uint8_t geoarrow_is_schema(uint8_t may_have_name, const struct ArrowSchema *schema, uint8_t *is) {
     struct walked w = walked_by(record_of_structure, schema);
     return freed(w, schema_rule(may_have_name, w.walk, w.at, w.len, is));
+}
+
+uint8_t geoarrow_schema_of_lines(const uint8_t *lines, size_t lines_len, struct ArrowSchema *schema,
+                                 uint8_t *out, size_t out_len, size_t *len) {
+    size_t room = 4096, size = 0;
+    uint8_t is, *records = malloc(room);
+    schema->release = NULL;
+    while (records && (is = schema_records(lines, lines_len, records, room, &size)) == GEOARROW_SHORT) {
+        uint8_t *more = realloc(records, room = size);
+        if (!more) free(records);
+        records = more;
+    }
+    if (!records) return GEOARROW_MEMORY;
+    if (is == GEOARROW_DONE) {
+        if (schema_of_records(records, size, schema)) is = GEOARROW_MEMORY;
+        else *len = 0;
+    } else if (is == GEOARROW_REFUSED) {
+        if ((*len = size) > out_len) is = GEOARROW_SHORT;
+        else memcpy(out, records, size);
+    }
+    free(records);
+    return is;
 }

@@ -9,6 +9,7 @@ pub mod Same
 pub mod SchemaReports
 pub mod SchemaStreams
 pub mod SchemaLines
+pub mod SchemaRecords
 pub mod SchemaRule
 pub mod Streams
 pub mod Walks
