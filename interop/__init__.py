@@ -1,5 +1,4 @@
-"""From Arrow schemas to the lines of geoarrow_fields, and back: a package that needs only Python 3.8 and its library, and the
-package in python/ beside it, of which `Schema` is.
+"""From Arrow schemas to the lines of geoarrow_fields, and back: a package that needs only Python 3.8 and its library.
 
     lines(schema)           a line a column, of an object with `__arrow_c_schema__` or with `__arrow_c_stream__` (whose
                             rows are not read), and of the others that `structures.columns_of` names
@@ -11,11 +10,10 @@ A schema or a line that is wrong is a `SchemaError`, which is a `ValueError` and
 gives no schema is a `TypeError`, an address among them, and a file that cannot be read a `FileError`. The same names stand in `interop.arrow_lines`, which is also the command;
 `python3 -m interop` runs it too.
 """
-from .package import c_schema  # before the others, which import geoarrow_fields by its name
-from . import structures
+from . import making, structures
 from .files import layers_of_file, lines_of_file
 from .gdal_layers import FileError, Layer
+from .making import Schema, SchemaError
 from .structures import lines
-from geoarrow_fields import Schema, SchemaError
 
 __all__ = ["FileError", "Layer", "Schema", "SchemaError", "layers_of_file", "lines", "lines_of_file"]

@@ -24,8 +24,7 @@ import subprocess
 import sys
 from typing import List, Optional, Sequence, TextIO, Tuple
 
-from geoarrow_fields import SchemaError
-from geoarrow_fields.c_schema import shown
+from .making import SchemaError, shown
 
 from .files import FileError, Layer, layers_of_file
 

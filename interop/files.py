@@ -3,7 +3,7 @@ import os
 import pathlib
 from typing import Any, List, Optional, Tuple
 
-from geoarrow_fields.c_schema import shown
+from .making import shown
 from .structures import lines
 
 from . import gdal_layers

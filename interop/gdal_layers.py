@@ -9,9 +9,8 @@ import ctypes.util
 import json
 from typing import Any, Dict, Iterator, List, NamedTuple, Optional, Tuple
 
-from geoarrow_fields import SchemaError
-from geoarrow_fields.c_schema import EXTENSION_NAME, Field, shown
 from . import structures
+from .making import EXTENSION_NAME, Field, SchemaError, shown
 
 VECTOR = 4  # GDAL_OF_VECTOR; reading alone is the default
 FAILURE = 3  # CE_Failure: what is worse than a warning

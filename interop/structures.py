@@ -12,9 +12,8 @@ import json
 import re
 from typing import Any, Callable, Dict, List, Optional
 
-from geoarrow_fields.c_schema import EXTENSION_NAME, FORMATS, LISTS, ArrowSchema, release, shown, sweep
-from geoarrow_fields.refusals import SchemaError
 from . import notation
+from .making import EXTENSION_NAME, FORMATS, LISTS, ArrowSchema, SchemaError, release, shown, sweep
 
 Field = Dict[str, Any]
 

@@ -12,10 +12,9 @@ import sys
 import threading
 import unittest
 
-from . import arrow_lines, c_schema, structures
+from . import arrow_lines, making, structures
 from .structures import ArrowArrayStream, lines_of_columns
-from geoarrow_fields import SchemaError
-from geoarrow_fields.c_schema import ArrowSchema
+from .making import ArrowSchema, SchemaError
 from .testing import HERE, TOP
 
 # From the format's page "The Arrow C data interface", "Data type description".
@@ -54,8 +53,8 @@ class Producer:
 
     def __init__(self):
         self.kept, self.roots, self.children = [], 0, 0
-        self.on_root = c_schema.RELEASE(self.release_root)
-        self.on_child = c_schema.RELEASE(self.release_child)
+        self.on_root = making.RELEASE(self.release_root)
+        self.on_child = making.RELEASE(self.release_child)
 
     def release_root(self, address):
         self.roots += 1
@@ -235,16 +234,16 @@ class OutOfCapsules(unittest.TestCase):
         of_ending_capsule = ctypes.PYFUNCTYPE(ctypes.c_void_p, ctypes.c_void_p, ctypes.c_void_p)(("PyCapsule_GetPointer", ctypes.pythonapi))
 
         def end(capsule):
-            address = of_ending_capsule(capsule, ctypes.addressof(c_schema.SCHEMA_CAPSULE))
+            address = of_ending_capsule(capsule, ctypes.addressof(making.SCHEMA_CAPSULE))
             ended.append(ArrowSchema.from_address(address).release)
 
-        destructor = c_schema.RELEASE(end)
-        callback = c_schema.RELEASE(lambda address: ended.append("released"))  # and does not say so, as it should
+        destructor = making.RELEASE(end)
+        callback = making.RELEASE(lambda address: ended.append("released"))  # and does not say so, as it should
 
         class Exporter:
             def __arrow_c_schema__(self):
                 address = ctypes.addressof(root)
-                return c_schema._capsule_new(address, ctypes.addressof(c_schema.SCHEMA_CAPSULE), destructor)
+                return making._capsule_new(address, ctypes.addressof(making.SCHEMA_CAPSULE), destructor)
 
         for column, message in ((of.child("g"), None), (of.child("nonsense"), "unknown format")):
             root = of.root(column, release=None)
@@ -265,7 +264,7 @@ class Stream:
         self.of, self.status, self.said, self.asked, self.released = of, status, said, 0, 0
         self.callbacks = (
             structures.GET_SCHEMA(self.get_schema), ctypes.CFUNCTYPE(ctypes.c_void_p, ctypes.c_void_p)(self.last_error),
-            c_schema.RELEASE(self.release))
+            making.RELEASE(self.release))
         asked, error, release = (ctypes.cast(one, ctypes.c_void_p) for one in self.callbacks)
         self.stream = ArrowArrayStream(asked, None, error if said is not None else None, release, None)
 
@@ -283,7 +282,7 @@ class Stream:
         ArrowArrayStream.from_address(stream).release = None
 
     def __arrow_c_stream__(self, requested_schema=None):
-        return c_schema._capsule_new(ctypes.addressof(self.stream), ctypes.addressof(structures.STREAM_CAPSULE), None)
+        return making._capsule_new(ctypes.addressof(self.stream), ctypes.addressof(structures.STREAM_CAPSULE), None)
 
 
 class OutOfStreams(unittest.TestCase):
@@ -430,16 +429,16 @@ class Hostile(unittest.TestCase):
 
 class IntoStructures(unittest.TestCase):
     def setUp(self):
-        c_schema.sweep()
-        self.before = c_schema.held_count()
+        making.sweep()
+        self.before = making.held_count()
 
     def tearDown(self):
-        c_schema.sweep()
-        self.assertEqual(c_schema.held_count(), self.before)
+        making.sweep()
+        self.assertEqual(making.held_count(), self.before)
 
     def there_and_back(self, lines):
         self.assertEqual(arrow_lines.lines(arrow_lines.Schema(lines)), lines)
-        self.assertEqual(c_schema.held_count(), self.before)
+        self.assertEqual(making.held_count(), self.before)
 
     def test_each_kind_of_column_as_written(self):
         rows = (TOP / "crates/file_rows/data/lines/written.rows").read_text(encoding="utf-8").split("\n")
@@ -479,7 +478,7 @@ class IntoStructures(unittest.TestCase):
         kind = '{"fixed_size_list":%s,"size":2}' % FLOAT
         line = '{"metadata":{"a":"é","k":""},"name":"gé","nullable":true,"type":%s}' % kind
         given = arrow_lines.Schema([line, of_type('"null"', "", "false")]).__arrow_c_schema__()
-        root = ArrowSchema.from_address(structures._address_in(given, c_schema.SCHEMA_CAPSULE))
+        root = ArrowSchema.from_address(structures._address_in(given, making.SCHEMA_CAPSULE))
         self.assertEqual((root.format, root.name, root.flags, root.n_children), (b"+s", b"", 0, 2))
         self.assertEqual((root.metadata, root.dictionary), (None, None))
         first, second = (ArrowSchema.from_address(root.children[at]) for at in range(2))
@@ -494,29 +493,29 @@ class IntoStructures(unittest.TestCase):
 
     def test_child_moved_out_of_its_parent(self):
         given = arrow_lines.Schema([of_type('{"list":%s}' % FLOAT), of_type('"null"')]).__arrow_c_schema__()
-        root = ArrowSchema.from_address(structures._address_in(given, c_schema.SCHEMA_CAPSULE))
+        root = ArrowSchema.from_address(structures._address_in(given, making.SCHEMA_CAPSULE))
         child = structures.moved(ArrowSchema, root.children[0])
-        c_schema.release(root)
-        self.assertEqual((root.release, c_schema.held_count()), (None, self.before + 2))
+        making.release(root)
+        self.assertEqual((root.release, making.held_count()), (None, self.before + 2))
         del given
         self.assertEqual((child.format, child.name), (b"+l", b"f"))
         self.assertEqual(ArrowSchema.from_address(child.children[0]).name, b"xy")
-        c_schema.release(child)
+        making.release(child)
         self.assertIsNone(child.release)
 
     def test_capsule_that_nobody_consumes(self):
         schema = arrow_lines.Schema([of_type('{"list":%s}' % FLOAT)])
         capsule = schema.__arrow_c_schema__()
-        self.assertEqual(c_schema.held_count(), self.before + 3)
+        self.assertEqual(making.held_count(), self.before + 3)
         del schema
-        self.assertEqual(c_schema.held_count(), self.before + 3)
+        self.assertEqual(making.held_count(), self.before + 3)
         del capsule
-        c_schema.sweep()
-        self.assertEqual(c_schema.held_count(), self.before)
+        making.sweep()
+        self.assertEqual(making.held_count(), self.before)
         schema = arrow_lines.Schema([of_type('"null"')])
         for _ in range(3):  # each when the next one is given out
             schema.__arrow_c_schema__()
-            self.assertEqual(c_schema.held_count(), self.before + 2)
+            self.assertEqual(making.held_count(), self.before + 2)
 
     def test_capsule_is_consumed_once(self):
         schema = arrow_lines.Schema([of_type('"null"')])
@@ -533,20 +532,20 @@ class IntoStructures(unittest.TestCase):
 
     def test_moved_schema_outlives_its_capsule(self):
         schema = arrow_lines.Schema([of_type('"null"', "gé")])
-        ours = structures.moved(ArrowSchema, structures._address_in(schema.__arrow_c_schema__(), c_schema.SCHEMA_CAPSULE))
+        ours = structures.moved(ArrowSchema, structures._address_in(schema.__arrow_c_schema__(), making.SCHEMA_CAPSULE))
         del schema
-        self.assertEqual(c_schema.held_count(), self.before + 2)
+        self.assertEqual(making.held_count(), self.before + 2)
         self.assertEqual(ArrowSchema.from_address(ours.children[0]).name, "gé".encode())
-        c_schema.release(ours)
+        making.release(ours)
 
     def test_consumer_that_fails(self):
         schemas = [arrow_lines.Schema([of_type('"null"')])]
         with self.assertRaises(TypeError):
             int(schemas[0].__arrow_c_schema__())
-        self.assertEqual(c_schema.held_count(), self.before + 2)
+        self.assertEqual(making.held_count(), self.before + 2)
         with self.assertRaises(TypeError):
             int(schemas.pop())  # which ends with the exception under way
-        self.assertEqual(c_schema.held_count(), self.before)
+        self.assertEqual(making.held_count(), self.before)
         told = []
         sys.unraisablehook, hook = lambda one: told.append(one.exc_type), sys.unraisablehook
         try:
@@ -556,7 +555,7 @@ class IntoStructures(unittest.TestCase):
         finally:
             sys.unraisablehook = hook
         self.assertEqual(told, [])
-        c_schema.sweep()
+        making.sweep()
 
     def test_lines_that_are_refused(self):
         deep = FLOAT
@@ -593,7 +592,7 @@ class IntoStructures(unittest.TestCase):
             with self.subTest(line[:100]):
                 with self.assertRaisesRegex(SchemaError, f"column 1: .*({message})"):
                     arrow_lines.Schema([of_type('{"list":%s}' % FLOAT), line])
-                self.assertEqual(c_schema.held_count(), self.before)
+                self.assertEqual(making.held_count(), self.before)
 
     def test_several_threads(self):
         lines, wrong = [of_type('{"list":%s}' % FLOAT)] * 5, []

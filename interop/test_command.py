@@ -8,7 +8,7 @@ import json
 import subprocess
 import unittest
 
-from . import c_schema, command
+from . import command, making
 from .testing import BUILT, CHECK, PROJJSON, TOP, InAFolder, line
 
 
@@ -130,7 +130,7 @@ class Ask(InAFolder):
         lines = [line({"other": kind}) for kind in kinds]
         ran = subprocess.run([str(BUILT), "columns"], input="\n".join(lines).encode(), stdout=subprocess.PIPE)
         self.assertEqual((ran.returncode, ran.stdout), (0, b"error field\n" * len(lines)))
-        for levels, answer in ((c_schema.LEVELS, b"other\n"), (c_schema.LEVELS + 1, b"error field\n")):
+        for levels, answer in ((making.LEVELS, b"other\n"), (making.LEVELS + 1, b"error field\n")):
             field = json.loads(line("float64"))
             for _ in range(levels - 1):
                 field = json.loads(line({"list": field}))

@@ -22,13 +22,13 @@ class ArrowInvalid(ValueError, ArrowException): pass
     "parquet.py": """
 import ctypes, json
 from pyarrow import ArrowInvalid
-from interop import c_schema, structures
+from interop import making, structures
 class Schema:
     def __init__(self, text):
         self.columns = [json.loads(line) for line in text.splitlines()]
     def _export_to_c(self, address):
-        capsule = c_schema.export(self.columns)
-        moved = structures.moved(c_schema.ArrowSchema, structures._address_in(capsule, c_schema.SCHEMA_CAPSULE))
+        capsule = making.export(self.columns)
+        moved = structures.moved(making.ArrowSchema, structures._address_in(capsule, making.SCHEMA_CAPSULE))
         ctypes.memmove(address, ctypes.addressof(moved), ctypes.sizeof(moved))
 def read_schema(path):
     text = open(path).read()
@@ -39,13 +39,13 @@ def read_schema(path):
     "ipc.py": """
 from pyarrow import ArrowInvalid
 from pyarrow.parquet import Schema
-from interop import c_schema, structures
+from interop import making, structures
 import json
 class Newer:
     def __init__(self, text):
         self.columns = [json.loads(line) for line in text.splitlines()]
     def __arrow_c_schema__(self):
-        return c_schema.export(self.columns)
+        return making.export(self.columns)
 class Reader:
     def __init__(self, text):
         self.schema = Newer(text)

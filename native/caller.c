@@ -2,9 +2,10 @@
  *
  * A request is a byte for the call (0 geoarrow_answer, 1 geoarrow_run, 2 geoarrow_report, 3 geoarrow_write_schema, 4 geoarrow_same,
  * 5 geoarrow_canonical, 6 geoarrow_read_schema, 7 geoarrow_read_field, 8 geoarrow_stream_of_schema, 9 geoarrow_lines_of_schema,
- * 10 geoarrow_lines_of_field, 11 geoarrow_is_schema, whose answer is here a digit), one for the number that the call takes, if it does, the length of the name that it takes, if it does, that of its
+ * 10 geoarrow_lines_of_field, 11 geoarrow_is_schema, whose answer is here a digit, 12 geoarrow_schema_of_lines, of which the lines of
+ * what is made are written, once a child is moved out and back), one for the number that the call takes, if it does, the length of the name that it takes, if it does, that of its
  * bytes, and that of those of the other file, if it takes two, each in four bytes, the lowest first, and behind them the name and the bytes of
- * each; the bytes of the calls from 6 on describe a schema (lent.h). A command, options and a status are told by their place in the lists of the header's names below; a number past a list is sent as it is.
+ * each; the bytes of the calls from 6 to 11 describe a schema (lent.h). A command, options and a status are told by their place in the lists of the header's names below; a number past a list is sent as it is.
  *   answers  calls with room, with each size of buffer that is too small (of long texts some), and between guards; writes for each
  *            request its status in a byte (255 for a number that the header does not name), `*len` in eight, and the text
  *   faults   over the library of bin/faults: each request for memory refused, one at a time: out of memory, or the same answer
@@ -94,8 +95,25 @@ static uint8_t is_schema(const request_t *of, uint8_t *out, size_t out_len, size
     return status;
 }
 
-static const call_t CALLS[] = {answer_line, run, report, write_schema, same, canonical, read_schema, read_field, stream_of_schema, lines_of_schema, lines_of_field, is_schema};
-enum { FIRST_OF_SCHEMAS = 6 };
+/* The lines of the schema that is made, of which the last child is moved out and released behind all others. */
+static uint8_t schema_of_lines(const request_t *of, uint8_t *out, size_t out_len, size_t *len) {
+    struct ArrowSchema made = {.release = NULL}, last = {.release = NULL};
+    uint8_t status = geoarrow_schema_of_lines(of->bytes, of->size, &made, out, out_len, len);
+    if (status != GEOARROW_DONE) return made.release ? 255 : status;
+    if (*len || !made.release) return 255;
+    *len = UNSET;
+    status = geoarrow_lines_of_schema(&made, out, out_len, len);
+    if (made.n_children) {
+        last = *made.children[made.n_children - 1];
+        made.children[made.n_children - 1]->release = NULL;
+    }
+    made.release(&made);
+    if (last.release) last.release(&last);
+    return made.release || last.release ? 255 : status;
+}
+
+static const call_t CALLS[] = {answer_line, run, report, write_schema, same, canonical, read_schema, read_field, stream_of_schema, lines_of_schema, lines_of_field, is_schema, schema_of_lines};
+enum { FIRST_OF_SCHEMAS = 6, LAST_OF_SCHEMAS = 11 };
 
 /* The numbers of the header by their names, in the order of native/test. */
 static const uint8_t COMMANDS[] = {GEOARROW_READ, GEOARROW_INFER, GEOARROW_CANON, GEOARROW_COLUMNS};
@@ -274,7 +292,7 @@ static void read_requests(void) {
         of->bytes = read_bytes(of->size);
         of->other = read_bytes(of->other_size);
         const uint8_t *from = of->bytes;
-        of->schema = head[0] < FIRST_OF_SCHEMAS ? NULL : lent_schema(&from, NULL);
+        of->schema = head[0] < FIRST_OF_SCHEMAS || head[0] > LAST_OF_SCHEMAS ? NULL : lent_schema(&from, NULL);
         if (of->schema && from != of->bytes + of->size) exit(5);
     }
 }

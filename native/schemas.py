@@ -6,6 +6,7 @@ true where it is not given; `flags` in its place; `children`, a list, or null fo
 and "outermost" is the outermost one once more. An object with the key `levels` is so many structures in one another, each of these keys, the last around `children`.
 """
 import json
+import re
 import struct
 
 # The format strings of the types that a line can hold, and of others by their notation (docs/FORMAT.md, 2.1 and 3.4).
@@ -73,12 +74,25 @@ def of_column(column):
     return {**found, "name": column["name"], "nullable": column["nullable"], **metadata}
 
 
+def noted(text):
+    """The format string of an other type of this notation, where it says the type whole."""
+    size = re.fullmatch(r"fixed_size_binary\[(0|[1-9][0-9]*)\]", text)
+    decimal = re.fullmatch(r"decimal(32|64|128|256)\(([1-9][0-9]*), (0|-?[1-9][0-9]*)\)", text)
+    zoned = re.fullmatch(r"(timestamp\[(?:s|ms|us|ns)), tz=(.+)\]", text, re.DOTALL)
+    if size:
+        return f"w:{size[1]}" if int(size[1]) < 2**31 else None
+    if decimal:
+        return f"d:{decimal[2]},{decimal[3]}" + ("" if decimal[1] == "128" else f",{decimal[1]}")
+    return OTHER[f"{zoned[1]}]"] + zoned[2] if zoned else OTHER.get(text)
+
+
 def of_type(kind):
     """What the structure of a type has beside its name, or None."""
     if isinstance(kind, str):
         return {"format": PLAIN[kind]}
     if "other" in kind:
-        return {"format": OTHER[kind["other"]]} if kind["other"] in OTHER else None
+        text = noted(kind["other"])
+        return None if text is None or "\0" in text else {"format": text}
     if "union" in kind:
         ids, members = [one for one, _ in kind["union"]], [member for _, member in kind["union"]]
         text, below = f"+u{kind['mode'][0]}:{','.join(map(str, ids))}", members

@@ -9,7 +9,7 @@
     lines(schema)          the line of each column of an object of pyarrow, polars and others; `Schema(lines)` is such an object
 
 The answers are those of the proved programs `geoarrow_fields` and `geoarrow_check`, by the library that include/geoarrow.h
-declares; `lines` and `Schema` are written in Python. It needs Python 3.8 or later, and nothing else.
+declares. It needs Python 3.8 or later, and nothing else.
 """
 from typing import Any, Iterable, List, Union
 
@@ -18,7 +18,7 @@ from .columns import Column, Columns, Finding, columns_of
 from .compared import Differences, differences_of
 from .library import Command
 from .refusals import GeoArrowError, InvalidColumns, RefusedSource, SchemaError, moved, moved_lines, named
-from .schema_lines import Schema, lines
+from .schema_lines import Schema, line_bytes, lines, of_lines
 from .weights import Weights, Words
 
 __all__ = [
@@ -115,12 +115,12 @@ def canonical(source: Any) -> List[str]:
 
 def read(line: Union[str, bytes]) -> str:
     """The answer of `read` to the line of one field: its type, as `point separated XY -`, `none`, or why it is refused (docs/FORMAT.md, 2.2)."""
-    return library.answer(Command.READ, sources.line_bytes(line))
+    return library.answer(Command.READ, line_bytes(line))
 
 
 def canon(line: Union[str, bytes]) -> str:
     """The answer of `canon` to the line of one field: the line of the field as GeoArrow writes it, `none`, or why it is refused."""
-    return library.answer(Command.CANON, sources.line_bytes(line))
+    return library.answer(Command.CANON, line_bytes(line))
 
 
 def write_schema(lines: Iterable[Union[str, bytes]]) -> bytes:
@@ -131,7 +131,7 @@ def write_schema(lines: Iterable[Union[str, bytes]]) -> bytes:
     """
     if isinstance(lines, (str, bytes)):
         raise TypeError("lines are a list of texts")
-    status, found = library.stream(sources.of_lines(lines))
+    status, found = library.stream(of_lines(lines))
     if status == library.REFUSED:
         raise RefusedSource(str(found, "utf-8").rstrip("\n"))
     return found

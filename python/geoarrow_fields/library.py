@@ -163,3 +163,9 @@ def lines_of_structure(structure: int, may_have_name: bool) -> Tuple[int, str]:
     name = "geoarrow_lines_of_schema" if _is_schema(structure, may_have_name) else "geoarrow_lines_of_field"
     status, text = _called(name, [], [], _ROOM_OF_SCHEMAS, structure)
     return status, str(text, "utf-8")
+
+
+def schema_of_lines(lines: bytes, structure: int) -> Tuple[int, str]:
+    """The status of a schema that is made at an address, DONE or REFUSED, with nothing, or the line that says why. At DONE it is the caller's to release."""
+    status, text = _called("geoarrow_schema_of_lines", [], [lines], _ROOM_OF_ANSWERS, structure)
+    return status, str(text, "utf-8")

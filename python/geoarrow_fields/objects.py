@@ -5,7 +5,7 @@ A structure is read by the library of C alone, in its place. It stays its capsul
 import ctypes
 from typing import Any, Callable, Optional, TypeVar
 
-from .c_schema import ArrowSchema, SCHEMA_CAPSULE, release, shown, sweep
+from .capsules import SCHEMA_CAPSULE, ArrowSchema, release, shown, sweep
 from .refusals import SchemaError
 
 Found = TypeVar("Found")
@@ -98,8 +98,7 @@ def _of_stream(given: Any, reads: "Reads[Found]") -> Found:
     try:
         return reads(ctypes.addressof(schema), True)
     finally:
-        if schema.release:
-            release(schema)
+        release(schema)
 
 
 def _address_in(capsule: Any, name: Any) -> int:

@@ -1,10 +1,11 @@
 """Lines of a schema, and a schema of lines."""
-import json
 import sys
-from typing import Any, Callable, Iterable, List, NoReturn, Union
+from typing import Any, Callable, Iterable, List, Union
 
-from . import c_schema, library, objects
+from . import capsules, library, objects
 from .refusals import SchemaError
+
+Line = Union[str, bytes]
 
 
 def lines(schema: Any) -> List[str]:
@@ -27,35 +28,34 @@ def lines(schema: Any) -> List[str]:
 class Schema:
     """The schema whose columns stand on lines, for any library that imports Arrow's C data interface.
 
-    It takes the lines one by one, or a text with a line feed after each. It keeps nothing of what it gives out.
+    It takes the lines one by one, or a text with a line feed after each; blank lines are passed over. It keeps nothing of what it gives out.
+
+    Raises `SchemaError` where a line denotes no column, or one that no structure can have: of a type that is none of the 26 of a line, but for those that their
+    notation says whole, as `timestamp[ms]`.
     """
 
-    def __init__(self, given: Union[str, Iterable[str]]) -> None:
-        if isinstance(given, str):
-            given = given[:-1].split("\n") if given.endswith("\n") else given.split("\n") if given else []
-        self._columns = [_parsed(line, at) for at, line in enumerate(given)]
-        c_schema.refuse(self._columns)
+    def __init__(self, given: Union[str, Iterable[Line]]) -> None:
+        self._lines = given.encode("utf-8", "surrogatepass") if isinstance(given, str) else of_lines(given)
+        capsules.release(capsules.made(self._lines))
 
     def __arrow_c_schema__(self) -> Any:
         """A capsule with the schema, which is the taker's to consume."""
-        return c_schema.export(self._columns)
+        return capsules.export(self._lines)
 
-    def __del__(self, is_ending: Callable[[], bool] = sys.is_finalizing, sweep: Callable[[], None] = c_schema.sweep) -> None:
+    def __del__(self, is_ending: Callable[[], bool] = sys.is_finalizing, sweep: Callable[[], None] = capsules.sweep) -> None:
         if not is_ending():
             sweep()
 
 
-def _parsed(line: str, at: int) -> Any:
-    """The JSON of a line."""
-    def refused(text: str) -> NoReturn:
-        raise SchemaError(f"column {at}: {c_schema.shown(text)} is no JSON")
+def of_lines(given: Iterable[Line]) -> bytes:
+    """Lines as bytes, each with a line feed behind it."""
+    return b"".join(line_bytes(one) + b"\n" for one in given)
 
-    def number(text: str) -> Union[int, float]:
-        return float(text) if text == "-0" else int(text)  # -0 is not whole
 
-    try:
-        return json.loads(line, parse_constant=refused, parse_int=number)
-    except SchemaError:
-        raise
-    except (ValueError, RecursionError):
-        raise SchemaError(f"column {at}: the line is no JSON: {c_schema.shown(line)}") from None
+def line_bytes(line: Line) -> bytes:
+    """A line as bytes. A lone surrogate, which UTF-8 cannot hold, becomes bytes that are no UTF-8, and so no line."""
+    if isinstance(line, str):
+        return line.encode("utf-8", "surrogatepass")
+    if isinstance(line, (bytes, bytearray, memoryview)):
+        return bytes(line)
+    raise TypeError(f"a line is a str or bytes, not {capsules.shown(type(line).__name__)}")

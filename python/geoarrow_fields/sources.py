@@ -1,10 +1,11 @@
 """The bytes of a source that say what its columns are: of an Arrow or Parquet file its end, of a stream its first message, and all of
 lines (docs/FORMAT.md, 2.7)."""
 import os
-from typing import Any, Iterable, List, NamedTuple, Optional, Union
+from typing import Any, List, NamedTuple, Optional, Union
 
-from . import c_schema, objects
-from .schema_lines import lines
+from . import objects
+from .capsules import shown
+from .schema_lines import lines, of_lines
 
 _HEAD = 8  # bytes that tell the format; of a stream they have the size of its first message
 # How many bytes stand behind the footer: its size in four bytes, and the magic.
@@ -47,20 +48,6 @@ def is_schema_object(source: Any) -> bool:
 def file_name(path: Union[str, bytes, "os.PathLike[Any]"]) -> str:
     """The name of a file as reports have it; what is not UTF-8 is replaced."""
     return os.fsencode(path).decode("utf-8", "replace")
-
-
-def of_lines(given: Iterable[Union[str, bytes]]) -> bytes:
-    """Lines as bytes, each with a line feed behind it."""
-    return b"".join(line_bytes(one) + b"\n" for one in given)
-
-
-def line_bytes(line: Union[str, bytes]) -> bytes:
-    """A line as bytes. A lone surrogate, which UTF-8 cannot hold, becomes bytes that are no UTF-8, and so no line."""
-    if isinstance(line, str):
-        return line.encode("utf-8", "surrogatepass")
-    if isinstance(line, (bytes, bytearray, memoryview)):
-        return bytes(line)
-    raise TypeError(f"a line is a str or bytes, not {_kind(line)}")
 
 
 def _of_buffer(source: Any) -> bytes:
@@ -139,4 +126,4 @@ def _bytes_read(part: Any) -> bytes:
 
 
 def _kind(given: Any) -> str:
-    return c_schema.shown(type(given).__name__)
+    return shown(type(given).__name__)

@@ -1,9 +1,10 @@
 """What is asked of each object that gives a schema, a field or an array. Each case runs in a process of its own, whose allocator finds what is written past a
 block or used after its end: `test_objects` runs them."""
+import ctypes
 import gc
 import unittest
 
-from geoarrow_fields import GeoArrowError, Schema, SchemaError, c_schema, check, lines
+from geoarrow_fields import GeoArrowError, Schema, SchemaError, capsules, check, lines, objects
 
 from . import stand_ins
 from .stand_ins import FLOAT, POINT, SCHEMA, XY, Newer, Older, Other, Type
@@ -11,6 +12,17 @@ from .stand_ins import FLOAT, POINT, SCHEMA, XY, Newer, Older, Other, Type
 
 def line(kind, name="", metadata=""):
     return '{%s"name":"%s","nullable":true,"type":%s}' % (metadata, name, kind)
+
+
+def moved(structure):
+    """A structure of ours, to which that one is moved."""
+    ours = type(structure).from_buffer_copy(structure)
+    structure.release = None
+    return ours
+
+
+def text_at(address):
+    return ctypes.string_at(address)
 
 
 ID = Type("l", "id")
@@ -27,10 +39,10 @@ class Cases(unittest.TestCase):
     def tearDown(self):
         """What was lent is unchanged, what was given is released, each once, and nothing of ours is held."""
         gc.collect()
-        c_schema.sweep()
+        capsules.sweep()
         self.assertTrue(stand_ins.is_lent_unchanged())
         self.assertEqual(stand_ins.released, stand_ins.given)
-        self.assertEqual(c_schema.held_count(), 0)
+        self.assertEqual(len(capsules._given), 0)
 
     def refused(self, given, error, message):
         with self.assertRaisesRegex(error, message) as caught:
@@ -182,27 +194,59 @@ class Cases(unittest.TestCase):
         schema = Schema(TWO_LINES)
         for _ in range(1000):
             self.assertEqual(lines(schema), TWO_LINES)
-            self.assertEqual(c_schema.held_count(), 0)
-        self.assertLessEqual(len(c_schema._given), 1)
+            self.assertEqual(len(capsules._given), 0)
 
     def test_what_is_given_out_and_dropped(self):
         schema = Schema(TWO_LINES)
         for _ in range(1000):
             schema.__arrow_c_schema__()
-            self.assertLessEqual(c_schema.held_count(), 3)  # the last one
+            self.assertLessEqual(len(capsules._given), 1)  # the last one
         del schema
-        self.assertEqual((c_schema.held_count(), len(c_schema._given)), (0, 0))
+        self.assertEqual(len(capsules._given), 0)
 
     def test_what_others_hold(self):
         held = [Schema(TWO_LINES).__arrow_c_schema__() for _ in range(1000)]
-        self.assertEqual(c_schema.held_count(), 3000)
+        self.assertEqual(len(capsules._given), 1000)
         for one in held[::2]:
             self.assertEqual(lines(type("Gives", (), {"__arrow_c_schema__": lambda self: one})()), TWO_LINES)
-        self.assertEqual(c_schema.held_count(), 3000)
+        self.assertEqual(len(capsules._given), 1000)
         del held, one
         for _ in range(1000 // 16 + 2):
-            c_schema.sweep()
-        self.assertEqual((c_schema.held_count(), len(c_schema._given)), (0, 0))
+            capsules.sweep()
+        self.assertEqual(len(capsules._given), 0)
+
+    def test_what_a_consumer_moves_out(self):
+        """A schema, and a child of it, outlive their capsule and one another."""
+        capsule = Schema(TWO_LINES).__arrow_c_schema__()
+        schema = moved(capsules.ArrowSchema.from_address(objects._address_in(capsule, capsules.SCHEMA_CAPSULE)))
+        child = moved(capsules.ArrowSchema.from_address(ctypes.c_void_p.from_address(schema.children + 8).value))
+        del capsule
+        capsules.sweep()
+        self.assertEqual((text_at(schema.format), schema.n_children), (b"+s", 2))
+        capsules.release(schema)
+        self.assertEqual((text_at(child.format), text_at(child.name), child.flags, schema.release), (b"u", b"t", 2, None))
+        capsules.release(child)
+        capsules.release(child)  # which is released
+        self.assertIsNone(child.release)
+
+    def test_schemas_that_are_none(self):
+        for given, code, place in (
+                (["{}"], "BadLine", "line 1"), (["", "x"], "BadLine", "byte 1, line 2"), ([*TWO_LINES, '{"name":"m","nullable":true,"type":{"other":"map"}}'], "BadSchema", "column 2"),
+                ([line('"utf8"', "a\\u0000")], "BadSchema", "column 0"), ("\ud800", "BadLine", "byte 1, line 1")):
+            with self.assertRaises(SchemaError) as caught:
+                Schema(given)
+            self.assertEqual((caught.exception.code, caught.exception.place), (code, place))
+        for given in ([1], 1, None, [None]):
+            with self.assertRaises(TypeError):
+                Schema(given)
+
+    def test_forms_of_lines(self):
+        text = "\n".join(TWO_LINES)
+        for given in (text, text + "\n", "\n" + text, TWO_LINES, iter(TWO_LINES), [one.encode() for one in TWO_LINES], tuple(TWO_LINES)):
+            self.assertEqual(lines(Schema(given)), TWO_LINES)
+        for given in ("", [], "\n \n"):
+            self.assertEqual(lines(Schema(given)), [])
+        self.assertEqual(lines(Schema([' { "type" : "int8", "other": 1.5, "nullable":true, "metadata":{}, "name":"f" } \r'])), [line('"int8"', "f")])
 
     def test_a_consumer_that_fails(self):
         for _ in range(100):

@@ -2,7 +2,7 @@
 import sys
 import unittest
 
-from geoarrow_fields import SchemaError, lines
+from geoarrow_fields import lines
 
 from .shared import TOP
 from .stand_ins import POINT, XY, Other, Type
@@ -41,7 +41,7 @@ class Readers(unittest.TestCase):
         for kind in WRONG:
             for given in (kind, Type("+s", "", Type("u", "t"), kind)):
                 for reads in (lines, structures.lines):
-                    with self.subTest(form=kind.form, reads=reads), self.assertRaises(SchemaError):
+                    with self.subTest(form=kind.form, reads=reads), self.assertRaises(ValueError):
                         reads(Other.Schema(given))
 
 

@@ -314,13 +314,13 @@ class Errors(InAFolder):
         self.assertEqual(pickle.loads(pickle.dumps(error)).more, 7)
 
     def test_one_base(self):
-        """Each error has the code, the place and the path of what it says; of a schema that is made here nothing but its words."""
+        """Each error has the code, the place and the path of what it says."""
         column = {"name": "a", "nullable": True, "type": {"other": "map"}}
         for call, kind, code, place, path in (
                 (lambda: check(b""), RefusedSource, "EmptyFile", "byte 0", ()),
                 (lambda: write_schema([TEXT, json.dumps(column)]), RefusedSource, "ColumnType", "column 1", ()),
                 (lambda: check([TEXT, BROKEN], strict=True), InvalidColumns, "BadFieldCount", "column 1, at v, field", ("v",)),
-                (lambda: Schema([json.dumps(column)]), SchemaError, "BadSchema", "", ())):
+                (lambda: Schema([json.dumps(column)]), SchemaError, "BadSchema", "column 0", ())):
             with self.assertRaises(GeoArrowError) as caught:
                 call()
             error = caught.exception

@@ -1,5 +1,5 @@
 -- The schema of lines as records (docs/FORMAT.md, 2.7, 2.8 and 6).
-use Rattle.std.specs.Prelude.{◌≡◌, ◌⊎◌, List, Option, None, Some, Ok, codes}
+use Rattle.std.specs.Prelude.{◌≡◌, ◌⊎◌, List, [], Option, None, Some, Ok, codes}
 use Rattle.arrow_columns.specs.Types.{ColumnTree}
 use Rattle.arrow_values.specs.Tree.{Text}
 use Rattle.column_files.specs.Refusals.{Told}
@@ -12,26 +12,38 @@ use Rattle.record_writer.specs.declared.error.WriteError.{WriteError}
 use Rattle.record_writer.specs.declared.error.WriteError.TheVariants as errors
 use Rattle.geoarrow_c.specs.Refusals.{line_of}
 use Rattle.geoarrow_c.specs.Streams.{AreOf, IsUnread}
-use Rattle.geoarrow_c.specs.Walks.{walk_told}
+use Rattle.geoarrow_c.specs.Walks.{walk_message, walk_wanted}
 use Rattle.geoarrow_c.specs.declared.walk.WalkRule.TheVariants as rules
 
-abbrev pub schema_told : Place → Text → Text → Told
-schema_told place found expected = record {
+abbrev pub unwritten_message : WriteError → Text
+unwritten_message (errors.Column i) = codes "a type that no format string says"
+unwritten_message (errors.Nul i) = codes "a name with a byte 0"
+unwritten_message (errors.TooDeep i) = walk_message rules.Depth
+unwritten_message errors.TooLarge = walk_message rules.Size
+unwritten_message errors.OutOfMemory = []
+
+abbrev pub unwritten_wanted : WriteError → Text
+unwritten_wanted (errors.Column i) = codes "a type of Arrow's C data interface"
+unwritten_wanted (errors.Nul i) = codes "names without one, at which they would end"
+unwritten_wanted (errors.TooDeep i) = walk_wanted rules.Depth
+unwritten_wanted errors.TooLarge = walk_wanted rules.Size
+unwritten_wanted errors.OutOfMemory = []
+
+abbrev pub unwritten_at : WriteError → Place → Told
+unwritten_at error place = record {
   code = codes "BadSchema";
   place = place;
-  found = found;
-  expected = expected;
+  found = unwritten_message error;
+  expected = unwritten_wanted error;
   help = None;
 }
 
 -- why a schema has no structures; nothing where memory is all that lacks
 abbrev pub unwritten_told : WriteError → Option Told
-unwritten_told (errors.Column i) =
-    Some (schema_told (Column i) (codes "a type that no format string says") (codes "a type of Arrow's C data interface"))
-unwritten_told (errors.Nul i) =
-    Some (schema_told (Column i) (codes "a name with a byte 0") (codes "names without one, at which they would end"))
-unwritten_told (errors.TooDeep i) = Some (walk_told rules.Depth (Column i))
-unwritten_told errors.TooLarge = Some (walk_told rules.Size File)
+unwritten_told (errors.Column i) = Some (unwritten_at (errors.Column i) (Column i))
+unwritten_told (errors.Nul i) = Some (unwritten_at (errors.Nul i) (Column i))
+unwritten_told (errors.TooDeep i) = Some (unwritten_at (errors.TooDeep i) (Column i))
+unwritten_told errors.TooLarge = Some (unwritten_at errors.TooLarge File)
 unwritten_told errors.OutOfMemory = None
 
 -- the line says so

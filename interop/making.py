@@ -1,4 +1,4 @@
-"""Arrow's C data interface: `ArrowSchema` structures out of fields.
+"""Arrow's C data interface, made without the library of C: `ArrowSchema` structures out of fields.
 
 A field is here what one line of the program holds, as Python's `json` reads it: a dict of `name`, `nullable`, `type`
 and, where there is some, `metadata` (docs/FORMAT.md, 2.1). `export` makes a structure of ours in a capsule. Nothing but
@@ -10,13 +10,13 @@ move a child out of its parent. What stands in a capsule that nobody else holds 
 import collections
 import ctypes
 import itertools
+import json
 import struct
 import sys
 import threading
-from typing import Any, Callable, Deque, Dict, List, NamedTuple, Optional, Tuple
+from typing import Any, Callable, Deque, Dict, Iterable, List, NamedTuple, NoReturn, Optional, Tuple, Union
 
 from . import notation
-from .refusals import SchemaError
 
 Field = Dict[str, Any]
 
@@ -34,6 +34,10 @@ FORMATS = {
 }
 LISTS = {"list": "+l", "large_list": "+L"}
 MODES = {"dense": "+ud:", "sparse": "+us:"}
+
+
+class SchemaError(ValueError):
+    """A schema or a line that is not what it should be; the text says where and why."""
 
 
 class ArrowSchema(ctypes.Structure):
@@ -288,3 +292,40 @@ def export(columns: List[Any]) -> Any:
 def held_count() -> int:
     """How many structures of ours are not released."""
     return len(_held)
+
+
+class Schema:
+    """The schema whose columns stand on lines, for any library that imports Arrow's C data interface.
+
+    It takes the lines one by one, or a text with a line feed after each. It keeps nothing of what it gives out.
+    """
+
+    def __init__(self, given: Union[str, Iterable[str]]) -> None:
+        if isinstance(given, str):
+            given = given[:-1].split("\n") if given.endswith("\n") else given.split("\n") if given else []
+        self._columns = [_parsed(line, at) for at, line in enumerate(given)]
+        refuse(self._columns)
+
+    def __arrow_c_schema__(self) -> Any:
+        """A capsule with the schema, which is the taker's to consume."""
+        return export(self._columns)
+
+    def __del__(self, is_ending: Callable[[], bool] = sys.is_finalizing, sweep: Callable[[], None] = sweep) -> None:
+        if not is_ending():
+            sweep()
+
+
+def _parsed(line: str, at: int) -> Any:
+    """The JSON of a line."""
+    def refused(text: str) -> NoReturn:
+        raise SchemaError(f"column {at}: {shown(text)} is no JSON")
+
+    def number(text: str) -> Union[int, float]:
+        return float(text) if text == "-0" else int(text)  # -0 is not whole
+
+    try:
+        return json.loads(line, parse_constant=refused, parse_int=number)
+    except SchemaError:
+        raise
+    except (ValueError, RecursionError):
+        raise SchemaError(f"column {at}: the line is no JSON: {shown(line)}") from None
