@@ -1,6 +1,8 @@
-//! The part of arrow-schema 58 that geoarrow-schema 0.9.0 and the programs beside this folder need, with the same data
-//! structures, for a machine that reaches no package registry. Its error texts are not those of the real crate.
+//! The part of arrow-schema 58 that geoarrow-schema 0.9.0, the programs beside this folder and the tests of rust/ need, with the
+//! same data structures, for a machine that reaches no package registry. Its error texts are not those of the real crate.
 pub mod extension;
+#[cfg(feature = "ffi")]
+pub mod ffi;
 
 use extension::{ExtensionType, EXTENSION_TYPE_METADATA_KEY, EXTENSION_TYPE_NAME_KEY};
 use std::collections::HashMap;
@@ -14,6 +16,7 @@ pub enum ArrowError {
     ExternalError(Box<dyn Error + Send + Sync>),
     SchemaError(String),
     InvalidArgumentError(String),
+    CDataInterface(String),
 }
 
 impl Display for ArrowError {
@@ -22,6 +25,7 @@ impl Display for ArrowError {
             ArrowError::ExternalError(source) => write!(f, "External error: {source}"),
             ArrowError::SchemaError(text) => write!(f, "Schema error: {text}"),
             ArrowError::InvalidArgumentError(text) => write!(f, "Invalid argument error: {text}"),
+            ArrowError::CDataInterface(text) => write!(f, "C Data interface error: {text}"),
         }
     }
 }
@@ -107,7 +111,7 @@ pub struct Field {
     name: String,
     data_type: DataType,
     nullable: bool,
-    // The real field has it too, and so takes as much room.
+    // Of structures of `ffi` alone; the real field has it too, and so takes as much room.
     #[allow(dead_code)]
     dict_is_ordered: bool,
     metadata: HashMap<String, String>,
@@ -141,6 +145,11 @@ impl Field {
 
     pub fn with_metadata(mut self, metadata: HashMap<String, String>) -> Self {
         self.metadata = metadata;
+        self
+    }
+
+    pub fn with_dict_is_ordered(mut self, is_ordered: bool) -> Self {
+        self.dict_is_ordered = is_ordered;
         self
     }
 
@@ -222,6 +231,25 @@ impl From<Vec<Field>> for Fields {
 impl FromIterator<Field> for Fields {
     fn from_iter<I: IntoIterator<Item = Field>>(fields: I) -> Self {
         Fields(fields.into_iter().map(Arc::new).collect())
+    }
+}
+
+#[derive(Debug, Clone, PartialEq, Eq)]
+pub struct Schema {
+    pub fields: Fields,
+    pub metadata: HashMap<String, String>,
+}
+
+impl Schema {
+    pub fn new(fields: impl Into<Fields>) -> Self {
+        Self::new_with_metadata(fields, HashMap::new())
+    }
+
+    pub fn new_with_metadata(
+        fields: impl Into<Fields>,
+        metadata: HashMap<String, String>,
+    ) -> Self {
+        Schema { fields: fields.into(), metadata }
     }
 }
 
