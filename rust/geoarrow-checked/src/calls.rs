@@ -1,8 +1,40 @@
-//! The calls of `include/geoarrow.h` on slices: the only file with `unsafe`. Nothing compares these declarations with the header but the tests.
+//! The calls of `include/geoarrow.h` on slices, and on schemas in memory: the only file with `unsafe`. Nothing compares these declarations with the
+//! header but the tests.
 use crate::error::{error_of, Error};
+use crate::filled::{filled, DONE};
+use crate::{number_of, text, Options};
+#[cfg(feature = "arrow-schema")]
+use arrow_schema::ffi::FFI_ArrowSchema;
+use std::ffi::{c_char, c_void};
+#[cfg(feature = "arrow-schema")]
+use std::ptr;
 
-const DONE: u8 = 0;
-const SHORT: u8 = 1;
+/// A structure of Arrow's C data interface, as arrow-rs, nanoarrow, DuckDB and GDAL give it: a schema, or a column.
+///
+/// To make one, and to follow its pointers, is what that interface says (<https://arrow.apache.org/docs/format/CDataInterface.html>). Nothing is
+/// released where one is dropped: that is for its owner. A pointer to such a structure of another crate may be cast to one to this.
+#[derive(Debug)]
+#[repr(C)]
+pub struct ArrowSchema {
+    /// The type, as a text that ends in a NUL.
+    pub format: *const c_char,
+    /// The name, as a text that ends in a NUL, or NULL.
+    pub name: *const c_char,
+    /// How many entries there are, and of each the key and the text, both behind their length, all of these of four bytes; or NULL.
+    pub metadata: *const c_char,
+    /// A sum: 1 of a dictionary whose values have an order, 2 of a column that may be null, 4 of a map whose keys are sorted.
+    pub flags: i64,
+    /// How many children there are.
+    pub n_children: i64,
+    /// As many pointers to structures; it may be NULL where there are none.
+    pub children: *mut *mut ArrowSchema,
+    /// The structure of a dictionary's values, or NULL.
+    pub dictionary: *mut ArrowSchema,
+    /// What frees the structure and all below, and makes this member NULL; NULL of one that is released.
+    pub release: Option<unsafe extern "C" fn(*mut ArrowSchema)>,
+    /// What `release` needs.
+    pub private_data: *mut c_void,
+}
 
 unsafe extern "C" {
     fn geoarrow_version() -> u32;
@@ -54,6 +86,39 @@ unsafe extern "C" {
     fn geoarrow_write_schema(
         lines: *const u8,
         lines_len: usize,
+        out: *mut u8,
+        out_len: usize,
+        len: *mut usize,
+    ) -> u8;
+    fn geoarrow_read_schema(
+        options: u8,
+        schema: *const ArrowSchema,
+        out: *mut u8,
+        out_len: usize,
+        len: *mut usize,
+    ) -> u8;
+    fn geoarrow_read_field(
+        options: u8,
+        field: *const ArrowSchema,
+        out: *mut u8,
+        out_len: usize,
+        len: *mut usize,
+    ) -> u8;
+    fn geoarrow_lines_of_schema(
+        schema: *const ArrowSchema,
+        out: *mut u8,
+        out_len: usize,
+        len: *mut usize,
+    ) -> u8;
+    fn geoarrow_lines_of_field(
+        field: *const ArrowSchema,
+        out: *mut u8,
+        out_len: usize,
+        len: *mut usize,
+    ) -> u8;
+    fn geoarrow_is_schema(may_have_name: u8, schema: *const ArrowSchema, is: *mut u8) -> u8;
+    fn geoarrow_stream_of_schema(
+        schema: *const ArrowSchema,
         out: *mut u8,
         out_len: usize,
         len: *mut usize,
@@ -150,87 +215,152 @@ pub(crate) fn write_schema(lines: &[u8]) -> Result<Vec<u8>, Error> {
     })
 }
 
-/// Room at first for what is written of an input of few bytes, and at most for one of many: what is written of most is shorter.
-const LEAST: usize = 1 << 12;
-const MOST: usize = 1 << 24;
+/// A guess at half of what is written of a schema: 64 bytes for each of its columns.
+///
+/// # Safety
+///
+/// As [`check_schema`].
+unsafe fn guess_of(schema: *const ArrowSchema) -> usize {
+    // SAFETY: the caller answers for the schema; one that is released still is a structure.
+    let columns = unsafe { schema.as_ref() }.map_or(0, |it| it.n_children);
+    usize::try_from(columns).map_or(0, |count| count.saturating_mul(64))
+}
 
-/// What a call writes into room that is large enough: it is called again where the first was not, whether it answers or says why it refuses.
-fn filled(given: usize, call: impl Fn(&mut [u8], &mut usize) -> u8) -> Result<Vec<u8>, Error> {
-    let mut size = LEAST + given.saturating_mul(2).min(MOST);
-    loop {
-        let mut out = Vec::new();
-        out.try_reserve_exact(size)
-            .map_err(|_| Error::OutOfMemory)?;
-        out.resize(size, 0);
-        let mut len = 0;
-        let status = call(&mut out, &mut len);
-        if status == SHORT && len > size {
-            size = len;
-            continue;
+/// Reports what each column of a schema in memory holds, and what is found in its metadata at `geo`, as [`check`](crate::check) does of an Arrow
+/// stream of it: its columns are its children. It is read, not written to, and not released.
+///
+/// # Errors
+///
+/// [`Error::Refused`] where the schema is refused, with the code `BadSchema`, and at [`index`](crate::Finding::index) the column that is broken, if
+/// one is, or where the report would be too large; [`Error::OutOfMemory`].
+///
+/// # Safety
+///
+/// The pointer is NULL, or leads to a structure as Arrow's C data interface has it, down to its last child and dictionary: a format, a name and
+/// metadata that are not NULL lead to a text that ends in a NUL, or to metadata as long as their numbers say, and `children` to `n_children`
+/// pointers, each to a structure or NULL. Until the call returns nobody frees or writes to any of it. What else may be wrong is refused: NULL,
+/// structures that are released, wrong counts, formats and texts, circles and what is too deep.
+pub unsafe fn check_schema(schema: *const ArrowSchema, options: Options) -> Result<String, Error> {
+    // SAFETY: the caller answers for the schema.
+    let guess = unsafe { guess_of(schema) };
+    let written = filled(guess, |out, len| {
+        // SAFETY: the caller answers for the schema; `out` and `len` are as in the calls above.
+        unsafe {
+            geoarrow_read_schema(number_of(options), schema, out.as_mut_ptr(), out.len(), len)
         }
-        out.truncate(len);
-        return match status {
-            DONE => Ok(out),
-            other => Err(error_of(other, &out)),
-        };
+    });
+    written.map(text)
+}
+
+/// Reports what one column holds, whatever its format is: as [`check_schema`] does of a schema with this column alone, and without metadata.
+///
+/// # Errors
+///
+/// As [`check_schema`]; the index is 0.
+///
+/// # Safety
+///
+/// As [`check_schema`].
+pub unsafe fn check_field(field: *const ArrowSchema, options: Options) -> Result<String, Error> {
+    let written = filled(0, |out, len| {
+        // SAFETY: as in `check_schema`.
+        unsafe { geoarrow_read_field(number_of(options), field, out.as_mut_ptr(), out.len(), len) }
+    });
+    written.map(text)
+}
+
+/// Returns the columns of a schema in memory as lines (docs/FORMAT.md, 2.7), in their order, each with a line feed behind it. Its own metadata are
+/// not told.
+///
+/// # Errors
+///
+/// [`Error::Refused`] where the schema is refused, as by [`check_schema`]; [`Error::OutOfMemory`].
+///
+/// # Safety
+///
+/// As [`check_schema`].
+pub unsafe fn schema_lines(schema: *const ArrowSchema) -> Result<String, Error> {
+    // SAFETY: the caller answers for the schema.
+    let guess = unsafe { guess_of(schema) };
+    let written = filled(guess, |out, len| {
+        // SAFETY: as in `check_schema`.
+        unsafe { geoarrow_lines_of_schema(schema, out.as_mut_ptr(), out.len(), len) }
+    });
+    written.map(text)
+}
+
+/// Returns the line of one column in memory, whatever its format is, without a line feed.
+///
+/// # Errors
+///
+/// As [`schema_lines`]; the index is 0.
+///
+/// # Safety
+///
+/// As [`check_schema`].
+pub unsafe fn field_line(field: *const ArrowSchema) -> Result<String, Error> {
+    let written = filled(0, |out, len| {
+        // SAFETY: as in `check_schema`.
+        unsafe { geoarrow_lines_of_field(field, out.as_mut_ptr(), out.len(), len) }
+    });
+    let mut line = text(written?);
+    if line.ends_with('\n') {
+        line.pop();
+    }
+    Ok(line)
+}
+
+/// Tells whether a structure is to be read as a schema, where what gives it gives schemas and columns alike: whether it has the format `+s`, no
+/// dictionary, no extension name in its metadata and, unless it may have one, as the first of a stream may, no name. Of a structure that is refused
+/// it is so: [`check_schema`] says why.
+///
+/// # Errors
+///
+/// [`Error::OutOfMemory`].
+///
+/// # Safety
+///
+/// As [`check_schema`]. (Nothing that lies in the structure is looked at.)
+pub unsafe fn is_schema(schema: *const ArrowSchema, may_have_name: bool) -> Result<bool, Error> {
+    let mut is = 0;
+    // SAFETY: the caller answers for the schema; `is` is borrowed mutably.
+    match unsafe { geoarrow_is_schema(u8::from(may_have_name), schema, &mut is) } {
+        DONE => Ok(is == 1),
+        other => Err(error_of(other, b"")),
     }
 }
 
-#[cfg(test)]
-mod tests {
-    use super::{filled, DONE, LEAST, SHORT};
-    use crate::Error;
-    use std::cell::Cell;
+/// Returns an Arrow stream of a schema in memory, with its metadata, which all calls on bytes take (docs/FORMAT.md, 2.7 and 3.6). It has the schema
+/// alone: no batches, and no mark of the stream's end.
+///
+/// # Errors
+///
+/// [`Error::Refused`] where the schema is refused, as by [`check_schema`], or no message can hold it; [`Error::OutOfMemory`].
+///
+/// # Safety
+///
+/// As [`check_schema`].
+pub unsafe fn schema_stream(schema: *const ArrowSchema) -> Result<Vec<u8>, Error> {
+    // SAFETY: the caller answers for the schema.
+    let guess = unsafe { guess_of(schema) };
+    filled(guess, |out, len| {
+        // SAFETY: as in `check_schema`.
+        unsafe { geoarrow_stream_of_schema(schema, out.as_mut_ptr(), out.len(), len) }
+    })
+}
 
-    /// What is made of a call that has this status and text, and how often it is called.
-    fn made(status: u8, text: &[u8]) -> (Result<Vec<u8>, Error>, usize) {
-        let calls = Cell::new(0);
-        let found = filled(0, |out, len| {
-            calls.set(calls.get() + 1);
-            *len = text.len();
-            match out.get_mut(..text.len()) {
-                Some(front) => front.copy_from_slice(text),
-                None => return SHORT,
-            }
-            status
-        });
-        (found, calls.get())
-    }
+#[cfg(feature = "arrow-schema")]
+const _: () = assert!(size_of::<FFI_ArrowSchema>() == size_of::<ArrowSchema>());
 
-    #[test]
-    fn an_answer_that_needs_more_room() {
-        for (size, times) in [(0, 1), (LEAST, 1), (LEAST + 1, 2), (9 * LEAST, 2)] {
-            let text = vec![b'a'; size];
-            assert_eq!(made(DONE, &text), (Ok(text), times));
-        }
-    }
+// SAFETY, of the two calls below: an FFI_ArrowSchema is the structure of Arrow's C data interface, with the nine members of an ArrowSchema. Its members
+// are arrow-rs' own: a safe program cannot change them, and it is borrowed for the call.
 
-    #[test]
-    fn a_refusal_that_needs_more_room() {
-        for (size, times) in [(1, 1), (LEAST, 2), (9 * LEAST, 2)] {
-            let name = "n".repeat(size);
-            let line = format!(
-                "{{\"kind\":\"finding\",\"severity\":\"error\",\"code\":\"C\",\"file\":\"{name}\",\"expected\":\"e\"}}\n"
-            );
-            let (Err(Error::Refused(finding)), called) = made(5, line.as_bytes()) else {
-                panic!("not refused");
-            };
-            assert_eq!((finding.file(), called), (Some(&*name), times));
-            assert_eq!(finding.as_json(), line.trim_end());
-        }
-    }
+#[cfg(feature = "arrow-schema")]
+pub(crate) fn check_arrow(schema: &FFI_ArrowSchema, options: Options) -> Result<String, Error> {
+    unsafe { check_schema(ptr::from_ref(schema).cast(), options) }
+}
 
-    #[test]
-    fn a_refusal_that_is_not_read() {
-        assert_eq!(made(5, b"is empty\n"), (Err(Error::Other(5)), 1));
-        assert_eq!(made(5, &[0xff; 2 * LEAST]), (Err(Error::Other(5)), 2));
-    }
-
-    #[test]
-    fn other_statuses() {
-        assert_eq!(made(2, b""), (Err(Error::OutOfMemory), 1));
-        assert_eq!(made(4, b""), (Err(Error::Limit), 1));
-        assert_eq!(made(3, b""), (Err(Error::Other(3)), 1));
-        assert_eq!(made(SHORT, b""), (Err(Error::Other(1)), 1)); // (a call that asks for no more than it has)
-    }
+#[cfg(feature = "arrow-schema")]
+pub(crate) fn arrow_line(field: &FFI_ArrowSchema) -> Result<String, Error> {
+    unsafe { field_line(ptr::from_ref(field).cast()) }
 }

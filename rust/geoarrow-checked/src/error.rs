@@ -17,6 +17,8 @@ pub enum Error {
     FirstRefused(Finding),
     /// A line of a report that this crate cannot read.
     Line(String),
+    /// What arrow-rs says where it makes no structure of a schema or a field; of the module `arrow` alone.
+    Arrow(String),
     /// A status that this crate does not know, or 5 or 6 with a line that it cannot read.
     Other(u8),
 }
@@ -52,6 +54,7 @@ impl Display for Error {
             Error::Refused(finding) => finding.fmt(f),
             Error::FirstRefused(finding) => write!(f, "the first file: {finding}"),
             Error::Line(line) => write!(f, "a line that is not read: {line}"),
+            Error::Arrow(text) => f.write_str(text),
             Error::Other(status) => write!(f, "status {status}"),
         }
     }
@@ -108,6 +111,7 @@ mod tests {
                 "the first file: error[C] line 7: found f; expected e",
             ),
             (Error::Line("{}".into()), "a line that is not read: {}"),
+            (Error::Arrow("Schema error: s".into()), "Schema error: s"),
             (Error::Other(3), "status 3"),
         ] {
             assert_eq!(error.to_string(), words);

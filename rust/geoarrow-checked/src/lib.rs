@@ -13,7 +13,8 @@
 //!
 //! # What a program owes
 //!
-//! No slice can break what is owed for the arguments. Of a program is asked that a thread which calls has 256 KiB of stack left, as those of
+//! No slice can break what is owed for the arguments; the calls on a schema in memory, by its pointer, are `unsafe`, and say what is owed for it. With
+//! the feature `arrow-schema` the module `arrow` makes them of arrow-rs' fields and schemas, and is safe. Of a program is asked that a thread which calls has 256 KiB of stack left, as those of
 //! `std` have by default, that no call is made from a signal handler or from the forked child of a process with threads, and that
 //! `malloc`, `realloc` and `free` of the program are those of one allocator. Nothing is kept from call to call: any number of threads may call.
 #![forbid(unsafe_op_in_unsafe_fn)]
@@ -22,12 +23,16 @@
 mod calls;
 mod error;
 mod facts;
+mod filled;
 mod finding;
 mod members;
 
 #[cfg(feature = "arrow-schema")]
 pub mod arrow;
 
+pub use calls::{
+    check_field, check_schema, field_line, is_schema, schema_lines, schema_stream, ArrowSchema,
+};
 pub use error::Error;
 pub use facts::{column_facts, Facts, Source, Verdict};
 pub use finding::{bad_lines, column_findings, findings, Finding, Severity};

@@ -207,11 +207,9 @@ fn a_report_that_is_too_large() {
 fn options_and_their_numbers() {
     let crs = r#"{"metadata":{"ARROW:extension:metadata":"{\"crs\":{\"a\":0.5}}","ARROW:extension:name":"geoarrow.wkb"},"name":"g","nullable":true,"type":"binary"}"#;
     for (infer, notes) in [(false, false), (true, false), (false, true), (true, true)] {
-        let report = geoarrow_checked::check(
-            format!("{WKT}\n{crs}").as_bytes(),
-            Options { infer, notes },
-        )
-        .unwrap();
+        let report =
+            geoarrow_checked::check(format!("{WKT}\n{crs}").as_bytes(), Options { infer, notes })
+                .unwrap();
         assert_eq!(report.contains(r#""state":"inferred""#), infer);
         assert_eq!(report.contains(r#""code":"CrsNotWhole""#), notes);
     }

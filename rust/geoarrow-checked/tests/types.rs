@@ -214,7 +214,7 @@ fn each_type_has_a_row() {
 fn the_line_of_each_type() {
     for (rows, is_held) in [(held(), true), (others(), false)] {
         for (kind, text) in rows {
-            let found = field_line(&field("f", kind.clone(), true));
+            let found = field_line(&field("f", kind.clone(), true)).unwrap();
             assert_eq!(found, line(is_held, text), "{kind:?}");
             // a field without a GeoArrow name, or no field
             let wanted = if is_held { "none" } else { "error field" };
@@ -229,7 +229,7 @@ fn other_types_anywhere_below() {
         let inner = field("o", kind, false);
         let list = List(field("l", LargeList(inner), true));
         let wanted = line(false, &format!("list<l: large_list<o: {text} not null>>"));
-        assert_eq!(field_line(&field("f", list, true)), wanted);
+        assert_eq!(field_line(&field("f", list, true)), Ok(wanted));
     }
 }
 

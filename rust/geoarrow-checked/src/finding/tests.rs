@@ -50,8 +50,7 @@ fn the_keys_of_what_is_refused() {
     assert_eq!(finding.found(), Some("eight"));
     assert_eq!((finding.expected(), finding.help()), ("nine", Some("ten")));
     assert_eq!(finding.as_json(), REFUSED);
-    let words =
-        "error[One] column 3, four, byte 5, line 6: found eight; expected nine. ten";
+    let words = "error[One] column 3, four, byte 5, line 6: found eight; expected nine. ten";
     assert_eq!(finding.to_string(), words); // (how many more there are is said behind all of these)
     let no_line = Finding::of_line(&REFUSED.replacen(r#""line":6,"#, "", 1)).unwrap();
     let words = words.replacen("line 6", "and 11 more", 1);
