@@ -1,10 +1,12 @@
-//! The report and the lines of fields and schemas of arrow-rs, which makes of each the structure that the calls read.
+//! The report and the lines of fields and schemas of arrow-rs, which makes of each the structure
+//! that the calls read.
 use crate::{calls, Error, Options};
 use arrow_schema::ffi::FFI_ArrowSchema;
 use arrow_schema::{ArrowError, Field, Fields, Schema};
 use std::panic::{catch_unwind, UnwindSafe};
 
-/// Reports what each of these fields holds, as columns of a schema without metadata: as [`check`](crate::check) does; nothing of no fields.
+/// Reports what each of these fields holds, as columns of a schema without metadata: as
+/// [`check`](crate::check) does; nothing of no fields.
 ///
 /// # Errors
 ///
@@ -17,18 +19,20 @@ pub fn check_fields<'a>(
     check_arrow_schema(&Schema::new(fields), options)
 }
 
-/// Reports what each column of a schema holds, and what is found in its metadata at `geo`: as [`check`](crate::check) does of an Arrow stream of it.
+/// Reports what each column of a schema holds, and what is found in its metadata at `geo`: as
+/// [`check`](crate::check) does of an Arrow stream of it.
 ///
 /// # Errors
 ///
-/// [`Error::Refused`] where the library refuses the schema, as where one of its columns nests too deep, at whose index it is, and where the report
-/// would be too large; [`Error::Arrow`] where arrow-rs makes no structure of it; [`Error::OutOfMemory`].
+/// [`Error::Refused`] where the library refuses the schema, as where one of its columns nests too
+/// deep, at whose index it is, and where the report would be too large; [`Error::Arrow`] where
+/// arrow-rs makes no structure of it; [`Error::OutOfMemory`].
 pub fn check_arrow_schema(schema: &Schema, options: Options) -> Result<String, Error> {
     calls::check_arrow(&made(|| schema.try_into())?, options)
 }
 
-/// Returns the line of a field (docs/FORMAT.md, 2.1 and 2.7). A type that is none of the 26 of docs/FORMAT.md, 1.1, or has one anywhere below, is
-/// there the notation of the type (3.4).
+/// Returns the line of a field (docs/FORMAT.md, 2.1 and 2.7). A type that is none of the 26 of
+/// docs/FORMAT.md, 1.1, or has one anywhere below, is there the notation of the type (3.4).
 ///
 /// # Errors
 ///
@@ -37,7 +41,8 @@ pub fn field_line(field: &Field) -> Result<String, Error> {
     calls::arrow_line(&made(|| field.try_into())?)
 }
 
-/// Makes a structure. arrow-rs panics at a name or a time zone with a NUL, which no structure holds.
+/// Makes a structure. arrow-rs panics at a name or a time zone with a NUL, which no structure
+/// holds.
 fn made(
     make: impl FnOnce() -> Result<FFI_ArrowSchema, ArrowError> + UnwindSafe,
 ) -> Result<FFI_ArrowSchema, Error> {

@@ -1,5 +1,5 @@
-//! The calls of `include/geoarrow.h` on slices, and on schemas in memory: the only file with `unsafe`. Nothing compares these declarations with the
-//! header but the tests.
+//! The calls of `include/geoarrow.h` on slices, and on schemas in memory: the only file with
+//! `unsafe`. Nothing compares these declarations with the header but the tests.
 use crate::error::{error_of, Error};
 use crate::filled::{filled, DONE};
 use crate::{number_of, text, Options};
@@ -9,10 +9,13 @@ use std::ffi::{c_char, c_void};
 #[cfg(feature = "arrow-schema")]
 use std::ptr;
 
-/// A structure of Arrow's C data interface, as arrow-rs, nanoarrow, DuckDB and GDAL give it: a schema, or a column.
+/// A structure of Arrow's C data interface, as arrow-rs, nanoarrow, DuckDB and GDAL give it: a
+/// schema, or a column.
 ///
-/// To make one, and to follow its pointers, is what that interface says (<https://arrow.apache.org/docs/format/CDataInterface.html>). Nothing is
-/// released where one is dropped: that is for its owner. A pointer to such a structure of another crate may be cast to one to this.
+/// To make one, and to follow its pointers, is what that interface says
+/// (<https://arrow.apache.org/docs/format/CDataInterface.html>). Nothing is released where one is
+/// dropped: that is for its owner. A pointer to such a structure of another crate may be cast to
+/// one to this.
 #[derive(Debug)]
 #[repr(C)]
 pub struct ArrowSchema {
@@ -20,9 +23,11 @@ pub struct ArrowSchema {
     pub format: *const c_char,
     /// The name, as a text that ends in a NUL, or NULL.
     pub name: *const c_char,
-    /// How many entries there are, and of each the key and the text, both behind their length, all of these of four bytes; or NULL.
+    /// How many entries there are, and of each the key and the text, both behind their length, all
+    /// of these of four bytes; or NULL.
     pub metadata: *const c_char,
-    /// A sum: 1 of a dictionary whose values have an order, 2 of a column that may be null, 4 of a map whose keys are sorted.
+    /// A sum: 1 of a dictionary whose values have an order, 2 of a column that may be null, 4 of a
+    /// map whose keys are sorted.
     pub flags: i64,
     /// How many children there are.
     pub n_children: i64,
@@ -30,7 +35,8 @@ pub struct ArrowSchema {
     pub children: *mut *mut ArrowSchema,
     /// The structure of a dictionary's values, or NULL.
     pub dictionary: *mut ArrowSchema,
-    /// What frees the structure and all below, and makes this member NULL; NULL of one that is released.
+    /// What frees the structure and all below, and makes this member NULL; NULL of one that is
+    /// released.
     pub release: Option<unsafe extern "C" fn(*mut ArrowSchema)>,
     /// What `release` needs.
     pub private_data: *mut c_void,
@@ -130,8 +136,10 @@ pub(crate) fn version() -> u32 {
     unsafe { geoarrow_version() }
 }
 
-// SAFETY, of the six calls below: the pointers and lengths are those of slices, of a text and of a `usize` that are borrowed for the call. None is null,
-// also of an empty one, and none of them is longer than `isize::MAX`. `out` and `len` are borrowed mutably, so they overlap nothing, and nobody else uses them.
+// SAFETY, of the six calls below: the pointers and lengths are those of slices, of a text and of a
+// `usize` that are borrowed for the call. None is null, also of an empty one, and none of them is
+// longer than `isize::MAX`. `out` and `len` are borrowed mutably, so they overlap nothing, and
+// nobody else uses them.
 
 pub(crate) fn answer(command: u8, line: &[u8]) -> Result<Vec<u8>, Error> {
     filled(line.len(), |out, len| unsafe {
@@ -226,20 +234,24 @@ unsafe fn guess_of(schema: *const ArrowSchema) -> usize {
     usize::try_from(columns).map_or(0, |count| count.saturating_mul(64))
 }
 
-/// Reports what each column of a schema in memory holds, and what is found in its metadata at `geo`, as [`check`](crate::check) does of an Arrow
-/// stream of it: its columns are its children. It is read, not written to, and not released.
+/// Reports what each column of a schema in memory holds, and what is found in its metadata at
+/// `geo`, as [`check`](crate::check) does of an Arrow stream of it: its columns are its children.
+/// It is read, not written to, and not released.
 ///
 /// # Errors
 ///
-/// [`Error::Refused`] where the schema is refused, with the code `BadSchema`, and at [`index`](crate::Finding::index) the column that is broken, if
-/// one is, or where the report would be too large; [`Error::OutOfMemory`].
+/// [`Error::Refused`] where the schema is refused, with the code `BadSchema`, and at
+/// [`index`](crate::Finding::index) the column that is broken, if one is, or where the report would
+/// be too large; [`Error::OutOfMemory`].
 ///
 /// # Safety
 ///
-/// The pointer is NULL, or leads to a structure as Arrow's C data interface has it, down to its last child and dictionary: a format, a name and
-/// metadata that are not NULL lead to a text that ends in a NUL, or to metadata as long as their numbers say, and `children` to `n_children`
-/// pointers, each to a structure or NULL. Until the call returns nobody frees or writes to any of it. What else may be wrong is refused: NULL,
-/// structures that are released, wrong counts, formats and texts, circles and what is too deep.
+/// The pointer is NULL, or leads to a structure as Arrow's C data interface has it, down to its
+/// last child and dictionary: a format, a name and metadata that are not NULL lead to a text that
+/// ends in a NUL, or to metadata as long as their numbers say, and `children` to `n_children`
+/// pointers, each to a structure or NULL. Until the call returns nobody frees or writes to any of
+/// it. What else may be wrong is refused: NULL, structures that are released, wrong counts, formats
+/// and texts, circles and what is too deep.
 pub unsafe fn check_schema(schema: *const ArrowSchema, options: Options) -> Result<String, Error> {
     // SAFETY: the caller answers for the schema.
     let guess = unsafe { guess_of(schema) };
@@ -252,7 +264,8 @@ pub unsafe fn check_schema(schema: *const ArrowSchema, options: Options) -> Resu
     written.map(text)
 }
 
-/// Reports what one column holds, whatever its format is: as [`check_schema`] does of a schema with this column alone, and without metadata.
+/// Reports what one column holds, whatever its format is: as [`check_schema`] does of a schema with
+/// this column alone, and without metadata.
 ///
 /// # Errors
 ///
@@ -269,8 +282,8 @@ pub unsafe fn check_field(field: *const ArrowSchema, options: Options) -> Result
     written.map(text)
 }
 
-/// Returns the columns of a schema in memory as lines (docs/FORMAT.md, 2.7), in their order, each with a line feed behind it. Its own metadata are
-/// not told.
+/// Returns the columns of a schema in memory as lines (docs/FORMAT.md, 2.7), in their order, each
+/// with a line feed behind it. Its own metadata are not told.
 ///
 /// # Errors
 ///
@@ -310,9 +323,10 @@ pub unsafe fn field_line(field: *const ArrowSchema) -> Result<String, Error> {
     Ok(line)
 }
 
-/// Tells whether a structure is to be read as a schema, where what gives it gives schemas and columns alike: whether it has the format `+s`, no
-/// dictionary, no extension name in its metadata and, unless it may have one, as the first of a stream may, no name. Of a structure that is refused
-/// it is so: [`check_schema`] says why.
+/// Tells whether a structure is to be read as a schema, where what gives it gives schemas and
+/// columns alike: whether it has the format `+s`, no dictionary, no extension name in its metadata
+/// and, unless it may have one, as the first of a stream may, no name. Of a structure that is
+/// refused it is so: [`check_schema`] says why.
 ///
 /// # Errors
 ///
@@ -330,12 +344,14 @@ pub unsafe fn is_schema(schema: *const ArrowSchema, may_have_name: bool) -> Resu
     }
 }
 
-/// Returns an Arrow stream of a schema in memory, with its metadata, which all calls on bytes take (docs/FORMAT.md, 2.7 and 3.6). It has the schema
-/// alone: no batches, and no mark of the stream's end.
+/// Returns an Arrow stream of a schema in memory, with its metadata, which all calls on bytes take
+/// (docs/FORMAT.md, 2.7 and 3.6). It has the schema alone: no batches, and no mark of the stream's
+/// end.
 ///
 /// # Errors
 ///
-/// [`Error::Refused`] where the schema is refused, as by [`check_schema`], or no message can hold it; [`Error::OutOfMemory`].
+/// [`Error::Refused`] where the schema is refused, as by [`check_schema`], or no message can hold
+/// it; [`Error::OutOfMemory`].
 ///
 /// # Safety
 ///
@@ -352,8 +368,9 @@ pub unsafe fn schema_stream(schema: *const ArrowSchema) -> Result<Vec<u8>, Error
 #[cfg(feature = "arrow-schema")]
 const _: () = assert!(size_of::<FFI_ArrowSchema>() == size_of::<ArrowSchema>());
 
-// SAFETY, of the two calls below: an FFI_ArrowSchema is the structure of Arrow's C data interface, with the nine members of an ArrowSchema. Its members
-// are arrow-rs' own: a safe program cannot change them, and it is borrowed for the call.
+// SAFETY, of the two calls below: an FFI_ArrowSchema is the structure of Arrow's C data interface,
+// with the nine members of an ArrowSchema. Its members are arrow-rs' own: a safe program cannot
+// change them, and it is borrowed for the call.
 
 #[cfg(feature = "arrow-schema")]
 pub(crate) fn check_arrow(schema: &FFI_ArrowSchema, options: Options) -> Result<String, Error> {

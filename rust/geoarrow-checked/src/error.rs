@@ -17,7 +17,8 @@ pub enum Error {
     FirstRefused(Finding),
     /// A line of a report that this crate cannot read.
     Line(String),
-    /// What arrow-rs says where it makes no structure of a schema or a field; of the module `arrow` alone.
+    /// What arrow-rs says where it makes no structure of a schema or a field; of the module `arrow`
+    /// alone.
     Arrow(String),
     /// A status that this crate does not know, or 5 or 6 with a line that it cannot read.
     Other(u8),

@@ -70,13 +70,15 @@ impl Display for Verdict {
     }
 }
 
-/// What counts of the CRS, the edges and the encoding of a column, which source says it, and what the other sources say against it (docs/FORMAT.md,
-/// 2.5 and 5.7). A column that holds no geometries has none of these.
+/// What counts of the CRS, the edges and the encoding of a column, which source says it, and what
+/// the other sources say against it (docs/FORMAT.md, 2.5 and 5.7). A column that holds no
+/// geometries has none of these.
 #[derive(Debug, Clone, PartialEq, Eq, Hash, Default)]
 pub struct Facts {
     /// The source of the CRS, where one says it.
     pub crs_from: Option<Source>,
-    /// Whether a source says that the CRS is not known. The CRS itself stands in the line, at `crs`.
+    /// Whether a source says that the CRS is not known. The CRS itself stands in the line, at
+    /// `crs`.
     pub is_crs_unknown: bool,
     /// The type of the CRS, as `projjson`.
     pub crs_type: Option<String>,
@@ -152,7 +154,7 @@ fn verdicts(object: &str) -> Option<Vec<(String, Source, Verdict)>> {
     Some(found)
 }
 
-/// What counts of a column, of which this is the line of a report.
+/// Returns what counts of a column, of which this is the line of a report.
 ///
 /// ```
 /// use geoarrow_checked::{check, column_facts, Options, Source};

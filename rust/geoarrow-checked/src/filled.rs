@@ -5,11 +5,13 @@ use crate::error::{error_of, Error};
 pub(crate) const DONE: u8 = 0;
 const SHORT: u8 = 1;
 
-/// Room at first for what is written of an input of few bytes, and at most for one of many: what is written of most is shorter.
+/// Room at first for what is written of an input of few bytes, and at most for one of many: what is
+/// written of most is shorter.
 const LEAST: usize = 1 << 12;
 const MOST: usize = 1 << 24;
 
-/// What a call writes into room that is large enough: it is called again where the first was not, whether it answers or says why it refuses.
+/// What a call writes into room that is large enough: it is called again where the first was not,
+/// whether it answers or says why it refuses.
 pub(crate) fn filled(
     given: usize,
     call: impl Fn(&mut [u8], &mut usize) -> u8,

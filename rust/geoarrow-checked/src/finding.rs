@@ -36,8 +36,10 @@ impl Display for Severity {
     }
 }
 
-/// What is found in a file or in one of its columns, or why a file is refused or a line no column: a code with its severity, the place, what stands there,
-/// what is expected, and what helps (docs/FORMAT.md, 2.8 and 5.1). It is shown as `geoarrow_check` shows it behind the name of a file, or below a column.
+/// What is found in a file or in one of its columns, or why a file is refused or a line no column:
+/// a code with its severity, the place, what stands there, what is expected, and what helps
+/// (docs/FORMAT.md, 2.8 and 5.1). It is shown as `geoarrow_check` shows it behind the name of a
+/// file, or below a column.
 #[derive(Debug, Clone, PartialEq, Eq, Hash)]
 pub struct Finding(Box<Said>);
 
@@ -116,91 +118,98 @@ impl Finding {
         Finding::read(Some(line).filter(|it| it.starts_with(FINDING))?)
     }
 
-    /// How much it weighs.
+    /// Returns how much it weighs.
     #[must_use]
     pub fn severity(&self) -> Severity {
         self.0.severity
     }
 
-    /// The code, as `GeoEncoding` or `Truncated`.
+    /// Returns the code, as `GeoEncoding` or `Truncated`.
     #[must_use]
     pub fn code(&self) -> &str {
         &self.0.code
     }
 
-    /// The name of the file, where one was given; none of what is found in a column, whose line has it.
+    /// Returns the name of the file, where one was given; none of what is found in a column, whose
+    /// line has it.
     #[must_use]
     pub fn file(&self) -> Option<&str> {
         self.0.others.file.as_deref()
     }
 
-    /// The place of the column in its schema, from 0, where it is one that is not written.
+    /// Returns the place of the column in its schema, from 0, where it is one that is not written.
     #[must_use]
     pub fn index(&self) -> Option<u64> {
         self.0.others.index
     }
 
-    /// The name of the column, where something of the file is of one; none of what [`column_findings`] gives, whose line has it.
+    /// Returns the name of the column, where something of the file is of one; none of what
+    /// [`column_findings`] gives, whose line has it.
     #[must_use]
     pub fn column(&self) -> Option<&str> {
         self.0.others.column.as_deref()
     }
 
-    /// The names of the child fields down from the column; empty where it is of the column itself, or of none.
+    /// Returns the names of the child fields down from the column; empty where it is of the column
+    /// itself, or of none.
     #[must_use]
     pub fn path(&self) -> &[String] {
         &self.0.others.path
     }
 
-    /// The part of the file in which it stands, as `footer`, `geo` or `extension metadata`, where that is said.
+    /// Returns the part of the file in which it stands, as `footer`, `geo` or `extension metadata`,
+    /// where that is said.
     #[must_use]
     pub fn source(&self) -> Option<&str> {
         self.0.others.source.as_deref()
     }
 
-    /// The JSON pointer (RFC 6901) into that part; empty for all of it.
+    /// Returns the JSON pointer (RFC 6901) into that part; empty for all of it.
     #[must_use]
     pub fn pointer(&self) -> Option<&str> {
         self.0.others.pointer.as_deref()
     }
 
-    /// The byte of that part, from 0, where one tells the place; of a line from 1.
+    /// Returns the byte of that part, from 0, where one tells the place; of a line from 1.
     #[must_use]
     pub fn byte(&self) -> Option<u64> {
         self.0.others.byte
     }
 
-    /// The number of the line, from 1, where one is refused or no column.
+    /// Returns the number of the line, from 1, where one is refused or no column.
     #[must_use]
     pub fn line(&self) -> Option<u64> {
         self.0.others.line
     }
 
-    /// What stands there, where something does, as a value in JSON; cut behind 120 characters.
+    /// Returns what stands there, where something does, as a value in JSON; cut behind 120
+    /// characters.
     #[must_use]
     pub fn found(&self) -> Option<&str> {
         self.0.others.found.as_deref()
     }
 
-    /// What is expected there, in words.
+    /// Returns what is expected there, in words.
     #[must_use]
     pub fn expected(&self) -> &str {
         &self.0.expected
     }
 
-    /// What helps, in words, where there is something to say.
+    /// Returns what helps, in words, where there is something to say.
     #[must_use]
     pub fn help(&self) -> Option<&str> {
         self.0.others.help.as_deref()
     }
 
-    /// How many more of its code there are that are not told one by one; of a line that is no column, how many more are none.
+    /// Returns how many more of its code there are that are not told one by one; of a line that is
+    /// no column, how many more are none.
     #[must_use]
     pub fn more(&self) -> u64 {
         self.0.others.more
     }
 
-    /// All of this as the object of JSON that `geoarrow_check --json` prints: a line without its line feed, or of a column a part of its line.
+    /// Returns all of this as the object of JSON that `geoarrow_check --json` prints: a line
+    /// without its line feed, or of a column a part of its line.
     #[must_use]
     pub fn as_json(&self) -> &str {
         &self.0.json
@@ -260,9 +269,10 @@ fn texts(array: &str) -> Option<Vec<String>> {
     items(array)?.into_iter().map(of).collect()
 }
 
-/// What is found in a file beside its columns: the findings of a report that [`check`](crate::check) or [`check_named`](crate::check_named)
-/// gave, in their order, but for those of lines that are no columns, which [`bad_lines`] reads. Its other lines are those of columns, whose own
-/// [`column_findings`] reads.
+/// Returns what is found in a file beside its columns: the findings of a report that
+/// [`check`](crate::check) or [`check_named`](crate::check_named) gave, in their order, but for
+/// those of lines that are no columns, which [`bad_lines`] reads. Its other lines are those of
+/// columns, whose own [`column_findings`] reads.
 ///
 /// ```
 /// use geoarrow_checked::{findings, Severity};
@@ -285,8 +295,9 @@ pub fn findings(report: &str) -> Result<Vec<Finding>, Error> {
     Ok(found)
 }
 
-/// Why lines are no columns: those of a report that [`check`](crate::check) or [`check_named`](crate::check_named) gave of a file of lines, in their
-/// order, at most 100; the last says how many more there are. The other lines of such a file are its columns.
+/// Returns why lines are no columns: those of a report that [`check`](crate::check) or
+/// [`check_named`](crate::check_named) gave of a file of lines, in their order, at most 100; the
+/// last says how many more there are. The other lines of such a file are its columns.
 ///
 /// ```
 /// use geoarrow_checked::{bad_lines, check, Options};
@@ -316,7 +327,8 @@ fn behind(report: &str) -> Result<Vec<Finding>, Error> {
         .collect()
 }
 
-/// What is found in a column, of which this is the line of a report: its `findings`, in the order of their codes, why the column is invalid among them. They do not name the column.
+/// Returns what is found in a column, of which this is the line of a report: its `findings`, in the
+/// order of their codes, why the column is invalid among them. They do not name the column.
 ///
 /// ```
 /// use geoarrow_checked::{check, column_findings, Options};
@@ -332,7 +344,8 @@ fn behind(report: &str) -> Result<Vec<Finding>, Error> {
 ///
 /// # Errors
 ///
-/// [`Error::Line`] with the line, where it is not that of a column, or one of its findings is not read.
+/// [`Error::Line`] with the line, where it is not that of a column, or one of its findings is not
+/// read.
 pub fn column_findings(line: &str) -> Result<Vec<Finding>, Error> {
     read_column(line).ok_or_else(|| unread(line))
 }

@@ -1,5 +1,6 @@
-//! What each column of an Arrow schema holds of GeoArrow's geometry types, and why it is invalid: safe Rust over the calls that
-//! `include/geoarrow.h` declares, whose code is proved. `docs/FORMAT.md` has the lines, answers and reports.
+//! What each column of an Arrow schema holds of GeoArrow's geometry types, and why it is invalid:
+//! safe Rust over the calls that `include/geoarrow.h` declares, whose code is proved.
+//! `docs/FORMAT.md` has the lines, answers and reports.
 //!
 //! ```
 //! use geoarrow_checked::{answer, check, Command, Options};
@@ -13,10 +14,13 @@
 //!
 //! # What a program owes
 //!
-//! No slice can break what is owed for the arguments; the calls on a schema in memory, by its pointer, are `unsafe`, and say what is owed for it. With
-//! the feature `arrow-schema` the module `arrow` makes them of arrow-rs' fields and schemas, and is safe. Of a program is asked that a thread which calls has 256 KiB of stack left, as those of
-//! `std` have by default, that no call is made from a signal handler or from the forked child of a process with threads, and that
-//! `malloc`, `realloc` and `free` of the program are those of one allocator. Nothing is kept from call to call: any number of threads may call.
+//! No slice can break what is owed for the arguments; the calls on a schema in memory, by its
+//! pointer, are `unsafe`, and say what is owed for it. With the feature `arrow-schema` the module
+//! `arrow` makes them of arrow-rs' fields and schemas, and is safe. Of a program is asked that a
+//! thread which calls has 256 KiB of stack left, as those of `std` have by default, that no call is
+//! made from a signal handler or from the forked child of a process with threads, and that
+//! `malloc`, `realloc` and `free` of the program are those of one allocator. Nothing is kept from
+//! call to call: any number of threads may call.
 #![forbid(unsafe_op_in_unsafe_fn)]
 #![deny(missing_docs)]
 
@@ -43,7 +47,8 @@ pub use finding::{bad_lines, column_findings, findings, Finding, Severity};
 pub enum Command {
     /// The type that the field says it holds.
     Read = 0,
-    /// The same, and a type that is inferred from the data type where the field has no extension name.
+    /// The same, and a type that is inferred from the data type where the field has no extension
+    /// name.
     Infer = 1,
     /// The line of the field as GeoArrow writes it.
     Canon = 2,
@@ -51,7 +56,8 @@ pub enum Command {
     Columns = 3,
 }
 
-/// The answer to one line, without line feeds (docs/FORMAT.md, 2.1 and 2.2). A line that is no field has an answer too: `error field`.
+/// Returns the answer to one line, without line feeds (docs/FORMAT.md, 2.1 and 2.2). A line that is
+/// no field has an answer too: `error field`.
 ///
 /// # Errors
 ///
@@ -60,11 +66,12 @@ pub fn answer(command: Command, line: &[u8]) -> Result<String, Error> {
     calls::answer(command as u8, line).map(text)
 }
 
-/// The answers to all lines of an input, each with a line feed behind it.
+/// Returns the answers to all lines of an input, each with a line feed behind it.
 ///
 /// # Errors
 ///
-/// [`Error::Limit`] where there are more than 1,000,000 lines, or one has more than 1,048,576 bytes; [`Error::OutOfMemory`].
+/// [`Error::Limit`] where there are more than 1,000,000 lines, or one has more than 1,048,576
+/// bytes; [`Error::OutOfMemory`].
 pub fn run(command: Command, input: &[u8]) -> Result<String, Error> {
     calls::run(command as u8, input).map(text)
 }
@@ -78,9 +85,12 @@ pub struct Options {
     pub notes: bool,
 }
 
-/// The report of a file, from its bytes: a line of JSON for each of its columns, and behind them one for each line that is no column (2.8), and for
-/// each finding beside these, as in the footer and the GeoParquet metadata of a Parquet file, each with a line feed behind it (docs/FORMAT.md, 2.5
-/// to 2.7, 5.1). [`findings`] and [`column_findings`] read what is found, and [`bad_lines`] which lines are no columns. An Arrow file (Feather), an Arrow stream, a Parquet file and lines are told apart by their first bytes.
+/// Reports what a file holds, from its bytes: a line of JSON for each of its columns, and behind
+/// them one for each line that is no column (2.8), and for each finding beside these, as in the
+/// footer and the GeoParquet metadata of a Parquet file, each with a line feed behind it
+/// (docs/FORMAT.md, 2.5 to 2.7, 5.1). [`findings`] and [`column_findings`] read what is found, and
+/// [`bad_lines`] which lines are no columns. An Arrow file (Feather), an Arrow stream, a Parquet
+/// file and lines are told apart by their first bytes.
 ///
 /// # Errors
 ///
@@ -89,7 +99,8 @@ pub fn check(bytes: &[u8], options: Options) -> Result<String, Error> {
     check_named("", bytes, options)
 }
 
-/// The same, with the name of the file in each line, and in the [`Finding`] where the file is refused. An empty name is none.
+/// Reports the same, with the name of the file in each line, and in the [`Finding`] where the file
+/// is refused. An empty name is none.
 ///
 /// ```
 /// use geoarrow_checked::{check_named, Error, Options};
@@ -113,11 +124,13 @@ fn number_of(options: Options) -> u8 {
     u8::from(options.infer) | u8::from(options.notes) << 1
 }
 
-/// In what the columns of a file are not those of the first, from the bytes of both, as `geoarrow_check --same` tells it (docs/FORMAT.md, 2.9): a
-/// [`Finding`] for each difference, first of the columns of the other file, in their order, then of those that it lacks; none where nothing
-/// differs. A column is compared with that of its name in the first file, the second of a name with the second: by its type, its encoding, its
-/// edges and its CRS. Types that are inferred are compared where the options ask for them, and a CRS of which nothing tells whether it is that of
-/// the first file is a note. Of lines, those that are no columns are passed over.
+/// Compares the columns of a file with those of the first, from the bytes of both, as
+/// `geoarrow_check --same` does (docs/FORMAT.md, 2.9), and gives a [`Finding`] for each difference,
+/// first of the columns of the other file, in their order, then of those that it lacks; none where
+/// nothing differs. A column is compared with that of its name in the first file, the second of a
+/// name with the second: by its type, its encoding, its edges and its CRS. Types that are inferred
+/// are compared where the options ask for them, and a CRS of which nothing tells whether it is that
+/// of the first file is a note. Of lines, those that are no columns are passed over.
 ///
 /// ```
 /// use geoarrow_checked::{same, Error, Options};
@@ -134,13 +147,14 @@ fn number_of(options: Options) -> u8 {
 ///
 /// # Errors
 ///
-/// [`Error::FirstRefused`] where the first file is refused, and [`Error::Refused`] where the other is, with why and where;
-/// [`Error::OutOfMemory`].
+/// [`Error::FirstRefused`] where the first file is refused, and [`Error::Refused`] where the other
+/// is, with why and where; [`Error::OutOfMemory`].
 pub fn same(first: &[u8], other: &[u8], options: Options) -> Result<Vec<Finding>, Error> {
     same_named(first, "", other, options)
 }
 
-/// The same, with the name of the other file in each [`Finding`], also in the one where it is refused. An empty name is none.
+/// Compares the same, with the name of the other file in each [`Finding`], also in the one where it
+/// is refused. An empty name is none.
 ///
 /// # Errors
 ///
@@ -154,11 +168,13 @@ pub fn same_named(
     findings(&text(calls::same(number_of(options), first, name, other)?))
 }
 
-/// The columns of a file in normal form, from its bytes, as lines, each with a line feed, in their order, as `geoarrow_check --canonical --lines` prints
-/// them (docs/FORMAT.md, 2.10): a column that holds geometries by its extension name with the data type, the extension name and the metadata that
-/// GeoArrow writes for them, and any other as it is. The columns are those of [`check`], of a GeoParquet file by its metadata, where no types
-/// are inferred; what is found in them is not told. [`write_schema`] makes an Arrow stream of the lines. Of lines, those that are no columns are
-/// left out.
+/// Returns the columns of a file in normal form, from its bytes, as lines, each with a line feed,
+/// in their order, as `geoarrow_check --canonical --lines` prints them (docs/FORMAT.md, 2.10): a
+/// column that holds geometries by its extension name with the data type, the extension name and
+/// the metadata that GeoArrow writes for them, and any other as it is. The columns are those of
+/// [`check`], of a GeoParquet file by its metadata, where no types are inferred; what is found in
+/// them is not told. [`write_schema`] makes an Arrow stream of the lines. Of lines, those that are
+/// no columns are left out.
 ///
 /// ```
 /// use geoarrow_checked::{canonical, write_schema};
@@ -178,18 +194,19 @@ pub fn canonical(source: &[u8]) -> Result<String, Error> {
     Ok(text(calls::canonical(source)?))
 }
 
-/// An Arrow stream of the schema whose columns the lines denote, one a line (docs/FORMAT.md, 2.7 and 3.6). It has the schema alone: no
-/// batches, and no mark of the stream's end.
+/// Returns an Arrow stream of the schema whose columns the lines denote, one a line
+/// (docs/FORMAT.md, 2.7 and 3.6). It has the schema alone: no batches, and no mark of the stream's
+/// end.
 ///
 /// # Errors
 ///
-/// [`Error::Refused`] where a line is no column, where no message can hold the type of a column, and where the message would be too large;
-/// [`Error::OutOfMemory`].
+/// [`Error::Refused`] where a line is no column, where no message can hold the type of a column,
+/// and where the message would be too large; [`Error::OutOfMemory`].
 pub fn write_schema(lines: &[u8]) -> Result<Vec<u8>, Error> {
     calls::write_schema(lines)
 }
 
-/// The version of the library that is linked, as 20000 for 2.0.0.
+/// Returns the version of the library that is linked, as 20000 for 2.0.0.
 #[must_use]
 pub fn version() -> u32 {
     calls::version()
