@@ -1,5 +1,5 @@
 //! The report and the lines of fields and schemas of arrow-rs, which makes of each the structure
-//! that the calls read.
+//! that the calls read. It does so by recursion, so it needs stack for each level of a type.
 use crate::{calls, Error, Options};
 use arrow_schema::ffi::FFI_ArrowSchema;
 use arrow_schema::{ArrowError, Field, Fields, Schema};
@@ -26,7 +26,8 @@ pub fn check_fields<'a>(
 ///
 /// [`Error::Refused`] where the library refuses the schema, as where one of its columns nests too
 /// deep, at whose index it is, and where the report would be too large; [`Error::Arrow`] where
-/// arrow-rs makes no structure of it; [`Error::OutOfMemory`].
+/// arrow-rs makes no structure of it, as of a name with a NUL, at which it panics (that is caught,
+/// but its panic hook speaks); [`Error::OutOfMemory`].
 pub fn check_arrow_schema(schema: &Schema, options: Options) -> Result<String, Error> {
     calls::check_arrow(&made(|| schema.try_into())?, options)
 }
@@ -48,6 +49,11 @@ fn made(
 ) -> Result<FFI_ArrowSchema, Error> {
     match catch_unwind(make) {
         Ok(made) => made.map_err(|error| Error::Arrow(error.to_string())),
-        Err(_) => Err(Error::Arrow("a panic, as at a name with a NUL".into())),
+        Err(_) => Err(Error::Arrow(
+            "arrow-rs panics, as at a name with a NUL".into(),
+        )),
     }
 }
+
+#[cfg(test)]
+mod tests;

@@ -229,8 +229,11 @@ pub(crate) fn write_schema(lines: &[u8]) -> Result<Vec<u8>, Error> {
 ///
 /// As [`check_schema`].
 unsafe fn guess_of(schema: *const ArrowSchema) -> usize {
-    // SAFETY: the caller answers for the schema; one that is released still is a structure.
-    let columns = unsafe { schema.as_ref() }.map_or(0, |it| it.n_children);
+    if schema.is_null() {
+        return 0;
+    }
+    // SAFETY: the caller answers for the schema; of one that is released nothing else is read.
+    let columns = unsafe { (*schema).release.map_or(0, |_| (*schema).n_children) };
     usize::try_from(columns).map_or(0, |count| count.saturating_mul(64))
 }
 

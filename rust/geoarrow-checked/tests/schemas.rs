@@ -72,75 +72,72 @@ fn a_schema_and_its_column() {
     assert_eq!(RELEASED.load(Ordering::SeqCst), 0);
 }
 
+type Change = fn(&mut ArrowSchema);
+
+/// Each call refuses a column, and a schema whose second column it is, because of what is found.
+fn are_refused(column: *const ArrowSchema, found: &str) {
+    let mut first = text_column();
+    let mut children = [&raw mut first, column.cast_mut()];
+    let schema = structure(c"+s", None, &mut children);
+    let options = Options {
+        infer: true,
+        notes: true,
+    };
+    for (index, error) in unsafe {
+        [
+            (1, check_schema(&schema, options).unwrap_err()),
+            (1, schema_lines(&schema).unwrap_err()),
+            (1, schema_stream(&schema).unwrap_err()),
+            (0, check_field(column, options).unwrap_err()),
+            (0, field_line(column).unwrap_err()),
+        ]
+    } {
+        let why = refused::<()>(Err(error));
+        assert_eq!((why.code(), why.found()), ("BadSchema", Some(found)));
+        assert_eq!(why.index(), Some(index), "{found}");
+    }
+}
+
 #[test]
 fn refused_structures() {
-    let whole = text_column;
-    let without_release = ArrowSchema {
-        release: None,
-        ..whole()
-    };
-    let without_format = ArrowSchema {
-        format: ptr::null(),
-        ..whole()
-    };
-    let fewer_than_none = ArrowSchema {
-        n_children: -1,
-        ..whole()
-    };
-    let no_list = ArrowSchema {
-        n_children: 1,
-        children: ptr::null_mut(),
-        ..whole()
-    };
-    let unknown = structure(c"!", None, &mut []);
-    let wrong = metadata(b"k", b"")[..4]
-        .iter()
-        .map(|_| 0xff)
-        .collect::<Vec<u8>>();
-    let negative = ArrowSchema {
-        metadata: wrong.as_ptr().cast(),
-        ..whole()
-    };
-    let mut circle = Box::new(structure(c"+l", None, &mut []));
-    let mut itself = [&raw mut *circle];
-    circle.n_children = 1;
-    circle.children = itself.as_mut_ptr();
-    for (column, found) in [
-        (ptr::null(), "a structure that is NULL"),
-        (&raw const without_release, "a structure that is released"),
-        (&raw const without_format, "a format that is NULL"),
+    let changes: [(Change, &str); 7] = [
+        (|it| it.release = None, "a structure that is released"),
+        (|it| it.format = ptr::null(), "a format that is NULL"),
+        (|it| it.format = c"!".as_ptr(), "an unknown type"),
         (
-            &raw const fewer_than_none,
+            |it| it.format = c"i\xff".as_ptr(),
+            "a text that is not UTF-8",
+        ),
+        (
+            |it| it.n_children = -1,
             "a number of children that is negative, or more than 2^28",
         ),
-        (&raw const no_list, "children that are NULL"),
-        (&raw const unknown, "an unknown type"),
-        (&raw const negative, "a negative number in metadata"),
-        (&raw const *circle, "structures that are nested too deep"),
-    ] {
-        let mut first = whole();
-        let mut children = [&raw mut first, column.cast_mut()];
-        let schema = structure(c"+s", None, &mut children);
-        let options = Options {
-            infer: true,
-            notes: true,
-        };
-        for (index, error) in unsafe {
-            [
-                (1, check_schema(&schema, options).unwrap_err()),
-                (1, schema_lines(&schema).unwrap_err()),
-                (1, schema_stream(&schema).unwrap_err()),
-                (0, check_field(column, options).unwrap_err()),
-                (0, field_line(column).unwrap_err()),
-            ]
-        } {
-            let why = refused::<()>(Err(error));
-            assert_eq!((why.code(), why.found()), ("BadSchema", Some(found)));
-            assert_eq!(why.index(), Some(index), "{found}");
-        }
+        (
+            |it| (it.n_children, it.children) = (1, ptr::null_mut()),
+            "children that are NULL",
+        ),
+        (
+            |it| it.metadata = c"\xff\xff\xff\xff".as_ptr(),
+            "a negative number in metadata",
+        ),
+    ];
+    for (change, found) in changes {
+        let mut column = text_column();
+        change(&mut column);
+        are_refused(&column, found);
     }
+    are_refused(ptr::null(), "a structure that is NULL");
     let of_null = refused(unsafe { check_schema(ptr::null(), Options::default()) });
     assert_eq!((of_null.code(), of_null.index()), ("BadSchema", None));
+}
+
+#[test]
+fn a_circle_is_refused() {
+    let mut circle = structure(c"+l", None, &mut []);
+    let mut itself = [&raw mut circle];
+    circle.n_children = 1;
+    circle.children = itself.as_mut_ptr();
+    are_refused(&raw const circle, "structures that are nested too deep");
 }
 
 #[test]
