@@ -19,8 +19,12 @@ use Rattle.column_reports.specs.FileReport.{Reports}
 use Rattle.column_reports.specs.declared.report.Options.{Options}
 use Rattle.geoarrow_fields.specs.Lines.{Bytes}
 use Rattle.geoarrow_c.specs.Buffer.{Makes}
+use Rattle.record_columns.specs.Columns.{columns_at}
+use Rattle.record_writer.specs.Writes.{RefusesColumns as RefusesRecords}
+use Rattle.record_writer.specs.declared.error.WriteError as records
 use Rattle.geoarrow_c.specs.Refusals.{IsLineOfFile, IsLineOfSchema, IsUnopened}
 use Rattle.geoarrow_c.specs.Reports.{options_number, name_if, IsReport, IsRefusal}
+use Rattle.geoarrow_c.specs.SchemaRecords.{AreRecords, AreUnrecorded, IsLineOfRecords}
 use Rattle.geoarrow_c.specs.Streams.{IsStream, IsUnwritten}
 
 -- a text that was filled in was made
@@ -81,5 +85,25 @@ is_unwritten {error = error} columns entries read none refused is = record {
   error = error;
   denoted = (columns, read, refl);
   refused = subst (λ es. RefusesColumns 61 error (map column_tree columns.items) (schema_room (of_entries (map column_tree columns.items) es))) none refused;
+  is = is;
+}
+
+-- the records of lines, whose columns are lent
+pub are_records : {lines text written : Bytes} {given : List SchemaColumn} (columns : Vec SchemaColumn Global) → AreLinesRead lines (Ok columns) → given ≡ columns.items
+    → columns_at written ≡ Ok (map column_tree given) → text ≡ written → AreRecords lines text
+are_records {written = written} columns read lent denotes same = record {
+  columns = map column_tree columns.items;
+  denoted = (columns, read, refl);
+  are = subst (λ b. columns_at b ≡ Ok (map column_tree columns.items)) (sym same) (subst (λ cs. columns_at written ≡ Ok (map column_tree cs)) lent denotes);
+}
+
+-- the line of lines whose columns no structures can have
+pub are_unrecorded : {lines line : Bytes} {given : List SchemaColumn} (error : records.WriteError) (columns : Vec SchemaColumn Global) → AreLinesRead lines (Ok columns)
+    → given ≡ columns.items → RefusesRecords error 1 48 1 (map column_tree given) → IsLineOfRecords error line → AreUnrecorded lines line
+are_unrecorded error columns read lent refused is = record {
+  columns = map column_tree columns.items;
+  error = error;
+  denoted = (columns, read, refl);
+  refused = subst (λ cs. RefusesRecords error 1 48 1 (map column_tree cs)) lent refused;
   is = is;
 }

@@ -8,7 +8,6 @@ use Rattle.geoarrow_c.specs.Canonical as columns
 use Rattle.geoarrow_c.specs.Records.{Schema}
 use Rattle.geoarrow_c.specs.Refusals.{line_of}
 use Rattle.geoarrow_c.specs.SchemaStreams.{IsOfWalk}
-use Rattle.geoarrow_c.specs.Walks.{walk_number}
 use Rattle.geoarrow_c.specs.declared.records.Refusal.{Refusal}
 use Rattle.geoarrow_c.specs.declared.records.Refusal.TheVariants as refusals
 use Rattle.geoarrow_c.specs.declared.walk.Walk.{Walk}

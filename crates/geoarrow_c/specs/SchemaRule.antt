@@ -15,9 +15,9 @@ or_refused (Err fault) = true
 
 -- what is told of the structure of a record over which the walk ended so; nothing where memory was lacking
 abbrev pub told_schema : Bool → Bytes → Walk → Option Bool
-told_schema may_have_name record Done = Some (or_refused (is_schema_at may_have_name record))
-told_schema may_have_name record (Broken rule) = Some true
-told_schema may_have_name record OutOfMemory = None
+told_schema may_have_name bytes Done = Some (or_refused (is_schema_at may_have_name bytes))
+told_schema may_have_name bytes (Broken rule) = Some true
+told_schema may_have_name bytes OutOfMemory = None
 
 -- that is what a number says, 1 for a schema
 pub record Tells (may_have_name : ℕ) (bytes : Bytes) (ended is : ℕ) : Type 0 where
@@ -25,4 +25,4 @@ pub record Tells (may_have_name : ℕ) (bytes : Bytes) (ended is : ℕ) : Type 0
   pub told : Bool
   pub walk_is : ended ≡ walk_number walk
   pub is_told : told_schema (not (may_have_name == 0)) bytes walk ≡ Some told
-  pub is : is ≡ bool_byte told
+  pub is_number : is ≡ bool_byte told

@@ -105,7 +105,11 @@ fn normal_if(
 }
 
 /// Adds the line of a column, with its line feed. Errs only when out of memory.
-pub(crate) fn add_line(alloc: Global, lines: &mut String, column: SchemaColumn) -> Result<(), AllocError>
+pub(crate) fn add_line(
+    alloc: Global,
+    lines: &mut String,
+    column: SchemaColumn,
+) -> Result<(), AllocError>
     ensures { OnOk result (string_bytes lines.new ≡ string_bytes lines.old ++ line_of (column_tree column)) }
 {
     let line = column_line(alloc, column)?;

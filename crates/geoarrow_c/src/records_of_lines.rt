@@ -60,12 +60,7 @@ fn refuse_records(alloc: Global, error: WriteError, out: &mut [u8], len: &mut us
 /// where `out` is too small for what would stand there: it is then unchanged, and `len` says what
 /// is needed; 2 when out of memory, with both unchanged.
 #[unsafe(no_mangle)]
-pub extern "C" fn schema_records(
-    alloc: Global,
-    lines: &[u8],
-    out: &mut [u8],
-    len: &mut usize,
-) -> u8
+pub extern "C" fn schema_records(alloc: Global, lines: &[u8], out: &mut [u8], len: &mut usize) -> u8
     ensures done { result ≡ 0 → Makes (AreRecords lines.now) len.new (λ records. Fills records out.old out.new) }
     ensures refused { result ≡ 5 → Makes (AreNoRecords lines.now) len.new (λ line. Fills line out.old out.new) }
     ensures short { result ≡ 1 → Makes (λ text. AreRecords lines.now text ⊎ AreNoRecords lines.now text) len.new (λ text. Lacks text out.old out.new) }

@@ -12,13 +12,13 @@ use std::alloc::{AllocError, Global};
 fn is_schema_in(
     alloc: Global,
     may_have_name: bool,
-    record: &[u8],
+    bytes: &[u8],
     walk: Walk,
 ) -> Result<bool, AllocError>
-    ensures { IfOk result (λ is. told_schema may_have_name record.now walk ≡ Some is) }
+    ensures { IfOk result (λ is. told_schema may_have_name bytes.now walk ≡ Some is) }
 {
     match walk {
-        Walk::Done => match is_schema(alloc, record, may_have_name) {
+        Walk::Done => match is_schema(alloc, bytes, may_have_name) {
             Ok(is) => Ok(is),
             Err(RecordsError::Fault(_)) => Ok(true),
             Err(RecordsError::OutOfMemory) => Err(AllocError),
@@ -28,7 +28,7 @@ fn is_schema_in(
     }
 }
 
-/// Tells by the record of one structure, over which the walk ended so, whether it is that of a
+/// Tells by the record of one structure, which the bytes are, over which the walk ended so, whether it is that of a
 /// schema (docs/FORMAT.md, 6.6): writes 1 to `is` if it is, or is refused, and 0 if it is that of a
 /// column. That of a schema may have a name where `may_have_name` is not 0.
 ///
@@ -39,10 +39,10 @@ pub extern "C" fn schema_rule(
     alloc: Global,
     may_have_name: u8,
     walk: u8,
-    record: &[u8],
+    bytes: &[u8],
     is: &mut u8,
 ) -> u8
-    ensures done { result ≡ 0 → Tells may_have_name record.now walk is.new }
+    ensures done { result ≡ 0 → Tells may_have_name bytes.now walk is.new }
     ensures unchanged { (result ≡ 2) ⊎ (result ≡ 3) → is.new ≡ is.old }
     ensures unknown { (result ≡ 3) ↔ (9 < walk) }
     ensures status { (result ≡ 0) ⊎ (result ≡ 2) ⊎ (result ≡ 3) }
@@ -50,7 +50,7 @@ pub extern "C" fn schema_rule(
     let Some(walk) = walk_of(walk) else {
         return UNKNOWN;
     };
-    match is_schema_in(alloc, may_have_name != 0, record, walk) {
+    match is_schema_in(alloc, may_have_name != 0, bytes, walk) {
         Ok(found) => {
             *is = if found { 1 } else { 0 };
             DONE
