@@ -3,7 +3,7 @@
 use Rattle.std.specs.Prelude.{◌≡◌, ℕ, ◌-◌, ◌/◌, ◌%◌, Bool, true, not, ◌&&◌, List, [], length}
 use Rattle.std.specs.Prelude.{Option, Some, None, Result, Ok, Err, codes, bytes_eq, ◌==◌}
 use Rattle.std.specs.Prelude.{if◌then◌else◌}
-use Rattle.arrow_values.specs.Tree.{Metadata}
+use Rattle.arrow_values.specs.Tree.{Text, Metadata}
 use Rattle.arrow_values.specs.declared.tree.DataType.{DataType}
 use Rattle.arrow_values.specs.declared.tree.DataType.TheVariants.{Int8, Int16, Int32, Int64, UInt8}
 use Rattle.arrow_values.specs.declared.tree.DataType.TheVariants.{UInt16, UInt32, UInt64}
