@@ -60,13 +60,13 @@ class Cases(unittest.TestCase):
         is refused."""
         real = library._call
 
-        def watched(name, numbers, texts):
-            call = real(name, numbers, texts)
+        def watched(name, numbers, texts, structures):
+            call = real(name, numbers, texts, structures)
 
             def watching(*given):
                 room, told = given[-3:-1]
                 self.assertGreaterEqual(ctypes.sizeof(room), told)
-                for text, length in zip(given[numbers:-3:2], given[numbers + 1:-3:2]):
+                for text, length in zip(given[numbers:numbers + 2 * texts:2], given[numbers + 1:numbers + 2 * texts:2]):
                     self.assertEqual(len(text), length)
                 calls.append(told)
                 return call(*given)
