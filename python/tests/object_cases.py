@@ -3,6 +3,7 @@ block or used after its end: `test_objects` runs them."""
 import ctypes
 import gc
 import unittest
+from unittest import mock
 
 from geoarrow_fields import GeoArrowError, Schema, SchemaError, capsules, check, lines, objects
 
@@ -214,6 +215,20 @@ class Cases(unittest.TestCase):
         for _ in range(1000 // 16 + 2):
             capsules.sweep()
         self.assertEqual(len(capsules._given), 0)
+
+    def test_what_nobody_takes_is_released(self):
+        capsule = Schema(TWO_LINES).__arrow_c_schema__()
+        schema = capsules._given[0].schema
+        self.assertTrue(schema.release)
+        del capsule
+        capsules.sweep()
+        self.assertIsNone(schema.release)
+
+    def test_what_is_made_to_be_tried_is_released(self):
+        made, real = [], capsules.made
+        with mock.patch.object(capsules, "made", lambda lines: made.append(real(lines)) or made[-1]):
+            Schema(TWO_LINES)
+        self.assertEqual([schema.release for schema in made], [None])
 
     def test_what_a_consumer_moves_out(self):
         """A schema, and a child of it, outlive their capsule and one another."""
