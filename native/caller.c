@@ -97,7 +97,8 @@ static uint8_t is_schema(const request_t *of, uint8_t *out, size_t out_len, size
 
 /* The lines of the schema that is made, of which the last child is moved out and released behind all others. */
 static uint8_t schema_of_lines(const request_t *of, uint8_t *out, size_t out_len, size_t *len) {
-    struct ArrowSchema made = {.release = NULL}, last = {.release = NULL};
+    struct ArrowSchema made, last = {.release = NULL};
+    memset(&made, 0x5a, sizeof made);
     uint8_t status = geoarrow_schema_of_lines(of->bytes, of->size, &made, out, out_len, len);
     if (status != GEOARROW_DONE) return made.release ? 255 : status;
     if (*len || !made.release) return 255;
