@@ -27,7 +27,8 @@
  * - No call is made from a signal handler, nor from the forked child of a process with threads.
  * - malloc, realloc and free are those of one allocator, with blocks that are aligned to 16 bytes.
  *
- * Nothing is kept from call to call, so any number of threads may call at once. */
+ * Nothing is kept from call to call, but that of Python which geoarrow_capsule is given; any number of threads may
+ * call at once. */
 #ifndef GEOARROW_H
 #define GEOARROW_H
 
@@ -85,17 +86,21 @@ enum { GEOARROW_INFER_TYPES = 1, GEOARROW_NOTES = 2 };
 
 /* Statuses. */
 enum {
-    GEOARROW_DONE = 0,
+    GEOARROW_DONE = 0,    /* done */
     GEOARROW_SHORT = 1,   /* `out` is too small; `*len` is what is needed */
     GEOARROW_MEMORY = 2,  /* out of memory */
     GEOARROW_UNKNOWN = 3, /* no such command, or no such options, or a name that is not UTF-8 */
     GEOARROW_LIMIT = 4,   /* more than 1,000,000 lines, or a line of more than 1,048,576 bytes */
     GEOARROW_REFUSED = 5, /* the bytes, or the schema, are refused; the line that says why stands in `out` */
-    GEOARROW_FIRST_REFUSED = 6 /* of two files those of the first are; the line that says why stands in `out` */
+    GEOARROW_FIRST_REFUSED = 6 /* of two files the first is refused; the line that says why stands in `out` */
 };
 
 /* GEOARROW_VERSION, as the library has it. */
 uint32_t geoarrow_version(void);
+
+/* What a status says, for messages: a text that is never freed, with a NUL at its end; of a number that is no
+ * status `no status`. */
+const char *geoarrow_status_text(uint8_t status);
 
 /* The answer to one line, without line feeds (docs/FORMAT.md, 2.1 and 2.2).
  * Statuses: DONE, SHORT, MEMORY, UNKNOWN; at the last two `out` and `*len` are unchanged. */
@@ -218,6 +223,18 @@ uint8_t geoarrow_stream_of_schema(const struct ArrowSchema *schema, uint8_t *out
  * are unchanged. */
 uint8_t geoarrow_schema_of_lines(const uint8_t *lines, size_t lines_len, struct ArrowSchema *schema, uint8_t *out,
                                  size_t out_len, size_t *len);
+
+/* Calls of Python: PyCapsule_New and PyCapsule_GetPointer, whose objects are not looked at here. */
+typedef void *geoarrow_capsule_new(void *pointer, const char *name, void (*destructor)(void *capsule));
+typedef void *geoarrow_capsule_pointer(void *capsule, const char *name);
+
+/* A capsule of Python with the name `arrow_schema`, by these two calls, for packages of Python that give out a
+ * schema: its structure is all zeros, so nothing in it is to be released until geoarrow_schema_of_lines, for
+ * one, has made a schema there. Whoever takes the schema out moves it, and leaves its release callback NULL. When
+ * Python drops the capsule, what nobody has taken is released, and the structure freed, in C alone; so this
+ * library stays loaded as long as Python. The caller holds Python's lock. NULL where there is none, with what
+ * PyCapsule_New raises: where memory is short a ValueError, since it is then given NULL. */
+void *geoarrow_capsule(geoarrow_capsule_new *make, geoarrow_capsule_pointer *pointer);
 
 #ifdef __cplusplus
 }

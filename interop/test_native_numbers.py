@@ -48,7 +48,9 @@ class Numbers(unittest.TestCase):
         self.assertGreater(found["LEVELS"], limits["LEVEL_LIMIT"])  # those above are refused by what reads the records
         self.assertEqual({int(power) for power in re.findall(r"2 \^ (\d+)", text("crates/record_wire/specs/Write.antt"))}, {32, found["MOST"].bit_length() - 1})
         marks = enumerators("native/records.h", "RECORD_")
-        self.assertEqual((marks["HEAD"], marks["DICTIONARY"], marks["NO_NAME"], marks["METADATA"], marks["MARKS"]), (32, 1, 2, 4, 8))
+        self.assertEqual((marks["DICTIONARY"], marks["NO_NAME"], marks["METADATA"], marks["MARKS"]), (1, 2, 4, 8))
+        numbers = re.search(r"^struct record \{ uint32_t (.*); \};$", text("native/records.h"), re.M)[1]
+        self.assertEqual(numbers, "size, n_children, marks, flags, level, metadata, format, name")  # docs/FORMAT.md, 6.1
 
     def test_statuses(self):
         found = enumerators("include/geoarrow.h", "GEOARROW_")

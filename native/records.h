@@ -1,6 +1,4 @@
 /* A tree of ArrowSchema structures as records, and back (docs/FORMAT.md, 6), within the library. */
-#ifndef GEOARROW_RECORDS_H
-#define GEOARROW_RECORDS_H
 #include "../include/geoarrow.h"
 
 #if !defined(__BYTE_ORDER__) || __BYTE_ORDER__ != __ORDER_LITTLE_ENDIAN__
@@ -9,8 +7,8 @@
 
 /* The most levels, structures and bytes. */
 enum { RECORDS_LEVELS = 64, RECORDS_STRUCTURES = 4000000, RECORDS_MOST = 1 << 28 };
-/* How many bytes the numbers of a record take; its marks, which are below RECORD_MARKS. */
-enum { RECORD_HEAD = 32 };
+/* The numbers at the front of a record, and its marks, which are below RECORD_MARKS. */
+struct record { uint32_t size, n_children, marks, flags, level, metadata, format, name; };
 enum { RECORD_DICTIONARY = 1, RECORD_NO_NAME = 2, RECORD_METADATA = 4, RECORD_MARKS = 8 };
 
 enum records_status {
@@ -27,22 +25,19 @@ enum records_status {
     RECORDS_BROKEN    /* bytes that are no records */
 };
 
-/* The records; and where a refused structure is: in how many structures it lies, and in each
- * of these, from the outermost on, which child leads there; -1 is the dictionary. */
+/* The records, or with is_alone that of the outermost structure; and where a refused structure is:
+ * in how many it lies, and in each, from the outermost on, which child leads there; -1 is the
+ * dictionary. */
 struct records {
     uint8_t *bytes;
     size_t len, room;
-    uint32_t count, depth;
+    uint32_t count, depth, is_alone;
     int64_t path[RECORDS_LEVELS];
 };
 
-/* Copies a tree, which stays the caller's and is not released. `out` is all zeros; the caller frees
- * out->bytes, whatever the status is. */
+/* Copies a tree, which stays the caller's and is not released. `out` is zeros, but for is_alone;
+ * the caller frees out->bytes, whatever the status is. */
 enum records_status records_of_schema(const struct ArrowSchema *schema, struct records *out);
-
-/* The same of one structure, without what lies in it, and without a number before its record. */
-enum records_status record_of_structure(const struct ArrowSchema *s, struct records *out);
 
 /* Makes a tree, which the caller releases. Where it is not made, out->release is NULL. */
 enum records_status schema_of_records(const uint8_t *bytes, size_t len, struct ArrowSchema *out);
-#endif

@@ -1,13 +1,10 @@
-"""Structures of Arrow's C data interface that the library makes, in capsules.
+"""Structures of Arrow's C data interface in capsules: those that the library makes, and the address of any.
 
-A capsule has no destructor: one in Python would run, and lose an exception, where a consumer drops its capsule under that. So each capsule is held here until nobody
-else holds it, and what stands in it is then released by `sweep`, unless its consumer has taken it.
+A capsule of ours is made by the library, whose destructor in C releases what stands in it, unless its consumer has taken it. So nothing is kept here for the life of
+one, and no Python runs where it is dropped.
 """
-import collections
 import ctypes
-import sys
-import threading
-from typing import Any, Deque, NamedTuple
+from typing import Any
 
 from . import library
 from .refusals import SchemaError
@@ -32,8 +29,8 @@ class ArrowSchema(ctypes.Structure):
 
 
 _RELEASE = ctypes.CFUNCTYPE(None, ctypes.c_void_p)
-_capsule_new = ctypes.PYFUNCTYPE(ctypes.py_object, ctypes.c_void_p, ctypes.c_void_p, ctypes.c_void_p)(
-    ("PyCapsule_New", ctypes.pythonapi))
+_pointer = ctypes.PYFUNCTYPE(ctypes.c_void_p, ctypes.py_object, ctypes.c_void_p)(("PyCapsule_GetPointer", ctypes.pythonapi))
+_is_valid = ctypes.PYFUNCTYPE(ctypes.c_int, ctypes.py_object, ctypes.c_void_p)(("PyCapsule_IsValid", ctypes.pythonapi))
 
 
 def shown(text: str, most: int = 60) -> str:
@@ -48,61 +45,17 @@ def release(schema: ArrowSchema) -> None:
         _RELEASE(schema.release)(ctypes.addressof(schema))
 
 
-class _Given(NamedTuple):
-    """A capsule of ours, and the structure that stands in it."""
-
-    capsule: Any
-    schema: ArrowSchema
-
-
-# The capsules that were given out. (The list itself is never freed: at the end of a process others may still hold capsules.)
-_given: Deque[_Given] = collections.deque()
-ctypes.pythonapi.Py_IncRef(ctypes.py_object(_given))
-_sweeping = threading.Lock()
-_AT_ONCE = 16  # capsules that one sweep looks at, the next one at the next; so a sweep costs the same, however many others hold
-
-
-def _capsule_of(schema: ArrowSchema) -> _Given:
-    return _Given(_capsule_new(ctypes.addressof(schema), ctypes.addressof(SCHEMA_CAPSULE), None), schema)
-
-
-_ALONE = _capsule_of(ArrowSchema())  # which nobody else holds
-
-
-def _holders(one: _Given) -> int:
-    """How often a capsule is held, and by this call."""
-    return sys.getrefcount(one.capsule)
-
-
-def sweep() -> None:
-    """Releases what stands in capsules of ours that nobody else holds, and drops them. It is made when a capsule is given out, when a schema has been read,
-    and when a `Schema` ends; so no more are kept than others hold, but for the last ones."""
-    if not _sweeping.acquire(blocking=False):
-        return  # another thread is at it, or this one is, which made the garbage collector run
-    try:
-        alone = _holders(_ALONE)
-        for _ in range(min(_AT_ONCE, len(_given))):
-            if _holders(_given[0]) != alone:
-                _given.rotate(-1)
-                continue
-            release(_given[0].schema)
-            _given.popleft()
-    finally:
-        _sweeping.release()
-
-
-def made(lines: bytes) -> ArrowSchema:
-    """The schema whose columns lines denote, which is to be released. `SchemaError` where there is none."""
-    schema = ArrowSchema()
-    status, text = library.schema_of_lines(lines, ctypes.addressof(schema))
-    if status == library.REFUSED:
-        raise SchemaError(text.rstrip("\n"))
-    return schema
+def address_in(capsule: Any, name: Any) -> int:
+    """The address in a capsule of that name."""
+    if not _is_valid(capsule, ctypes.addressof(name)):
+        raise SchemaError(f"no capsule of the name {name.value.decode()}")
+    return int(_pointer(capsule, ctypes.addressof(name)))
 
 
 def export(lines: bytes) -> Any:
-    """A capsule with that schema. Its consumer may move the schema out of it, or release it there."""
-    sweep()
-    one = _capsule_of(made(lines))
-    _given.append(one)
-    return one.capsule
+    """A capsule with the schema whose columns lines denote. Its consumer may move the schema out of it, or release it there. `SchemaError` where there is none."""
+    capsule = library.capsule()
+    status, text = library.schema_of_lines(lines, address_in(capsule, SCHEMA_CAPSULE))
+    if status == library.REFUSED:
+        raise SchemaError(text.rstrip("\n"))
+    return capsule

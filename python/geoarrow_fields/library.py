@@ -169,3 +169,19 @@ def schema_of_lines(lines: bytes, structure: int) -> Tuple[int, str]:
     """The status of a schema that is made at an address, DONE or REFUSED, with nothing, or the line that says why. At DONE it is the caller's to release."""
     status, text = _called("geoarrow_schema_of_lines", [], [lines], _ROOM_OF_ANSWERS, structure)
     return status, str(text, "utf-8")
+
+
+@functools.lru_cache(maxsize=None)
+def _capsule() -> Any:
+    """The call that makes a capsule, with Python's own calls that it takes by their addresses."""
+    call = ctypes.PYFUNCTYPE(ctypes.py_object, ctypes.c_void_p, ctypes.c_void_p)(("geoarrow_capsule", _library()))
+    python = (ctypes.pythonapi.PyCapsule_New, ctypes.pythonapi.PyCapsule_GetPointer)
+    return functools.partial(call, *(ctypes.cast(one, ctypes.c_void_p) for one in python))
+
+
+def capsule() -> Any:
+    """A capsule with the name `arrow_schema`, in whose structure no schema is yet. Its destructor, which is the library's, releases what then stands there."""
+    try:
+        return _capsule()()
+    except ValueError:  # of no structure
+        raise MemoryError from None

@@ -5,7 +5,7 @@ A structure is read by the library of C alone, in its place. It stays its capsul
 import ctypes
 from typing import Any, Callable, Optional, TypeVar
 
-from .capsules import SCHEMA_CAPSULE, ArrowSchema, release, shown, sweep
+from .capsules import SCHEMA_CAPSULE, ArrowSchema, address_in, release, shown
 from .refusals import SchemaError
 
 Found = TypeVar("Found")
@@ -29,10 +29,6 @@ class _ArrowArrayStream(ctypes.Structure):
 
 _GET_SCHEMA = ctypes.CFUNCTYPE(ctypes.c_int, ctypes.c_void_p, ctypes.c_void_p)
 _GET_LAST_ERROR = ctypes.CFUNCTYPE(ctypes.c_char_p, ctypes.c_void_p)
-_capsule_address = ctypes.PYFUNCTYPE(ctypes.c_void_p, ctypes.py_object, ctypes.c_void_p)(
-    ("PyCapsule_GetPointer", ctypes.pythonapi))
-_capsule_is_valid = ctypes.PYFUNCTYPE(ctypes.c_int, ctypes.py_object, ctypes.c_void_p)(
-    ("PyCapsule_IsValid", ctypes.pythonapi))
 
 
 def gives_schema(given: Any) -> bool:
@@ -49,10 +45,7 @@ def read(given: Any, reads: "Reads[Found]") -> Found:
     giver = _giver_of(given)
     if giver is None:
         raise TypeError(f"{shown(type(given).__name__)} gives no Arrow schema")
-    try:
-        return giver(reads)
-    finally:
-        sweep()
+    return giver(reads)
 
 
 def _giver_of(given: Any) -> Optional[Callable[["Reads[Any]"], Any]]:
@@ -69,21 +62,21 @@ def _giver_of(given: Any) -> Optional[Callable[["Reads[Any]"], Any]]:
 
 def _of_schema(given: Any, reads: "Reads[Found]") -> Found:
     capsule = given.__arrow_c_schema__()
-    return reads(_address_in(capsule, SCHEMA_CAPSULE), False)
+    return reads(address_in(capsule, SCHEMA_CAPSULE), False)
 
 
 def _of_array(given: Any, reads: "Reads[Found]") -> Found:
     pair = given.__arrow_c_array__()
     if not isinstance(pair, tuple) or len(pair) != 2:
         raise SchemaError("no pair of a schema and an array")
-    _address_in(pair[1], _ARRAY_CAPSULE)
-    return reads(_address_in(pair[0], SCHEMA_CAPSULE), False)
+    address_in(pair[1], _ARRAY_CAPSULE)
+    return reads(address_in(pair[0], SCHEMA_CAPSULE), False)
 
 
 def _of_stream(given: Any, reads: "Reads[Found]") -> Found:
     """Of the schema of a stream of arrays, which may have a name: its arrays are rows of a table, and some libraries give them one."""
     capsule = given.__arrow_c_stream__()
-    address = _address_in(capsule, _STREAM_CAPSULE)
+    address = address_in(capsule, _STREAM_CAPSULE)
     stream = _ArrowArrayStream.from_address(address)
     if not stream.release:
         raise SchemaError("the stream was released before")
@@ -99,10 +92,3 @@ def _of_stream(given: Any, reads: "Reads[Found]") -> Found:
         return reads(ctypes.addressof(schema), True)
     finally:
         release(schema)
-
-
-def _address_in(capsule: Any, name: Any) -> int:
-    """The address in a capsule of that name."""
-    if not _capsule_is_valid(capsule, ctypes.addressof(name)):
-        raise SchemaError(f"no capsule of the name {name.value.decode()}")
-    return int(_capsule_address(capsule, ctypes.addressof(name)))

@@ -1,6 +1,5 @@
 """Lines of a schema, and a schema of lines."""
-import sys
-from typing import Any, Callable, Iterable, List, Union
+from typing import Any, Iterable, List, Union
 
 from . import capsules, library, objects
 from .refusals import SchemaError
@@ -36,15 +35,11 @@ class Schema:
 
     def __init__(self, given: Union[str, Iterable[Line]]) -> None:
         self._lines = given.encode("utf-8", "surrogatepass") if isinstance(given, str) else of_lines(given)
-        capsules.release(capsules.made(self._lines))
+        capsules.export(self._lines)  # tries them
 
     def __arrow_c_schema__(self) -> Any:
         """A capsule with the schema, which is the taker's to consume."""
         return capsules.export(self._lines)
-
-    def __del__(self, is_ending: Callable[[], bool] = sys.is_finalizing, sweep: Callable[[], None] = capsules.sweep) -> None:
-        if not is_ending():
-            sweep()
 
 
 def of_lines(given: Iterable[Line]) -> bytes:

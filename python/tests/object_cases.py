@@ -1,13 +1,18 @@
 """What is asked of each object that gives a schema, a field or an array. Each case runs in a process of its own, whose allocator finds what is written past a
 block or used after its end: `test_objects` runs them."""
+import concurrent.futures
 import ctypes
 import gc
+import os
+import subprocess
+import sys
 import unittest
 from unittest import mock
 
-from geoarrow_fields import GeoArrowError, Schema, SchemaError, capsules, check, lines, objects
+from geoarrow_fields import GeoArrowError, Schema, SchemaError, capsules, check, library, lines
 
 from . import stand_ins
+from .shared import TOP
 from .stand_ins import FLOAT, POINT, SCHEMA, XY, Newer, Older, Other, Type
 
 
@@ -20,6 +25,13 @@ def moved(structure):
     ours = type(structure).from_buffer_copy(structure)
     structure.release = None
     return ours
+
+
+def resident():
+    """How many bytes of this process are in memory."""
+    gc.collect()
+    with open("/proc/self/statm", encoding="ascii") as found:
+        return int(found.read().split()[1]) * os.sysconf("SC_PAGE_SIZE")
 
 
 def text_at(address):
@@ -38,12 +50,10 @@ DICTIONARY_LINE = line('{"other":"dictionary<values=utf8, indices=int32, ordered
 
 class Cases(unittest.TestCase):
     def tearDown(self):
-        """What was lent is unchanged, what was given is released, each once, and nothing of ours is held."""
+        """What was lent is unchanged, and what was given is released, each once."""
         gc.collect()
-        capsules.sweep()
         self.assertTrue(stand_ins.is_lent_unchanged())
         self.assertEqual(stand_ins.released, stand_ins.given)
-        self.assertEqual(len(capsules._given), 0)
 
     def refused(self, given, error, message):
         with self.assertRaisesRegex(error, message) as caught:
@@ -193,56 +203,113 @@ class Cases(unittest.TestCase):
 
     def test_what_is_given_out_and_taken(self):
         schema = Schema(TWO_LINES)
-        for _ in range(1000):
+        for _ in range(100):
             self.assertEqual(lines(schema), TWO_LINES)
-            self.assertEqual(len(capsules._given), 0)
-
-    def test_what_is_given_out_and_dropped(self):
-        schema = Schema(TWO_LINES)
-        for _ in range(1000):
-            schema.__arrow_c_schema__()
-            self.assertLessEqual(len(capsules._given), 1)  # the last one
-        del schema
-        self.assertEqual(len(capsules._given), 0)
 
     def test_what_others_hold(self):
-        held = [Schema(TWO_LINES).__arrow_c_schema__() for _ in range(1000)]
-        self.assertEqual(len(capsules._given), 1000)
+        held = [Schema(TWO_LINES).__arrow_c_schema__() for _ in range(100)]
         for one in held[::2]:
             self.assertEqual(lines(type("Gives", (), {"__arrow_c_schema__": lambda self: one})()), TWO_LINES)
-        self.assertEqual(len(capsules._given), 1000)
-        del held, one
-        for _ in range(1000 // 16 + 2):
-            capsules.sweep()
-        self.assertEqual(len(capsules._given), 0)
 
     def test_what_nobody_takes_is_released(self):
-        capsule = Schema(TWO_LINES).__arrow_c_schema__()
-        schema = capsules._given[0].schema
-        self.assertTrue(schema.release)
-        del capsule
-        capsules.sweep()
-        self.assertIsNone(schema.release)
+        """The release callback is another here, which the destructor calls once, with the structure in its place."""
+        for _ in range(100):
+            capsule, called = Schema(TWO_LINES).__arrow_c_schema__(), []
+            address = capsules.address_in(capsule, capsules.SCHEMA_CAPSULE)
+            schema = capsules.ArrowSchema.from_address(address)
+            ours = moved(schema)
+            note = stand_ins.RELEASE(called.append)
+            schema.release = ctypes.cast(note, ctypes.c_void_p).value
+            self.assertEqual(called, [])
+            del capsule
+            self.assertEqual(called, [address])
+            capsules.release(ours)
 
-    def test_what_is_made_to_be_tried_is_released(self):
-        made, real = [], capsules.made
-        with mock.patch.object(capsules, "made", lambda lines: made.append(real(lines)) or made[-1]):
-            Schema(TWO_LINES)
-        self.assertEqual([schema.release for schema in made], [None])
+    def test_memory_of_what_nobody_takes(self):
+        """Of 100,000 capsules, whose schemas would hold some 100 MB, nothing is left."""
+        schema = Schema(TWO_LINES[:1])
+        for _ in range(1000):
+            schema.__arrow_c_schema__()
+        before = resident()
+        for _ in range(100000):
+            schema.__arrow_c_schema__()
+        self.assertLess(resident() - before, 1 << 20)
+
+    def test_memory_of_what_is_made_to_be_tried(self):
+        Schema(TWO_LINES * 1000)
+        before = resident()
+        for _ in range(50):  # each some 500 KB
+            Schema(TWO_LINES * 1000)
+        self.assertLess(resident() - before, 4 << 20)
+
+    def test_a_capsule_of_no_schema(self):
+        """Of lines that are none the capsule is dropped with nothing in it."""
+        for _ in range(100):
+            with self.assertRaises(SchemaError):
+                Schema(["{}"])
+        self.assertRegex(repr(library.capsule()), 'capsule object "arrow_schema"')
+        new = ctypes.PYFUNCTYPE(ctypes.py_object, ctypes.c_void_p, ctypes.c_void_p, ctypes.c_void_p)(("PyCapsule_New", ctypes.pythonapi))
+        with mock.patch.object(library, "_capsule", lambda: lambda: new(None, None, None)):
+            with self.assertRaises(MemoryError):  # as where the library has no memory for a structure
+                library.capsule()
 
     def test_what_a_consumer_moves_out(self):
-        """A schema, and a child of it, outlive their capsule and one another."""
+        """A schema, and a child of it, outlive their capsule and one another, and are released once."""
         capsule = Schema(TWO_LINES).__arrow_c_schema__()
-        schema = moved(capsules.ArrowSchema.from_address(objects._address_in(capsule, capsules.SCHEMA_CAPSULE)))
+        schema = moved(capsules.ArrowSchema.from_address(capsules.address_in(capsule, capsules.SCHEMA_CAPSULE)))
         child = moved(capsules.ArrowSchema.from_address(ctypes.c_void_p.from_address(schema.children + 8).value))
         del capsule
-        capsules.sweep()
         self.assertEqual((text_at(schema.format), schema.n_children), (b"+s", 2))
         capsules.release(schema)
         self.assertEqual((text_at(child.format), text_at(child.name), child.flags, schema.release), (b"u", b"t", 2, None))
         capsules.release(child)
         capsules.release(child)  # which is released
         self.assertIsNone(child.release)
+
+    def test_what_a_consumer_releases_in_its_place(self):
+        for _ in range(100):
+            capsule = Schema(TWO_LINES).__arrow_c_schema__()
+            schema = capsules.ArrowSchema.from_address(capsules.address_in(capsule, capsules.SCHEMA_CAPSULE))
+            capsules.release(schema)
+            self.assertIsNone(schema.release)
+
+    def test_capsules_in_threads(self):
+        schema = Schema(TWO_LINES)
+        with concurrent.futures.ThreadPoolExecutor(8) as pool:
+            given = list(pool.map(lambda _: schema.__arrow_c_schema__(), range(400)))
+            del given[::3]
+            self.assertEqual(list(pool.map(lambda _: lines(schema), range(100))), [TWO_LINES] * 100)
+
+    def test_capsules_in_another_interpreter(self):
+        """Those that it drops, those that it still holds at its end, and those of this one behind that."""
+        try:
+            import _xxsubinterpreters as interpreters
+        except ImportError:
+            self.skipTest("no interpreters in this Python")
+        script = f"""
+import sys
+sys.path[:0] = {sys.path!r}
+from geoarrow_fields import Schema, lines
+held = [Schema({TWO_LINES!r}) for _ in range(50)]
+assert [lines(one) for one in held] == [{TWO_LINES!r}] * 50
+kept = [one.__arrow_c_schema__() for one in held]
+del kept[::2]
+try:
+    int(held[0].__arrow_c_schema__())
+except TypeError:
+    pass
+"""
+        for _ in range(2):
+            one = interpreters.create()
+            interpreters.run_string(one, script)
+            interpreters.destroy(one)
+            self.assertEqual(lines(Schema(TWO_LINES)), TWO_LINES)
+
+    def test_capsules_at_the_end_of_a_process(self):
+        """What lives as long as the process does not keep it from ending well."""
+        script = f"from geoarrow_fields import Schema; import sys; sys.kept = Schema({TWO_LINES!r}).__arrow_c_schema__()"
+        ran = subprocess.run([sys.executable, "-c", script], stderr=subprocess.PIPE, cwd=TOP / "python")
+        self.assertEqual((ran.returncode, ran.stderr), (0, b""))
 
     def test_schemas_that_are_none(self):
         for given, code, place in (
@@ -264,6 +331,20 @@ class Cases(unittest.TestCase):
         self.assertEqual(lines(Schema([' { "type" : "int8", "other": 1.5, "nullable":true, "metadata":{}, "name":"f" } \r'])), [line('"int8"', "f")])
 
     def test_a_consumer_that_fails(self):
-        for _ in range(100):
-            with self.assertRaises(TypeError):
-                int(Schema(TWO_LINES).__arrow_c_schema__())  # the capsule is dropped under the exception
+        """The capsule is dropped under an exception, which stays as it was."""
+        before = resident()
+        for _ in range(1000):
+            with self.assertRaisesRegex(TypeError, "^int.. argument must be"):
+                int(Schema(TWO_LINES).__arrow_c_schema__())
+            with self.assertRaisesRegex(KeyError, "^'mine'$") as caught:
+                fail_over(Schema(TWO_LINES).__arrow_c_schema__())
+            self.assertIsNone(caught.exception.__context__)
+        self.assertLess(resident() - before, 4 << 20)
+
+
+def fail_over(_capsule):
+    """Drops a capsule while an exception is on its way."""
+    try:
+        raise KeyError("mine")
+    finally:
+        del _capsule
