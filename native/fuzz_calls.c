@@ -56,7 +56,7 @@ static int is_status(uint8_t of, uint8_t status) {
     if (status == GEOARROW_UNKNOWN)
         return of == REPORT || of == SAME || of == ANSWER || of == RUN || of == READ || of == FIELD;
     if (status == GEOARROW_REFUSED) return of != ANSWER && of != RUN;
-    return (of == SAME && status == GEOARROW_FIRST_REFUSED) || (of == RUN && status == GEOARROW_LIMIT);
+    return status == GEOARROW_FIRST_REFUSED ? of == SAME : of == RUN && status == GEOARROW_LIMIT;
 }
 
 /* Makes a call in all the ways. Its status. */
