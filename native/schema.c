@@ -92,7 +92,7 @@ const char *geoarrow_status_text(uint8_t status) {
 static _Atomic(geoarrow_capsule_pointer *) pointer_of;
 static void end(void *capsule) {
     struct ArrowSchema *schema = pointer_of(capsule, "arrow_schema");
-    if (schema->release) schema->release(schema);
+    if (schema && schema->release) schema->release(schema);
     free(schema);
 }
 
