@@ -1,5 +1,5 @@
 -- What a field is read as, and what is inferred for it.
-use Rattle.std.proofs.Common.{◌≡◌, ◌∙◌, refl, sym, arith}
+use Rattle.std.proofs.Common.{◌≡◌, ◌∙◌, refl, sym}
 use Rattle.std.proofs.lemmas.Option.{same_Some}
 use Rattle.arrow_values.specs.Tree.{FieldTree, Text, Tree}
 use Rattle.arrow_values.specs.Texts.{extension_metadata}
