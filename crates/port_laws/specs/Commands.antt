@@ -22,7 +22,7 @@ IsTypeText a = (g : GeoArrowType) × (a ≡ type_text g)
 abbrev pub IsFieldLine : Bytes → Type 0
 IsFieldLine a = (n : FieldTree) × (a ≡ line_of_field n)
 
--- the line denotes a field without a name of GeoArrow
+-- the line denotes a field without a GeoArrow name
 abbrev pub IsUnnamed : Bytes → Type 0
 IsUnnamed line = (f : FieldTree) × (field_of_line line ≡ Some f) × ¬ HasGeoArrowName f
 
@@ -40,7 +40,7 @@ SaysGeometry c = (a : Bytes) × IsTypeText a × (c ≡ geometry a)
 abbrev pub SaysInferred : Bytes → Type 0
 SaysInferred c = (a : Bytes) × IsTypeText a × (c ≡ inferred a)
 
--- what `columns` answers to a line of a field without a name of GeoArrow
+-- what `columns` answers to a line of a field without a GeoArrow name
 abbrev pub SaysNoType : Bytes → Bytes → Type 0
 SaysNoType line c = SaysInferred c ⊎ ((c ≡ codes "other") ⊎ ((c ≡ codes "faulty arrow") × IsUnnamed line))
 

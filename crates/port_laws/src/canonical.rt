@@ -11,9 +11,9 @@ pub fn canonical_field_is_one()
     one_kind();
 }
 
-/// A law: the canonical field of a canonical field is itself, where the CRS value of the first field is
-/// nested at most 100 levels. It is answered: it has a GeoArrow name, and is refused only out of
-/// memory. There is no need to run this.
+/// A law: the canonical field of a canonical field is itself, where the CRS value of the first
+/// field is nested at most 100 levels. It is answered: it has a GeoArrow name, and is refused only
+/// out of memory. There is no need to run this.
 pub fn canonical_field_is_its_own()
     ensures own { IsItsOwnCanonical }
     ensures answered { IsAnsweredAgain }

@@ -16,10 +16,11 @@ ghost use Rattle.port_laws.specs.Commands.{IsTypeText, IsFieldLine, IsUnnamed, S
 
 use geoarrow_fields::laws::canon_is_closed;
 
-/// A law: `read` answers the four parts of a type exactly where `columns` answers `geometry` and these;
-/// `none` exactly where it answers `inferred` and a type, `other`, or `faulty arrow` of a field without
-/// a name of GeoArrow; `error invalid` exactly where it answers `faulty invalid`; and `error arrow`
-/// exactly where it answers `faulty arrow` of a field with a name. There is no need to run this.
+/// A law: `read` answers the four parts of a type exactly where `columns` answers `geometry` and
+/// these; `none` exactly where it answers `inferred` and a type, `other`, or `faulty arrow` of a
+/// field without a GeoArrow name; `error invalid` exactly where it answers `faulty invalid`;
+/// and `error arrow` exactly where it answers `faulty arrow` of a field with a name. There is no
+/// need to run this.
 pub fn read_and_columns()
     ensures types { (line a : Bytes) → (Answers Read line a × IsTypeText a)
         ↔ Answers Columns line (geometry a) }
@@ -33,12 +34,14 @@ pub fn read_and_columns()
         ↔ Answers Columns line (codes "error field") }
 {}
 
-/// A law: `infer` answers what `read` does, unless that is `none`, which `infer` never answers; and
-/// `read` answers `none` exactly to a line of a field without a name of GeoArrow, so to each other line
-/// both answer the same. There is no need to run this.
+/// A law: `infer` answers what `read` does, unless that is `none`, which `infer` never answers;
+/// and `read` answers `none` exactly to a line of a field without a GeoArrow name, so to each
+/// other line both answer the same. There is no need to run this.
 pub fn infer_and_read()
-    ensures unless { (line r : Bytes) → Answers Read line r → r ≢ codes "none" → Answers Infer line r }
-    ensures alike { (line a : Bytes) → ¬ IsUnnamed line → Answers Infer line a ↔ Answers Read line a }
+    ensures unless { (line r : Bytes) → Answers Read line r → r ≢ codes "none"
+        → Answers Infer line r }
+    ensures alike { (line a : Bytes) → ¬ IsUnnamed line
+        → Answers Infer line a ↔ Answers Read line a }
     ensures none { (line : Bytes) → Answers Read line (codes "none") ↔ IsUnnamed line }
     ensures never { (line : Bytes) → ¬ Answers Infer line (codes "none") }
 {}
@@ -57,21 +60,22 @@ pub fn infer_and_columns()
         ↔ Answers Columns line (codes "error field") }
 {}
 
-/// A law: `canon` answers the line of a field exactly where `read` answers the four parts of a type;
-/// `none`, and each error, exactly where `read` does. There is no need to run this.
+/// A law: `canon` answers the line of a field exactly where `read` answers the four parts of a
+/// type; `none`, and each error, exactly where `read` does. There is no need to run this.
 pub fn canon_and_read()
     ensures lines { (line a r : Bytes) → Answers Canon line a → Answers Read line r
         → IsFieldLine a ↔ IsTypeText r }
-    ensures none { (line : Bytes) → Answers Canon line (codes "none") ↔ Answers Read line (codes "none") }
+    ensures none { (line : Bytes) → Answers Canon line (codes "none")
+        ↔ Answers Read line (codes "none") }
     ensures errors { (line : Bytes) (fault : ColumnFault) → Answers Canon line (error_text fault)
         ↔ Answers Read line (error_text fault) }
     ensures field { (line : Bytes) → Answers Canon line (codes "error field")
         ↔ Answers Read line (codes "error field") }
 {}
 
-/// A law: `canon` answers the line of a field exactly where `columns` answers `geometry` and the four
-/// parts of a type; `none`, and each error, exactly where `read` does, as `read_and_columns` says it.
-/// There is no need to run this.
+/// A law: `canon` answers the line of a field exactly where `columns` answers `geometry` and the
+/// four parts of a type; `none`, and each error, exactly where `read` does, as `read_and_columns`
+/// says it. There is no need to run this.
 pub fn canon_and_columns()
     ensures lines { (line a c : Bytes) → Answers Canon line a → Answers Columns line c
         → IsFieldLine a ↔ SaysGeometry c }
@@ -85,9 +89,9 @@ pub fn canon_and_columns()
         ↔ Answers Columns line (codes "error field") }
 {}
 
-/// A law: `canon` answers the line of a field exactly where `infer` answers the four parts of a type to
-/// a line of a field with a name of GeoArrow; `none` exactly to a line of a field without one; and to
-/// each other line the errors of `infer`. There is no need to run this.
+/// A law: `canon` answers the line of a field exactly where `infer` answers the four parts of a
+/// type to a line of a field with a GeoArrow name; `none` exactly to a line of a field without
+/// one; and to each other line the errors of `infer`. There is no need to run this.
 pub fn canon_and_infer()
     ensures lines { (line a i : Bytes) → Answers Canon line a → Answers Infer line i
         → IsFieldLine a ↔ (IsTypeText i × ¬ IsUnnamed line) }
@@ -98,13 +102,14 @@ pub fn canon_and_infer()
         ↔ Answers Infer line (codes "error field") }
 {}
 
-/// A law: to the line that `canon` answers, `read` and `infer` answer the four parts of the normal form
-/// of the type that was read, `columns` answers `geometry` and these, and `canon` answers it itself, if
-/// the CRS value is nested at most 100 levels. There is no need to run this.
+/// A law: to the line that `canon` answers, `read` and `infer` answer the four parts of the normal
+/// form of the type that was read, `columns` answers `geometry` and these, and `canon` answers it
+/// itself, if the CRS value is nested at most 100 levels. There is no need to run this.
 pub fn canonical_line_is_the_normal_form()
     ensures { (line answer : Bytes) (f : FieldTree) (g : GeoArrowType) → field_of_line line ≡ Some f
         → Reads f g → NestsWithin 100 (meta_of g).crs.value → Answers Canon line answer
-        → (command : Command) → Answers command answer (answer_of_form command answer (normal_of g)) }
+        → (command : Command)
+        → Answers command answer (answer_of_form command answer (normal_of g)) }
 {
     canon_is_closed();
 }

@@ -27,7 +27,8 @@ pub fn fields_equality_is_exact(one: &Fields, other: &Fields) -> bool
     *one == *other
 }
 
-/// A law: `==` returns true for the members of two unions exactly if ids and fields are equal, in order.
+/// A law: `==` returns true for the members of two unions exactly if ids and fields are equal, in
+/// order.
 pub fn union_fields_equality_is_exact(one: &UnionFields, other: &UnionFields) -> bool
     ensures { IsTrue result ↔ (one.now ≡ other.now) }
 {
@@ -50,7 +51,8 @@ pub fn box_encoding_equality_is_exact(one: &Rect, other: &Rect) -> bool
     *one == *other
 }
 
-/// A law: `==` returns true for two encodings of geometries of any kind exactly if they are the same.
+/// A law: `==` returns true for two encodings of geometries of any kind exactly if they are the
+/// same.
 #[tactic(auto, using(geoarrow_native::specs::Agree::same_geometry))]
 pub fn geometry_encoding_equality_is_exact(one: &Geometry, other: &Geometry) -> bool
     ensures { IsTrue result ↔ (one.now ≡ other.now) }
@@ -66,8 +68,8 @@ pub fn native_encoding_equality_is_exact<S: NativeShape>(one: &Native<S>, other:
     *one == *other
 }
 
-/// A law: `==` returns true for two serialized encodings exactly if they are the same, and any two of
-/// well-known binary are, and any two of text.
+/// A law: `==` returns true for two serialized encodings exactly if they are the same, and any two
+/// of well-known binary are, and any two of text.
 pub fn serialized_encoding_equality_is_exact<E: Encoding>(
     one: &Serialized<E>,
     other: &Serialized<E>,
