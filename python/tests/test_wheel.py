@@ -34,9 +34,9 @@ def pythons(script):
 
 
 def held_in(wheel):
-    """The files of a wheel, with what is in them; without the list of them, which has their times."""
+    """The files of the package in a wheel, with what is in them."""
     with zipfile.ZipFile(wheel) as held:
-        return {name: held.read(name) for name in held.namelist() if not name.endswith("RECORD")}
+        return {name: held.read(name) for name in held.namelist() if ".dist-info/" not in name}
 
 
 BUILDERS = pythons(TOOLS)
@@ -115,16 +115,16 @@ class Wheel(unittest.TestCase):
         self.assertIn("nowhere.so is not there: bin/native of the project's repository builds it", said.stdout.decode())
 
     def test_of_a_source_distribution(self):
-        """A wheel of it is that of the repository."""
-        folder = self.folder / "sources"
-        said = ran(BUILDERS[-1], "setup.py", "-q", "sdist", "-d", str(folder), cwd=self.folder / "top/python", env=self.environment)
-        self.assertEqual(said.returncode, 0, said.stdout.decode())
-        words = [BUILDERS[-1], "-m", "pip", "wheel", "--no-build-isolation", "--no-index", "--no-deps", "-w", str(folder / "wheels"), *map(str, folder.glob("*.tar.gz"))]
-        said = ran(*words, cwd=folder, env=self.environment)
-        self.assertEqual(said.returncode, 0, said.stdout.decode())
-        (made,) = (folder / "wheels").iterdir()
-        self.assertEqual(held_in(made), held_in(self.wheel()))
-        shutil.rmtree(folder)
+        """A wheel of it holds what that of the repository does."""
+        with tempfile.TemporaryDirectory() as elsewhere:
+            said = ran(BUILDERS[-1], "setup.py", "-q", "sdist", "-d", elsewhere, cwd=self.folder / "top/python", env=self.environment)
+            self.assertEqual(said.returncode, 0, said.stdout.decode())
+            folder = pathlib.Path(elsewhere)
+            words = [BUILDERS[-1], "-m", "pip", "wheel", "--no-build-isolation", "--no-index", "--no-deps", "-w", f"{elsewhere}/wheels", *map(str, folder.glob("*.tar.gz"))]
+            said = ran(*words, cwd=elsewhere, env=self.environment)
+            self.assertEqual(said.returncode, 0, said.stdout.decode())
+            (made,) = (folder / "wheels").iterdir()
+            self.assertEqual(held_in(made), held_in(self.wheel()))
 
 
 if __name__ == "__main__":
