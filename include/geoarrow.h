@@ -164,6 +164,16 @@ uint8_t geoarrow_same(uint8_t options, const uint8_t *first, size_t first_len, c
  * unchanged. */
 uint8_t geoarrow_canonical(const uint8_t *bytes, size_t bytes_len, uint8_t *out, size_t out_len, size_t *len);
 
+/* The columns of a file, from its bytes, as lines: of each, in their order, the line that denotes it
+ * (docs/FORMAT.md, 2.7), with a line feed behind it. They are the columns of geoarrow_canonical, as they
+ * stand in the file. geoarrow_schema_of_lines makes a schema of the lines.
+ *
+ * The bytes are as for geoarrow_report. Where the file is refused, the line that says why (2.8), which
+ * names no file.
+ * Statuses: DONE, with the lines in `out`; REFUSED, with the line; SHORT, of either; MEMORY, at which
+ * `out` and `*len` are unchanged. */
+uint8_t geoarrow_lines(const uint8_t *bytes, size_t bytes_len, uint8_t *out, size_t out_len, size_t *len);
+
 /* The report of a schema in memory (docs/FORMAT.md, 2.5 to 2.7), which has the format `+s` and no
  * dictionary: its columns are its children. It is that of an Arrow stream of this schema, in whose
  * metadata `geo` is looked at; its lines are those of geoarrow_report without the name of a file.

@@ -3,7 +3,7 @@ import collections
 import dataclasses
 import itertools
 import json
-from typing import Any, Dict, Iterable, Iterator, List, Optional, SupportsIndex, Tuple, Union, overload
+from typing import Any, Callable, Dict, Iterable, Iterator, List, Optional, SupportsIndex, Tuple, Type, Union, overload
 
 from . import tables
 
@@ -180,6 +180,7 @@ class Columns(List[Column]):
 
 _json = json.JSONDecoder().raw_decode
 COLUMN = '{"kind":"column",'  # with which the line of a column begins
+_BARE: Callable[[Type[Column]], Column] = object.__new__
 
 
 def columns_of(report: str) -> Columns:
@@ -189,7 +190,7 @@ def columns_of(report: str) -> Columns:
     behind: List[str] = []
     while lines and not lines[-1].startswith(COLUMN):
         behind.append(lines.pop())
-    columns = Columns(map(object.__new__, itertools.repeat(Column, len(lines))))
+    columns = Columns(map(_BARE, itertools.repeat(Column, len(lines))))
     collections.deque(map(_put_line, columns, lines), maxlen=0)  # (a loop, without a step of Python for each)
     found = [finding_of(line) for line in reversed(behind)]
     columns.bad_lines = tuple(one for one in found if one.line is not None)

@@ -133,6 +133,12 @@ def canonical(given: bytes) -> Tuple[int, str]:
     return status, str(text, "utf-8")
 
 
+def lines(given: bytes) -> Tuple[int, str]:
+    """The status of the bytes of a file, DONE or REFUSED, with the lines of its columns, or the line that says why."""
+    status, text = _called("geoarrow_lines", [], [given], _first_room(given))
+    return status, str(text, "utf-8")
+
+
 def stream(lines: bytes) -> Tuple[int, bytes]:
     """The status of a schema that is written, DONE or REFUSED, with its Arrow stream or the line that says why."""
     status, found = _called("geoarrow_write_schema", [], [lines], _first_room(lines))

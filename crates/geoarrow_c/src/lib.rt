@@ -1,11 +1,13 @@
-//! The answers of the programs as calls of C: each takes bytes as a pointer and a length, and writes to the caller's buffer. The
-//! header `include/geoarrow.h` declares them, and says what a caller owes; but for those of a schema, which `native/schema.c` calls
-//! with the records of a tree of structures, and which no other object sees.
+//! The answers of the programs as calls of C: each takes bytes as a pointer and a length, and
+//! writes to the caller's buffer. The header `include/geoarrow.h` declares them, and says what a
+//! caller owes; but for those of a schema, which `native/schema.c` calls with the records of a tree
+//! of structures, and which no other object sees.
 #![tactic(auto)]
 
 mod answers;
 mod buffer;
 mod canonical;
+mod file_lines;
 mod lines_of_schemas;
 mod place;
 mod records;
@@ -22,6 +24,7 @@ mod walk;
 
 pub use answers::{geoarrow_answer, geoarrow_run};
 pub use canonical::geoarrow_canonical;
+pub use file_lines::geoarrow_lines;
 pub use lines_of_schemas::{field_lines, schema_lines};
 pub use records_of_lines::schema_records;
 pub use report::geoarrow_report;

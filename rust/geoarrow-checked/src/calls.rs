@@ -89,6 +89,13 @@ unsafe extern "C" {
         out_len: usize,
         len: *mut usize,
     ) -> u8;
+    fn geoarrow_lines(
+        bytes: *const u8,
+        bytes_len: usize,
+        out: *mut u8,
+        out_len: usize,
+        len: *mut usize,
+    ) -> u8;
     fn geoarrow_write_schema(
         lines: *const u8,
         lines_len: usize,
@@ -202,6 +209,18 @@ pub(crate) fn same(options: u8, first: &[u8], name: &str, other: &[u8]) -> Resul
 pub(crate) fn canonical(bytes: &[u8]) -> Result<Vec<u8>, Error> {
     filled(bytes.len(), |out, len| unsafe {
         geoarrow_canonical(
+            bytes.as_ptr(),
+            bytes.len(),
+            out.as_mut_ptr(),
+            out.len(),
+            len,
+        )
+    })
+}
+
+pub(crate) fn lines(bytes: &[u8]) -> Result<Vec<u8>, Error> {
+    filled(bytes.len(), |out, len| unsafe {
+        geoarrow_lines(
             bytes.as_ptr(),
             bytes.len(),
             out.as_mut_ptr(),

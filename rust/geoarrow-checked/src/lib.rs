@@ -194,6 +194,25 @@ pub fn canonical(source: &[u8]) -> Result<String, Error> {
     Ok(text(calls::canonical(source)?))
 }
 
+/// Returns the columns of a file, from its bytes, as lines, each with a line feed, in their order, as
+/// `geoarrow_check --lines` prints them (docs/FORMAT.md, 2.7): those of [`canonical`], as they stand
+/// in the file.
+///
+/// ```
+/// use geoarrow_checked::{lines, write_schema};
+///
+/// let line = br#"{"name":"g","nullable":true,"type":"binary"}"#;
+/// assert_eq!(lines(&write_schema(line)?)?.trim_end().as_bytes(), line);
+/// # Ok::<(), geoarrow_checked::Error>(())
+/// ```
+///
+/// # Errors
+///
+/// [`Error::Refused`] where the bytes are refused, with why and where; [`Error::OutOfMemory`].
+pub fn lines(source: &[u8]) -> Result<String, Error> {
+    Ok(text(calls::lines(source)?))
+}
+
 /// Returns an Arrow stream of the schema whose columns the lines denote, one a line
 /// (docs/FORMAT.md, 2.7 and 3.6). It has the schema alone: no batches, and no mark of the stream's
 /// end.
