@@ -1,0 +1,4 @@
+pub mod Bounds
+pub mod Begins
+pub mod Tails
+pub mod Steps
