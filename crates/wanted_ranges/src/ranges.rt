@@ -1,7 +1,8 @@
 //! The bytes that are wanted, by the format of a file.
-ghost use Rattle.std.specs.Prelude.{◌≡◌, ◌-◌, ◌≤◌, length, IfSome};
+ghost use Rattle.std.specs.Prelude.{◌≡◌, ◌-◌, ◌^◌, ◌<◌, ◌≤◌, length, IfSome};
 ghost use Rattle.column_files.specs.ForeignFound.{looked_at};
 ghost use Rattle.wanted_ranges.specs.Wanted.{capped, begin_of, end_by, end_of, wanted_by, wanted};
+ghost use Rattle.wanted_ranges.specs.Enough.{IsEnough};
 
 use crate::footer::{arrow_footer, parquet_footer};
 use crate::stream::message_end;
@@ -42,13 +43,15 @@ const ALL: u64 = u64::MAX;
 pub fn wanted_ranges(head: &[u8], tail: &[u8], size: Option<u64>) -> Ranges
     ensures is { result ≡ wanted head.now tail.now size }
     ensures within { IfSome size (λ n. (result.head ≤ n) × (result.tail ≤ n - length head.now)) }
+    ensures enough { IsEnough head.now tail.now size result }
 {
     wanted(head, tail, size)
 }
 
 /// What is wanted: first the bytes that tell the format.
 fn wanted(head: &[u8], tail: &[u8], size: Option<u64>) -> Ranges
-    ensures { result ≡ wanted head.now tail.now size }
+    ensures is { result ≡ wanted head.now tail.now size }
+    ensures size { IfSome size (λ n. n < 2 ^ 64) }
 {
     let first = capped(size, HEAD_BYTES);
     if (head.len() as u64) < first {
@@ -62,7 +65,8 @@ fn wanted(head: &[u8], tail: &[u8], size: Option<u64>) -> Ranges
 
 /// No more bytes than the file has, where its size is known.
 fn capped(size: Option<u64>, count: u64) -> u64
-    ensures { result ≡ capped size count }
+    ensures is { result ≡ capped size count }
+    ensures size { IfSome size (λ n. n < 2 ^ 64) }
 {
     match size {
         Some(size) => count.min(size),
