@@ -20,6 +20,21 @@
 
 uint32_t geoarrow_version(void) { return VERSION; }
 
+/* Of a file that begins as an Arrow file its first eight bytes and the footer whose size its last ten tell; of any other all. */
+uint8_t geoarrow_wanted(const uint8_t *head, size_t head_len, const uint8_t *tail, size_t tail_len, uint64_t size, uint64_t *head_wanted,
+                        uint64_t *tail_wanted) {
+    int is_ended = size != UINT64_MAX && size > 8 && head_len >= 8 && !memcmp(head, "ARROW1", 6);
+    uint64_t told = 0;
+    if (is_ended && tail_len >= 10) {
+        for (int i = 0; i < 4; i++) told |= (uint64_t)tail[tail_len - 10 + (size_t)i] << (8 * i);
+    }
+    *head_wanted = is_ended || !head_len ? 8 : size;
+    if (*head_wanted > size) *head_wanted = size;
+    *tail_wanted = is_ended ? told + 10 : 0;
+    if (is_ended && *tail_wanted > size - 8) *tail_wanted = size - 8;
+    return *head_wanted > head_len || *tail_wanted > tail_len;
+}
+
 /* What the words of a call say: the numbers of those that are there, by their letters. */
 typedef struct {
     size_t number[128];

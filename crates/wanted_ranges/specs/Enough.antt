@@ -28,8 +28,10 @@ IsReadOf form size bytes r = IsFileRead form bytes r
 abbrev pub AreReadAs : Form → List ℕ → List ℕ → Type 0
 AreReadAs form bytes whole = IsForm whole form × ((r : Result File FileFault) → IsReadOf form (length whole) bytes r ↔ IsFileRead form whole r)
 
--- so it is with each file that begins and ends so, where as many bytes are given as are wanted
+-- so it is with each file that begins and ends so
+abbrev pub IsCovered : List ℕ → List ℕ → Option ℕ → Type 0
+IsCovered head tail size = (whole : List ℕ) → IsGivenOf head tail size whole → AreReadAs (head_form (take head_bytes head)) (given head tail size) whole
+
+-- where as many bytes are given as are wanted
 abbrev pub IsEnough : List ℕ → List ℕ → Option ℕ → Ranges → Type 0
-IsEnough head tail size ranges =
-    ranges.head ≤ length head → ranges.tail ≤ length tail → (whole : List ℕ) → IsGivenOf head tail size whole
-    → AreReadAs (head_form (take head_bytes head)) (given head tail size) whole
+IsEnough head tail size ranges = ranges.head ≤ length head → ranges.tail ≤ length tail → IsCovered head tail size
