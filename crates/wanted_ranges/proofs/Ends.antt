@@ -68,7 +68,7 @@ same_by : (t : Bool) (most : ℕ) (wrong cut : End) (few many told : ℕ) → fe
 same_by true most wrong cut few many told more fits = same_sized 10 most wrong few many told more fits
 same_by false most wrong cut few many told more fits = refl
 
-abbrev IsArrowEnd : ℕ → List ℕ → Type 0
+abbrev pub IsArrowEnd : ℕ → List ℕ → Type 0
 IsArrowEnd size end = 10 + at_most (size - 10 - 8) (arrow_told end) ≤ length end
 
 same_arrow : (size : ℕ) (front end : List ℕ) → IsArrowEnd size end → arrow_footer_size size (front ++ end) ≡ arrow_footer_size size end
@@ -149,7 +149,7 @@ of_arrow size front end room r =
 
 -- ---- Parquet files
 
-abbrev IsParquetEnd : ℕ → List ℕ → Type 0
+abbrev pub IsParquetEnd : ℕ → List ℕ → Type 0
 IsParquetEnd size end = 8 + at_most (size - 8 - 4) (parquet_told end) ≤ length end
 
 same_parquet : (size : ℕ) (front end : List ℕ) → IsParquetEnd size end → parquet_footer_size size (front ++ end) ≡ parquet_footer_size size end

@@ -12,13 +12,13 @@ same_last n front end fits =
     let at : length (front ++ end) - n ≡ length front + (length end - n) = omega (arith, fits, length-append front end) in
     ap (λ k. drop k (front ++ end)) at ∙ drop-append-add front end (length end - n)
 
-same_arrow : (front end : List ℕ) → 10 ≤ length end → arrow_told (front ++ end) ≡ arrow_told end
+pub same_arrow : (front end : List ℕ) → 10 ≤ length end → arrow_told (front ++ end) ≡ arrow_told end
 same_arrow front end fits =
     let one : nat_le 10 (length end) ≡ true = le-leb 10 (length end) fits in
     let other : nat_le 10 (length (front ++ end)) ≡ true = le-leb 10 (length (front ++ end)) (omega (arith, fits, length-append front end)) in
     rw (one, other, same_last 10 front end fits) refl
 
-same_parquet : (front end : List ℕ) → 8 ≤ length end → parquet_told (front ++ end) ≡ parquet_told end
+pub same_parquet : (front end : List ℕ) → 8 ≤ length end → parquet_told (front ++ end) ≡ parquet_told end
 same_parquet front end fits =
     let one : nat_le 8 (length end) ≡ true = le-leb 8 (length end) fits in
     let other : nat_le 8 (length (front ++ end)) ≡ true = le-leb 8 (length (front ++ end)) (omega (arith, fits, length-append front end)) in
