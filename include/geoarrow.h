@@ -123,12 +123,23 @@ uint8_t geoarrow_run(uint8_t command, const uint8_t *input, size_t input_len, ui
  * `{"severity":"error","code":"GeoEpoch","in":"geo","pointer":"/columns/g/epoch","found":"\"2020\"","expected":"a number"}` of a column g.
  *
  * `options` is 0 to 3, a sum of GEOARROW_INFER_TYPES and GEOARROW_NOTES. `name` is the name of the file in UTF-8, which the lines
- * have at `file`; where `name_len` is 0 they have none. Of an Arrow or Parquet file its first eight bytes and
- * its end may stand for the file; a byte is then counted from the first byte given, as if nothing stood between them.
+ * have at `file`; where `name_len` is 0 they have none. The bytes that geoarrow_wanted asks for may stand for the file, those of its
+ * end behind those of its begin; a byte is then counted from the first byte given, as if nothing stood between them.
  * Statuses: DONE and REFUSED, with the lines in `out`; SHORT, of either; MEMORY and UNKNOWN, at which `out` and `*len` are
  * unchanged. */
 uint8_t geoarrow_report(uint8_t options, const uint8_t *name, size_t name_len, const uint8_t *bytes, size_t bytes_len, uint8_t *out,
                         size_t out_len, size_t *len);
+
+/* How many bytes of a file are wanted for its report: of its begin `*head_wanted`, and of its end
+ * `*tail_wanted` (docs/FORMAT.md, 2.7). `head` are its first bytes, `tail` its last, which stand behind
+ * these, both as many as are there already, also none. `size` is how many bytes it has, or UINT64_MAX
+ * where that is not known, as of a pipe, whose `tail` is not looked at.
+ * Returns 0 where all that is wanted is given: what the calls below and above read of these bytes, `tail`
+ * behind `head`, is what they read of the file. Else 1: call again with as many bytes as are wanted; where
+ * the file ends before, with all of them and its size. After three rounds nothing more is wanted. No more
+ * is wanted than the file has, and of its end no more than stands behind `head`; nothing is allocated. */
+uint8_t geoarrow_wanted(const uint8_t *head, size_t head_len, const uint8_t *tail, size_t tail_len, uint64_t size,
+                        uint64_t *head_wanted, uint64_t *tail_wanted);
 
 /* An Arrow stream of the schema whose columns the lines denote, one a line, without metadata of its own (docs/FORMAT.md, 2.7
  * and 3.6). It has the schema alone: no batches, and no mark of the stream's end. Blank lines are passed over, and no lines

@@ -7,7 +7,8 @@
  * bytes, and that of those of the other file, if it takes two, each in four bytes, the lowest first, and behind them the name and the bytes of
  * each; the bytes of the calls from 6 to 11 describe a schema (lent.h). A command, options and a status are told by their place in the lists of the header's names below; a number past a list is sent as it is.
  *   answers  calls with room, with each size of buffer that is too small (of long texts some), and between guards; writes for each
- *            request its status in a byte (255 for a number that the header does not name), `*len` in eight, and the text
+ *            request its status in a byte (255 for a number that the header does not name), `*len` in eight, and the text; of a report
+ *            also the bytes that geoarrow_wanted asks for, in rounds, whose report is the same
  *   faults   over the library of bin/faults: each request for memory refused, one at a time: out of memory, or the same answer
  *   threads  all calls from eight threads at once
  *   stack    all calls from a thread with GEOARROW_STACK bytes of stack
@@ -193,6 +194,46 @@ static void answer(request_t *of) {
     }
 }
 
+/* Whether two texts are the same but for their numbers. */
+static int is_alike(const uint8_t *one, size_t one_len, const uint8_t *other, size_t other_len) {
+    size_t i = 0, k = 0;
+    for (;; i++, k++) {
+        while (i < one_len && one[i] >= '0' && one[i] <= '9') i++;
+        while (k < other_len && other[k] >= '0' && other[k] <= '9') k++;
+        if (i == one_len || k == other_len) return i == one_len && k == other_len;
+        if (one[i] != other[k]) return 0;
+    }
+}
+
+/* Whether three rounds, each with as many bytes as were wanted, give all that is wanted of a file, and no more than it has; and their report is that of the file:
+ * but for numbers where bytes are left out, before which others are counted. The size of a pipe is told once it has ended. */
+static int is_fed(const request_t *of, int is_pipe) {
+    uint64_t head = 0, tail = 0, of_begin, of_end, size = is_pipe ? UINT64_MAX : of->size;
+    for (int round = 0; geoarrow_wanted(of->bytes, head, of->bytes + (of->size - tail), tail, size, &of_begin, &of_end); round++) {
+        int has_ended = is_pipe && of_begin > of->size;
+        if (round == 3 || (of_begin <= head && of_end <= tail)) return 0;
+        if (has_ended) size = of->size;
+        head = has_ended ? of->size : of_begin;
+        tail = of_end;
+        if (head > of->size || tail > of->size - head) return 0;
+    }
+    if (of_begin > head || of_end > tail) return 0;
+    request_t fed = *of;
+    fed.size = head + tail;
+    fed.bytes = room_for(fed.size);
+    if (head) memcpy(fed.bytes, of->bytes, head);
+    if (tail) memcpy(fed.bytes + head, of->bytes + (of->size - tail), tail);
+    answer(&fed);
+    int is_right = fed.status == of->status;
+    if (is_right && has_text(of->status)) {
+        int is_moved = tail && fed.size < of->size;
+        is_right = is_moved ? is_alike(fed.text, fed.len, of->text, of->len) : fed.len == of->len && !memcmp(fed.text, of->text, of->len);
+    }
+    give(fed.text);
+    give(fed.bytes);
+    return is_right;
+}
+
 static void answers(request_t *of) {
     uint8_t status;
     size_t len, least = has_text(of->status) ? of->len : 0;
@@ -201,6 +242,10 @@ static void answers(request_t *of) {
     size_t step = of->size > LONG ? least : least > 600 ? least / 200 : 1;
     for (size_t size = 0; size < least; size = size + step < least ? size + step : size + 1 < least ? least - 1 : least) {
         judge(is_kept(of, size, &status, &len) && status == GEOARROW_SHORT && len == of->len, of, "a buffer that is too small");
+    }
+    if (of->call == report && of->size <= LONG) { /* (the limit of a report grows with the bytes that are given) */
+        judge(is_fed(of, 0), of, "another report of the bytes that are wanted");
+        judge(is_fed(of, 1), of, "another report of the bytes that are wanted of a pipe");
     }
     fputc(place_of(of->status), stdout);
     for (int i = 0; i < 8; i++) fputc((int)((of->len >> (8 * i)) & 255), stdout);

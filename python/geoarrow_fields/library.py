@@ -10,7 +10,7 @@ import functools
 import mmap
 import os
 import pathlib
-from typing import Any, Sequence, Tuple
+from typing import Any, Optional, Sequence, Tuple
 
 NAME = "libgeoarrow_c.so"
 VERSION = 20000
@@ -18,6 +18,7 @@ VERSION = 20000
 DONE, SHORT, MEMORY = range(3)
 REFUSED, FIRST_REFUSED = 5, 6
 INFER_TYPES, NOTES = 1, 2
+ALL = (1 << 64) - 1  # bytes: so many are wanted where all are; as a size it is one that is not known
 _ROOM_OF_ANSWERS = 4096  # at first
 _ROOM_OF_REPORTS = 65536  # at first, and twice the bytes of the source, up to 64 MiB: enough for nearly all
 _MOST_ROOM = 1 << 26
@@ -110,6 +111,16 @@ def _first_room(given: bytes) -> int:
 def answer(command: Command, line: bytes) -> str:
     """The answer to one line under a command."""
     return str(_called("geoarrow_answer", [command], [line], _ROOM_OF_ANSWERS)[1], "utf-8")
+
+
+def wanted(head: bytes, tail: bytes, size: Optional[int]) -> Tuple[int, int]:
+    """How many bytes of the begin and of the end of a file are wanted for its report, whose first and last bytes are given, and its size, where that is known."""
+    call = _library().geoarrow_wanted
+    call.restype = ctypes.c_uint8
+    call.argtypes = [*[ctypes.c_char_p, ctypes.c_size_t] * 2, ctypes.c_uint64, *[ctypes.POINTER(ctypes.c_uint64)] * 2]
+    of_begin, of_end = ctypes.c_uint64(), ctypes.c_uint64()
+    call(head, len(head), tail, len(tail), ALL if size is None else size, ctypes.byref(of_begin), ctypes.byref(of_end))
+    return of_begin.value, of_end.value
 
 
 def report(name: bytes, given: bytes, infer: bool, notes: bool) -> Tuple[int, str]:

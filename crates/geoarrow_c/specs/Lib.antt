@@ -3,6 +3,7 @@ pub mod Calls
 pub mod Canonical
 pub mod FileLines
 pub mod Places
+pub mod Ranges
 pub mod Records
 pub mod Refusals
 pub mod Reports
