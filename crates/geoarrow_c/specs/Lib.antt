@@ -1,6 +1,7 @@
 pub mod Buffer
 pub mod Calls
 pub mod Canonical
+pub mod MadeLines
 pub mod Places
 pub mod Records
 pub mod Refusals
