@@ -57,8 +57,12 @@ pub record IsAsked (name kind : Bytes) (nullable : ℕ) (crs crs_type edges : By
 -- they say none: a text is not UTF-8, or one of the others stands for nothing
 abbrev pub SaysNone : Bytes → Bytes → ℕ → Bytes → Bytes → Bytes → Type 0
 SaysNone name kind nullable crs crs_type edges =
-    (¬ IsUtf8 name) ⊎ (¬ IsUtf8 crs) ⊎ ((k : Kind) → kind ≢ kind_text k) ⊎ (1 < nullable)
-    ⊎ ((t : Option CrsType) → ¬ IsCrsType crs_type t) ⊎ ((e : Option Edges) → ¬ AreEdges edges e)
+    (¬ IsUtf8 name)
+    ⊎ ((¬ IsUtf8 crs)
+    ⊎ (((k : Kind) → kind ≢ kind_text k)
+    ⊎ ((1 < nullable)
+    ⊎ (((t : Option CrsType) → ¬ IsCrsType crs_type t)
+    ⊎ ((e : Option Edges) → ¬ AreEdges edges e)))))
 
 -- ---- what is made of it
 

@@ -22,7 +22,7 @@ use crate::status::{MEMORY, UNKNOWN};
 use arrow_columns::SchemaColumn;
 use column_files::{Fault, Place};
 use field_makers::{MakeError, NewColumn, make_column, told_crs_type};
-use geoarrow_layout::{Kind, coord_type_word, dimension_word, kind_word};
+use geoarrow_layout::{Kind, coord_type_word, dimension_word, kind_is_listed, kind_word};
 use geoarrow_meta::{CrsType, Edges, WrittenCrs};
 use std::alloc::{AllocError, Global};
 
@@ -56,6 +56,7 @@ fn are_words_of(words: &[u8], kind: Kind) -> bool
 fn kind_of(words: &[u8]) -> Option<Kind>
     ensures { (k : Kind) → (result ≡ Some k) ↔ (words.now ≡ kind_text k) }
 {
+    kind_is_listed();
     Kind::ALL
         .iter()
         .find(|kind| are_words_of(words, **kind))
@@ -101,13 +102,18 @@ fn crs_of(text: &str) -> WrittenCrs<'_>
 fn crs_type_of(word: &[u8]) -> Option<Option<CrsType>>
     ensures { (t : Option CrsType) → (result ≡ Some t) ↔ IsCrsType word.now t }
 {
-    match word {
-        b"" => Some(None),
-        b"projjson" => Some(Some(CrsType::Projjson)),
-        b"wkt2:2019" => Some(Some(CrsType::Wkt2_2019)),
-        b"authority_code" => Some(Some(CrsType::AuthorityCode)),
-        b"srid" => Some(Some(CrsType::Srid)),
-        _ => None,
+    if word.is_empty() {
+        Some(None)
+    } else if word == b"projjson".as_slice() {
+        Some(Some(CrsType::Projjson))
+    } else if word == b"wkt2:2019".as_slice() {
+        Some(Some(CrsType::Wkt2_2019))
+    } else if word == b"authority_code".as_slice() {
+        Some(Some(CrsType::AuthorityCode))
+    } else if word == b"srid".as_slice() {
+        Some(Some(CrsType::Srid))
+    } else {
+        None
     }
 }
 
