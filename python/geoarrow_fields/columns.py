@@ -1,6 +1,7 @@
 """What is said of columns."""
 import collections
 import dataclasses
+import importlib
 import itertools
 import json
 from typing import Any, Dict, Iterable, Iterator, List, Optional, SupportsIndex, Tuple, Union, overload
@@ -134,8 +135,7 @@ class Column(_OfALine):
             return None
         if self.crs_type is not None and self.crs_type.startswith("srid"):
             raise ValueError(f"the CRS of column {self.name} is the number of a database: {tables.shown(text)}")
-        import pyproj
-
+        pyproj: Any = importlib.import_module("pyproj")
         return pyproj.CRS.from_user_input(text) if isinstance(self.crs, str) else pyproj.CRS.from_json(text)
 
     def __getattr__(self, name: str) -> Any:

@@ -142,7 +142,7 @@ def stream(lines: bytes) -> Tuple[int, bytes]:
 
 def make(name: bytes, kind: str, nullable: bool, crs: bytes, crs_type: str, edges: str) -> Tuple[int, str]:
     """The status of a column that is made, DONE or REFUSED, with its line, or the line that says why it is none. Name and CRS are in UTF-8; empty texts are none."""
-    given = [name, kind.encode(), nullable, crs, crs_type.encode(), edges.encode()]
+    given: Sequence[Union[int, bytes]] = (name, kind.encode(), nullable, crs, crs_type.encode(), edges.encode())
     status, text = _called("geoarrow_make", given, _ROOM_OF_COLUMNS + 2 * len(crs))
     return status, str(text, "utf-8")
 
