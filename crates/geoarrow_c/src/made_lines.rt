@@ -149,20 +149,32 @@ fn asked_of<'a>(
     let Ok(crs) = str::from_utf8(crs) else {
         return None;
     };
+    let Some(kind) = kind_of(kind) else {
+        return None;
+    };
+    let Some(nullable) = nullable_of(nullable) else {
+        return None;
+    };
+    let Some(crs_type) = crs_type_of(crs_type) else {
+        return None;
+    };
+    let Some(edges) = edges_of(edges) else {
+        return None;
+    };
     Some(NewColumn {
         name,
-        kind: kind_of(kind)?,
-        nullable: nullable_of(nullable)?,
+        nullable,
+        kind,
         crs: crs_of(crs),
-        crs_type: crs_type_of(crs_type)?,
-        edges: edges_of(edges)?,
+        crs_type,
+        edges,
     })
 }
 
 /// Returns the column with the type of its CRS, or the one that the form of its CRS tells. Errs only
 /// when out of memory.
 fn with_type<'a>(alloc: Global, asked: NewColumn<'a>) -> Result<NewColumn<'a>, AllocError>
-    ensures { IfOk result (λ new. new ≡ with_type asked) }
+    ensures { IfOk result (λ new. new ≡ with_type asked.entry) }
 {
     let crs_type = match asked.crs_type {
         Some(given) => Some(given),
