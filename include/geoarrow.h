@@ -1,5 +1,6 @@
 /* GeoArrow's schema types as calls of C: the answers of the program geoarrow_fields, and the report, the differences of files, the
- * columns in normal form and the Arrow stream of geoarrow_check; the report, the lines and the stream of a schema in memory.
+ * columns in normal form and the Arrow stream of geoarrow_check; columns that are made; the report, the lines and the stream of a
+ * schema in memory.
  *
  * A call takes bytes as a pointer and a length, or a structure of Arrow's C data interface, and writes text, or a stream's bytes, to
  * the front of `out`. It returns a status; at GEOARROW_DONE, and where bytes are refused, `*len` is the length of what is written. Where `out` is too small nothing
@@ -88,7 +89,7 @@ enum {
     GEOARROW_DONE = 0,
     GEOARROW_SHORT = 1,   /* `out` is too small; `*len` is what is needed */
     GEOARROW_MEMORY = 2,  /* out of memory */
-    GEOARROW_UNKNOWN = 3, /* no such command, or no such options, or a name that is not UTF-8 */
+    GEOARROW_UNKNOWN = 3, /* no such command, no such options or no such word, or a name or a CRS that is not UTF-8 */
     GEOARROW_LIMIT = 4,   /* more than 1,000,000 lines, or a line of more than 1,048,576 bytes */
     GEOARROW_REFUSED = 5, /* the bytes, or the schema, are refused; the line that says why stands in `out` */
     GEOARROW_FIRST_REFUSED = 6 /* of two files those of the first are; the line that says why stands in `out` */
@@ -184,6 +185,27 @@ uint8_t geoarrow_canonical(const uint8_t *bytes, size_t bytes_len, uint8_t *out,
  * Statuses: DONE, with the lines in `out`; REFUSED, with the line; SHORT, of either; MEMORY, at which
  * `out` and `*len` are unchanged. */
 uint8_t geoarrow_lines(const uint8_t *bytes, size_t bytes_len, uint8_t *out, size_t out_len, size_t *len);
+
+/* The line of a column of geometries (docs/FORMAT.md, 2.7 and 2.11), with a line feed behind it: of that name, with the data type, the
+ * extension name and the extension metadata that GeoArrow writes. geoarrow_schema_of_lines makes a schema of such lines, and
+ * geoarrow_write_schema a stream. As
+ * `{"metadata":{"ARROW:extension:metadata":"{\"crs\":\"EPSG:4326\",\"crs_type\":\"authority_code\"}","ARROW:extension:name":"geoarrow.wkb"},"name":"g","nullable":true,"type":"binary"}`
+ * for `g`, `wkb - -`, 1 and `EPSG:4326`.
+ *
+ * `kind` has the words of a report at `type` (2.2 and 2.5): kind, coordinate type and dimension, as `point interleaved XY`,
+ * `geometry separated -`, `box separated XYZ` or `large_wkb - -`. `nullable` is 1 where values may be null, and 0 where not. `crs` is
+ * empty where there is none; PROJJSON where its first byte that is no blank of JSON is `{`, which is kept as it is written, without
+ * blanks; and any other text as it is. `crs_type` is `projjson`, `wkt2:2019`, `authority_code` or `srid`, or empty: then it is the one
+ * that the form of the CRS tells (2.11), if one is. `edges` is `andoyer`, `karney`, `spherical`, `thomas` or `vincenty`; `planar` and
+ * an empty text stand for none, which are planar. `name` and `crs` are in UTF-8.
+ *
+ * Where `crs` begins with `{` and is no PROJJSON, or there is a CRS type without a CRS, the line that says so (2.8), with the code
+ * `BadSchema`.
+ * Statuses: DONE and REFUSED, with the line in `out`; SHORT, of either; MEMORY and UNKNOWN, at which `out` and `*len` are
+ * unchanged. */
+uint8_t geoarrow_make(const uint8_t *name, size_t name_len, const uint8_t *kind, size_t kind_len, uint8_t nullable, const uint8_t *crs,
+                      size_t crs_len, const uint8_t *crs_type, size_t crs_type_len, const uint8_t *edges, size_t edges_len,
+                      uint8_t *out, size_t out_len, size_t *len);
 
 /* The report of a schema in memory (docs/FORMAT.md, 2.5 to 2.7), which has the format `+s` and no
  * dictionary: its columns are its children. It is that of an Arrow stream of this schema, in whose

@@ -3,7 +3,8 @@
  * A request is a byte for the call (0 geoarrow_answer, 1 geoarrow_run, 2 geoarrow_report, 3 geoarrow_write_schema, 4 geoarrow_same,
  * 5 geoarrow_canonical, 6 geoarrow_read_schema, 7 geoarrow_read_field, 8 geoarrow_stream_of_schema, 9 geoarrow_lines_of_schema,
  * 10 geoarrow_lines_of_field, 11 geoarrow_is_schema, whose answer is here a digit, 12 geoarrow_schema_of_lines, of which the lines of
- * what is made are written, once a child is moved out and back, 13 geoarrow_lines), one for the number that the call takes, if it does, the length of the name that it takes, if it does, that of its
+ * what is made are written, once a child is moved out and back, 13 geoarrow_lines, 14 geoarrow_make, whose bytes are the CRS, and those of the other file the
+ * words of the kind, the CRS type and the edges, with a line feed between), one for the number that the call takes, if it does, the length of the name that it takes, if it does, that of its
  * bytes, and that of those of the other file, if it takes two, each in four bytes, the lowest first, and behind them the name and the bytes of
  * each; the bytes of the calls from 6 to 11 describe a schema (lent.h). A command, options and a status are told by their place in the lists of the header's names below; a number past a list is sent as it is.
  *   answers  calls with room, with each size of buffer that is too small (of long texts some), and between guards; writes for each
@@ -118,7 +119,14 @@ static uint8_t schema_of_lines(const request_t *of, uint8_t *out, size_t out_len
     return made.release || last.release ? 255 : status;
 }
 
-static const call_t CALLS[] = {answer_line, run, report, write_schema, same, canonical, read_schema, read_field, stream_of_schema, lines_of_schema, lines_of_field, is_schema, schema_of_lines, file_lines};
+static uint8_t make(const request_t *of, uint8_t *out, size_t out_len, size_t *len) {
+    const uint8_t *kind = of->other, *end = kind + of->other_size, *type, *edges;
+    if (!(type = memchr(kind, '\n', of->other_size)) || !(edges = memchr(type + 1, '\n', (size_t)(end - type - 1)))) exit(5);
+    return geoarrow_make(of->name, of->name_size, kind, (size_t)(type - kind), of->number, of->bytes, of->size, type + 1, (size_t)(edges - type - 1),
+                         edges + 1, (size_t)(end - edges - 1), out, out_len, len);
+}
+
+static const call_t CALLS[] = {answer_line, run, report, write_schema, same, canonical, read_schema, read_field, stream_of_schema, lines_of_schema, lines_of_field, is_schema, schema_of_lines, file_lines, make};
 enum { FIRST_OF_SCHEMAS = 6, LAST_OF_SCHEMAS = 11 };
 
 /* The numbers of the header by their names, in the order of native/test. */

@@ -7,6 +7,7 @@
     canon(line)            the field as GeoArrow writes it
     write_schema(lines)    the Arrow stream of a schema of these columns
     lines(source)          the line of each column of a source; `Schema(lines)` is an object of these columns, as pyarrow, polars and others take
+    point(crs=..), ..      a column of geometries, as pyarrow, polars and others take it; `schema([..])` is a schema of such columns
 
 The answers are those of the proved programs `geoarrow_fields` and `geoarrow_check`, by the library that include/geoarrow.h
 declares. It needs Python 3.8 or later, and nothing else.
@@ -17,12 +18,15 @@ from . import library, objects, schema_lines, sources
 from .columns import Column, Columns, Finding, columns_of
 from .compared import Differences, differences_of
 from .library import Command
+from .makers import (
+    Field, box, geometry, geometrycollection, linestring, multilinestring, multipoint, multipolygon, point, polygon, schema, wkb, wkt)
 from .refusals import GeoArrowError, InvalidColumns, RefusedSource, SchemaError, moved, moved_lines, named
 from .schema_lines import Schema, line_bytes, of_lines
 from .weights import Weights, Words
 
 __all__ = [
-    "Column", "Columns", "Differences", "Finding", "GeoArrowError", "InvalidColumns", "RefusedSource", "Schema", "SchemaError", "canon", "canonical", "check", "lines", "read", "same",
+    "Column", "Columns", "Differences", "Field", "Finding", "GeoArrowError", "InvalidColumns", "RefusedSource", "Schema", "SchemaError", "box", "canon", "canonical", "check",
+    "geometry", "geometrycollection", "lines", "linestring", "multilinestring", "multipoint", "multipolygon", "point", "polygon", "read", "same", "schema", "wkb", "wkt",
     "write_schema"]
 
 __version__ = "2.0.0"

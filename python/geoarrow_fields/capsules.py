@@ -100,9 +100,30 @@ def made(lines: bytes) -> ArrowSchema:
     return schema
 
 
+def made_column(line: bytes) -> ArrowSchema:
+    """The structure of the column that one line denotes, which is to be released. It is moved out of that of its schema, as any consumer may do."""
+    schema = made(line)
+    try:
+        child = ArrowSchema.from_address(ctypes.c_void_p.from_address(schema.children).value or 0)
+        column = ArrowSchema.from_buffer_copy(child)
+        child.release = None
+        return column
+    finally:
+        release(schema)
+
+
 def export(lines: bytes) -> Any:
-    """A capsule with that schema. Its consumer may move the schema out of it, or release it there."""
+    """A capsule with the schema of lines. Its consumer may move the schema out of it, or release it there."""
+    return _exported(made(lines))
+
+
+def export_column(line: bytes) -> Any:
+    """A capsule with the structure of the column that one line denotes, likewise."""
+    return _exported(made_column(line))
+
+
+def _exported(schema: ArrowSchema) -> Any:
     sweep()
-    one = _capsule_of(made(lines))
+    one = _capsule_of(schema)
     _given.append(one)
     return one.capsule

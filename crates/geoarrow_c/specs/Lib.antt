@@ -2,6 +2,7 @@ pub mod Buffer
 pub mod Calls
 pub mod Canonical
 pub mod FileLines
+pub mod MadeLines
 pub mod Places
 pub mod Ranges
 pub mod Records

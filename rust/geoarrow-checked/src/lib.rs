@@ -29,17 +29,22 @@ mod error;
 mod facts;
 mod filled;
 mod finding;
+mod made;
 mod members;
 
 #[cfg(feature = "arrow-schema")]
 pub mod arrow;
 
 pub use calls::{
-    check_field, check_schema, field_line, is_schema, schema_lines, schema_stream, ArrowSchema,
+    check_field, check_schema, field_line, is_schema, schema_lines, schema_of_lines, schema_stream,
+    ArrowSchema,
 };
 pub use error::Error;
 pub use facts::{column_facts, Facts, Source, Verdict};
 pub use finding::{bad_lines, column_findings, findings, Finding, Severity};
+pub use made::{
+    make_line, CoordType, CrsType, Dimension, Edges, GeometryType, Kind, NewField, Serialized,
+};
 
 /// What is asked of a line.
 #[derive(Debug, Clone, Copy, PartialEq, Eq, Hash)]
