@@ -1,5 +1,6 @@
 /* GeoArrow's schema types as calls of C: the answers of the program geoarrow_fields, and the report, the differences of files, the
- * columns in normal form and the Arrow stream of geoarrow_check; the report, the lines and the stream of a schema in memory.
+ * columns in normal form and the Arrow stream of geoarrow_check; columns that are made; the report, the lines and the stream of a
+ * schema in memory.
  *
  * A call takes bytes as a pointer and a length, or a structure of Arrow's C data interface, and writes text, or a stream's bytes, to
  * the front of `out`. It returns a status; at GEOARROW_DONE, and where bytes are refused, `*len` is the length of what is written. Where `out` is too small nothing
@@ -89,7 +90,7 @@ enum {
     GEOARROW_DONE = 0,    /* done */
     GEOARROW_SHORT = 1,   /* `out` is too small; `*len` is what is needed */
     GEOARROW_MEMORY = 2,  /* out of memory */
-    GEOARROW_UNKNOWN = 3, /* no such command, or no such options, or a name that is not UTF-8 */
+    GEOARROW_UNKNOWN = 3, /* no such command, no such options or no such word, or a name or a CRS that is not UTF-8 */
     GEOARROW_LIMIT = 4,   /* more than 1,000,000 lines, or a line of more than 1,048,576 bytes */
     GEOARROW_REFUSED = 5, /* the bytes, or the schema, are refused; the line that says why stands in `out` */
     GEOARROW_FIRST_REFUSED = 6 /* of two files the first is refused; the line that says why stands in `out` */
@@ -128,12 +129,23 @@ uint8_t geoarrow_run(uint8_t command, const uint8_t *input, size_t input_len, ui
  * `{"severity":"error","code":"GeoEpoch","in":"geo","pointer":"/columns/g/epoch","found":"\"2020\"","expected":"a number"}` of a column g.
  *
  * `options` is 0 to 3, a sum of GEOARROW_INFER_TYPES and GEOARROW_NOTES. `name` is the name of the file in UTF-8, which the lines
- * have at `file`; where `name_len` is 0 they have none. Of an Arrow or Parquet file its first eight bytes and
- * its end may stand for the file; a byte is then counted from the first byte given, as if nothing stood between them.
+ * have at `file`; where `name_len` is 0 they have none. The bytes that geoarrow_wanted asks for may stand for the file, those of its
+ * end behind those of its begin; a byte is then counted from the first byte given, as if nothing stood between them.
  * Statuses: DONE and REFUSED, with the lines in `out`; SHORT, of either; MEMORY and UNKNOWN, at which `out` and `*len` are
  * unchanged. */
 uint8_t geoarrow_report(uint8_t options, const uint8_t *name, size_t name_len, const uint8_t *bytes, size_t bytes_len, uint8_t *out,
                         size_t out_len, size_t *len);
+
+/* How many bytes of a file are wanted for its report: of its begin `*head_wanted`, and of its end
+ * `*tail_wanted` (docs/FORMAT.md, 2.7). `head` are its first bytes, `tail` its last, which stand behind
+ * these, both as many as are there already, also none. `size` is how many bytes it has, or UINT64_MAX
+ * where that is not known, as of a pipe, whose `tail` is not looked at.
+ * Returns 0 where all that is wanted is given: what the calls below and above read of these bytes, `tail`
+ * behind `head`, is what they read of the file. Else 1: call again with as many bytes as are wanted; where
+ * the file ends before, with all of them and its size. After three rounds nothing more is wanted. No more
+ * is wanted than the file has, and of its end no more than stands behind `head`; nothing is allocated. */
+uint8_t geoarrow_wanted(const uint8_t *head, size_t head_len, const uint8_t *tail, size_t tail_len, uint64_t size,
+                        uint64_t *head_wanted, uint64_t *tail_wanted);
 
 /* An Arrow stream of the schema whose columns the lines denote, one a line, without metadata of its own (docs/FORMAT.md, 2.7
  * and 3.6). It has the schema alone: no batches, and no mark of the stream's end. Blank lines are passed over, and no lines
@@ -168,6 +180,37 @@ uint8_t geoarrow_same(uint8_t options, const uint8_t *first, size_t first_len, c
  * Statuses: DONE, with the lines in `out`; REFUSED, with the line; SHORT, of either; MEMORY, at which `out` and `*len` are
  * unchanged. */
 uint8_t geoarrow_canonical(const uint8_t *bytes, size_t bytes_len, uint8_t *out, size_t out_len, size_t *len);
+
+/* The columns of a file, from its bytes, as lines: of each, in their order, the line that denotes it
+ * (docs/FORMAT.md, 2.7), with a line feed behind it. They are the columns of geoarrow_canonical, as they
+ * stand in the file. geoarrow_schema_of_lines makes a schema of the lines.
+ *
+ * The bytes are as for geoarrow_report. Where the file is refused, the line that says why (2.8), which
+ * names no file.
+ * Statuses: DONE, with the lines in `out`; REFUSED, with the line; SHORT, of either; MEMORY, at which
+ * `out` and `*len` are unchanged. */
+uint8_t geoarrow_lines(const uint8_t *bytes, size_t bytes_len, uint8_t *out, size_t out_len, size_t *len);
+
+/* The line of a column of geometries (docs/FORMAT.md, 2.7 and 2.11), with a line feed behind it: of that name, with the data type, the
+ * extension name and the extension metadata that GeoArrow writes. geoarrow_schema_of_lines makes a schema of such lines, and
+ * geoarrow_write_schema a stream. As
+ * `{"metadata":{"ARROW:extension:metadata":"{\"crs\":\"EPSG:4326\",\"crs_type\":\"authority_code\"}","ARROW:extension:name":"geoarrow.wkb"},"name":"g","nullable":true,"type":"binary"}`
+ * for `g`, `wkb - -`, 1 and `EPSG:4326`.
+ *
+ * `kind` has the words of a report at `type` (2.2 and 2.5): kind, coordinate type and dimension, as `point interleaved XY`,
+ * `geometry separated -`, `box separated XYZ` or `large_wkb - -`. `nullable` is 1 where values may be null, and 0 where not. `crs` is
+ * empty where there is none; PROJJSON where its first byte that is no blank of JSON is `{`, which is kept as it is written, without
+ * blanks; and any other text as it is. `crs_type` is `projjson`, `wkt2:2019`, `authority_code` or `srid`, or empty: then it is the one
+ * that the form of the CRS tells (2.11), if one is. `edges` is `andoyer`, `karney`, `spherical`, `thomas` or `vincenty`; `planar` and
+ * an empty text stand for none, which are planar. `name` and `crs` are in UTF-8.
+ *
+ * Where `crs` begins with `{` and is no PROJJSON, or there is a CRS type without a CRS, the line that says so (2.8), with the code
+ * `BadSchema`.
+ * Statuses: DONE and REFUSED, with the line in `out`; SHORT, of either; MEMORY and UNKNOWN, at which `out` and `*len` are
+ * unchanged. */
+uint8_t geoarrow_make(const uint8_t *name, size_t name_len, const uint8_t *kind, size_t kind_len, uint8_t nullable, const uint8_t *crs,
+                      size_t crs_len, const uint8_t *crs_type, size_t crs_type_len, const uint8_t *edges, size_t edges_len,
+                      uint8_t *out, size_t out_len, size_t *len);
 
 /* The report of a schema in memory (docs/FORMAT.md, 2.5 to 2.7), which has the format `+s` and no
  * dictionary: its columns are its children. It is that of an Arrow stream of this schema, in whose

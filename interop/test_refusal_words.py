@@ -17,7 +17,8 @@ IPC, FOOTER, ELEMENTS, FILES, ENDS = (
                         ("column_files", "Refusals.antt"), ("column_files", "Endings.antt")))
 PRINTED = (CRATES / "file_check/specs/Printed.antt").read_text(encoding="utf-8")
 RECORDS = (CRATES / "record_wire/specs/Fault.antt").read_text(encoding="utf-8")
-WALKS, SCHEMAS, MADE = ((CRATES / "geoarrow_c/specs" / file).read_text(encoding="utf-8") for file in ("Walks.antt", "Records.antt", "SchemaRecords.antt"))
+WALKS, SCHEMAS, MADE, MAKERS = (
+    (CRATES / "geoarrow_c/specs" / file).read_text(encoding="utf-8") for file in ("Walks.antt", "Records.antt", "SchemaRecords.antt", "MadeLines.antt"))
 UNLIKE = (CRATES / "same_columns/specs/Unlike.antt").read_text(encoding="utf-8")
 FORMAT = (CRATES.parent / "docs/FORMAT.md").read_text(encoding="utf-8")
 BUDGET = (CRATES / "parquet_columns/specs/Budget.antt").read_text(encoding="utf-8")
@@ -60,7 +61,8 @@ def defined():
         | rows(said(FILES, "ipc_code"), said(IPC, "error_message"), said(IPC, "error_wanted"), no_help)
         | rows(said(IPC, "write_code"), said(IPC, "write_message"), said(IPC, "write_wanted"), no_help)
         | rows({"": code_of(WALKS)}, said(WALKS, "walk_message"), said(WALKS, "walk_wanted"), no_help)
-        | rows({"": code_of(MADE)}, said(MADE, "unwritten_message"), said(MADE, "unwritten_wanted"), no_help))
+        | rows({"": code_of(MADE)}, said(MADE, "unwritten_message"), said(MADE, "unwritten_wanted"), no_help)
+        | rows({"": code_of(MAKERS)}, said(MAKERS, "unmade_message"), said(MAKERS, "unmade_wanted"), no_help))
 
 
 def code_of(spec):

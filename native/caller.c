@@ -3,11 +3,13 @@
  * A request is a byte for the call (0 geoarrow_answer, 1 geoarrow_run, 2 geoarrow_report, 3 geoarrow_write_schema, 4 geoarrow_same,
  * 5 geoarrow_canonical, 6 geoarrow_read_schema, 7 geoarrow_read_field, 8 geoarrow_stream_of_schema, 9 geoarrow_lines_of_schema,
  * 10 geoarrow_lines_of_field, 11 geoarrow_is_schema, whose answer is here a digit, 12 geoarrow_schema_of_lines, of which the lines of
- * what is made are written, once a child is moved out and back), one for the number that the call takes, if it does, the length of the name that it takes, if it does, that of its
+ * what is made are written, once a child is moved out and back, 13 geoarrow_lines, 14 geoarrow_make, whose bytes are the CRS, and those of the other file the
+ * words of the kind, the CRS type and the edges, with a line feed between), one for the number that the call takes, if it does, the length of the name that it takes, if it does, that of its
  * bytes, and that of those of the other file, if it takes two, each in four bytes, the lowest first, and behind them the name and the bytes of
  * each; the bytes of the calls from 6 to 11 describe a schema (lent.h). A command, options and a status are told by their place in the lists of the header's names below; a number past a list is sent as it is.
  *   answers  calls with room, with each size of buffer that is too small (of long texts some), and between guards; writes for each
- *            request its status in a byte (255 for a number that the header does not name), `*len` in eight, and the text
+ *            request its status in a byte (255 for a number that the header does not name), `*len` in eight, and the text; of a report
+ *            also the bytes that geoarrow_wanted asks for, in rounds, whose report is the same
  *   faults   over the library of bin/faults: each request for memory refused, one at a time: out of memory, or the same answer
  *   threads  all calls from eight threads at once
  *   stack    all calls from a thread with GEOARROW_STACK bytes of stack
@@ -66,6 +68,10 @@ static uint8_t canonical(const request_t *of, uint8_t *out, size_t out_len, size
     return geoarrow_canonical(of->bytes, of->size, out, out_len, len);
 }
 
+static uint8_t file_lines(const request_t *of, uint8_t *out, size_t out_len, size_t *len) {
+    return geoarrow_lines(of->bytes, of->size, out, out_len, len);
+}
+
 static uint8_t read_schema(const request_t *of, uint8_t *out, size_t out_len, size_t *len) {
     return geoarrow_read_schema(of->number, of->schema, out, out_len, len);
 }
@@ -113,7 +119,14 @@ static uint8_t schema_of_lines(const request_t *of, uint8_t *out, size_t out_len
     return made.release || last.release ? 255 : status;
 }
 
-static const call_t CALLS[] = {answer_line, run, report, write_schema, same, canonical, read_schema, read_field, stream_of_schema, lines_of_schema, lines_of_field, is_schema, schema_of_lines};
+static uint8_t make(const request_t *of, uint8_t *out, size_t out_len, size_t *len) {
+    const uint8_t *kind = of->other, *end = kind + of->other_size, *type, *edges;
+    if (!(type = memchr(kind, '\n', of->other_size)) || !(edges = memchr(type + 1, '\n', (size_t)(end - type - 1)))) exit(5);
+    return geoarrow_make(of->name, of->name_size, kind, (size_t)(type - kind), of->number, of->bytes, of->size, type + 1, (size_t)(edges - type - 1),
+                         edges + 1, (size_t)(end - edges - 1), out, out_len, len);
+}
+
+static const call_t CALLS[] = {answer_line, run, report, write_schema, same, canonical, read_schema, read_field, stream_of_schema, lines_of_schema, lines_of_field, is_schema, schema_of_lines, file_lines, make};
 enum { FIRST_OF_SCHEMAS = 6, LAST_OF_SCHEMAS = 11 };
 
 /* The numbers of the header by their names, in the order of native/test. */
@@ -189,6 +202,46 @@ static void answer(request_t *of) {
     }
 }
 
+/* Whether two texts are the same but for their numbers. */
+static int is_alike(const uint8_t *one, size_t one_len, const uint8_t *other, size_t other_len) {
+    size_t i = 0, k = 0;
+    for (;; i++, k++) {
+        while (i < one_len && one[i] >= '0' && one[i] <= '9') i++;
+        while (k < other_len && other[k] >= '0' && other[k] <= '9') k++;
+        if (i == one_len || k == other_len) return i == one_len && k == other_len;
+        if (one[i] != other[k]) return 0;
+    }
+}
+
+/* Whether three rounds, each with as many bytes as were wanted, give all that is wanted of a file, and no more than it has; and their report is that of the file:
+ * but for numbers where bytes are left out, before which others are counted. The size of a pipe is told once it has ended. */
+static int is_fed(const request_t *of, int is_pipe) {
+    uint64_t head = 0, tail = 0, of_begin, of_end, size = is_pipe ? UINT64_MAX : of->size;
+    for (int round = 0; geoarrow_wanted(of->bytes, head, of->bytes + (of->size - tail), tail, size, &of_begin, &of_end); round++) {
+        int has_ended = is_pipe && of_begin > of->size;
+        if (round == 3 || (of_begin <= head && of_end <= tail)) return 0;
+        if (has_ended) size = of->size;
+        head = has_ended ? of->size : of_begin;
+        tail = of_end;
+        if (head > of->size || tail > of->size - head) return 0;
+    }
+    if (of_begin > head || of_end > tail) return 0;
+    request_t fed = *of;
+    fed.size = head + tail;
+    fed.bytes = room_for(fed.size);
+    if (head) memcpy(fed.bytes, of->bytes, head);
+    if (tail) memcpy(fed.bytes + head, of->bytes + (of->size - tail), tail);
+    answer(&fed);
+    int is_right = fed.status == of->status;
+    if (is_right && has_text(of->status)) {
+        int is_moved = tail && fed.size < of->size;
+        is_right = is_moved ? is_alike(fed.text, fed.len, of->text, of->len) : fed.len == of->len && !memcmp(fed.text, of->text, of->len);
+    }
+    give(fed.text);
+    give(fed.bytes);
+    return is_right;
+}
+
 static void answers(request_t *of) {
     uint8_t status;
     size_t len, least = has_text(of->status) ? of->len : 0;
@@ -197,6 +250,10 @@ static void answers(request_t *of) {
     size_t step = of->size > LONG ? least : least > 600 ? least / 200 : 1;
     for (size_t size = 0; size < least; size = size + step < least ? size + step : size + 1 < least ? least - 1 : least) {
         judge(is_kept(of, size, &status, &len) && status == GEOARROW_SHORT && len == of->len, of, "a buffer that is too small");
+    }
+    if (of->call == report && of->size <= LONG) { /* (the limit of a report grows with the bytes that are given) */
+        judge(is_fed(of, 0), of, "another report of the bytes that are wanted");
+        judge(is_fed(of, 1), of, "another report of the bytes that are wanted of a pipe");
     }
     fputc(place_of(of->status), stdout);
     for (int i = 0; i < 8; i++) fputc((int)((of->len >> (8 * i)) & 255), stdout);

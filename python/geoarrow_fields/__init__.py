@@ -6,23 +6,27 @@
     read(line)             the GeoArrow type that a field says it holds
     canon(line)            the field as GeoArrow writes it
     write_schema(lines)    the Arrow stream of a schema of these columns
-    lines(schema)          the line of each column of an object of pyarrow, polars and others; `Schema(lines)` is such an object
+    lines(source)          the line of each column of a source; `Schema(lines)` is an object of these columns, as pyarrow, polars and others take
+    point(crs=..), ..      a column of geometries, as pyarrow, polars and others take it; `schema([..])` is a schema of such columns
 
 The answers are those of the proved programs `geoarrow_fields` and `geoarrow_check`, by the library that include/geoarrow.h
 declares. It needs Python 3.8 or later, and nothing else.
 """
-from typing import Any, Iterable, List, Union
+from typing import Any, Callable, Iterable, List, Tuple, Union
 
-from . import library, objects, sources
+from . import library, objects, schema_lines, sources
 from .columns import Column, Columns, Finding, columns_of
 from .compared import Differences, differences_of
 from .library import Command
+from .makers import (
+    Field, box, geometry, geometrycollection, linestring, multilinestring, multipoint, multipolygon, point, polygon, schema, wkb, wkt)
 from .refusals import GeoArrowError, InvalidColumns, RefusedSource, SchemaError, moved, moved_lines, named
-from .schema_lines import Schema, line_bytes, lines, of_lines
+from .schema_lines import Schema, line_bytes, of_lines
 from .weights import Weights, Words
 
 __all__ = [
-    "Column", "Columns", "Differences", "Finding", "GeoArrowError", "InvalidColumns", "RefusedSource", "Schema", "SchemaError", "canon", "canonical", "check", "lines", "read", "same",
+    "Column", "Columns", "Differences", "Field", "Finding", "GeoArrowError", "InvalidColumns", "RefusedSource", "Schema", "SchemaError", "box", "canon", "canonical", "check",
+    "geometry", "geometrycollection", "lines", "linestring", "multilinestring", "multipoint", "multipolygon", "point", "polygon", "read", "same", "schema", "wkb", "wkt",
     "write_schema"]
 
 __version__ = "2.0.0"
@@ -103,10 +107,32 @@ def canonical(source: Any) -> List[str]:
 
     Raises `RefusedSource` where the source is not read, and otherwise what `check` raises of sources.
     """
+    return _lines_of(source, library.canonical)
+
+
+def lines(source: Any) -> List[str]:
+    """The line of each column of a source, in order, as `geoarrow_check --lines` prints it (docs/FORMAT.md, 2.7). `Schema` makes an object of the lines that gives their schema.
+
+    Sources are those of `check`; of a file the columns are those of `canonical`, as they stand in it. An object that gives a field, a data type or an array has one column.
+    `objects.read` says which objects do, and what each is asked for.
+
+    The interface of Arrow has one structure for a schema, a field and a data type, so the structure decides: one of the format `+s` without a name, without the name of an
+    extension type and without a dictionary is a schema, whose columns are its children; any other is one column. So a data type that is a struct is taken for a schema, as is a
+    field of a struct without a name, and a schema with a name for a column; but that of a stream may have a name.
+
+    Raises `RefusedSource` where the source is not read, and otherwise what `check` raises of sources.
+    """
+    if sources.is_schema_object(source):
+        return schema_lines.lines(source)
+    return _lines_of(source, library.lines)
+
+
+def _lines_of(source: Any, call: Callable[[bytes], Tuple[int, str]]) -> List[str]:
+    """The lines that a call writes of the bytes of a source."""
     given = sources.given_of(source)
     if given.is_schema and not given.content:
         return []
-    status, text = library.canonical(given.content)
+    status, text = call(given.content)
     found = text.split("\n")[:-1]
     if status == library.REFUSED:
         raise RefusedSource(moved(named(found[0], given.name.decode()), given.left_out))

@@ -59,3 +59,13 @@ def export(lines: bytes) -> Any:
     if status == library.REFUSED:
         raise SchemaError(text.rstrip("\n"))
     return capsule
+
+
+def export_column(line: bytes) -> Any:
+    """A capsule with the structure of the column that one line denotes, likewise. It is moved out of that of its schema, as any consumer may do."""
+    schema, capsule = export(line), library.capsule()
+    children = ArrowSchema.from_address(address_in(schema, SCHEMA_CAPSULE)).children
+    child = ArrowSchema.from_address(ctypes.c_void_p.from_address(children).value or 0)
+    ctypes.memmove(address_in(capsule, SCHEMA_CAPSULE), ctypes.addressof(child), ctypes.sizeof(child))
+    child.release = None
+    return capsule

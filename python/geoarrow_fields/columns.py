@@ -1,9 +1,10 @@
 """What is said of columns."""
 import collections
 import dataclasses
+import importlib
 import itertools
 import json
-from typing import Any, Dict, Iterable, Iterator, List, Optional, SupportsIndex, Tuple, Union, overload
+from typing import Any, Callable, Dict, Iterable, Iterator, List, Optional, SupportsIndex, Tuple, Type, Union, overload
 
 from . import tables
 
@@ -117,6 +118,26 @@ class Column(_OfALine):
         """Whether it counts for the status: one of its findings is an error, as why it is invalid is."""
         return any(one.is_error for one in self.findings)
 
+    @property
+    def crs_text(self) -> Optional[str]:
+        """The CRS as a text: one that is a text as it is, and any other as its JSON is written, without blanks. None where there is none, and where it is not known."""
+        if self.crs is None or isinstance(self.crs, str):
+            return self.crs
+        return _member_text(self.json, "crs") if self.json else json.dumps(self.crs, ensure_ascii=False, separators=(",", ":"))
+
+    def to_pyproj(self) -> Any:
+        """The CRS as a `pyproj.CRS`, for which pyproj is needed; None where there is none, and where it is not known.
+
+        Raises `ValueError` where its type says that it is the number of a database, and what pyproj raises of a CRS that it does not know.
+        """
+        text = self.crs_text
+        if text is None or text == "":
+            return None
+        if self.crs_type is not None and self.crs_type.startswith("srid"):
+            raise ValueError(f"the CRS of column {self.name} is the number of a database: {tables.shown(text)}")
+        pyproj: Any = importlib.import_module("pyproj")
+        return pyproj.CRS.from_user_input(text) if isinstance(self.crs, str) else pyproj.CRS.from_json(text)
+
     def __getattr__(self, name: str) -> Any:
         """An attribute that is not there yet: those of the line are made."""
         if name not in _ATTRIBUTES:
@@ -180,6 +201,7 @@ class Columns(List[Column]):
 
 _json = json.JSONDecoder().raw_decode
 COLUMN = '{"kind":"column",'  # with which the line of a column begins
+_BARE: Callable[[Type[Column]], Column] = object.__new__
 
 
 def columns_of(report: str) -> Columns:
@@ -189,7 +211,7 @@ def columns_of(report: str) -> Columns:
     behind: List[str] = []
     while lines and not lines[-1].startswith(COLUMN):
         behind.append(lines.pop())
-    columns = Columns(map(object.__new__, itertools.repeat(Column, len(lines))))
+    columns = Columns(map(_BARE, itertools.repeat(Column, len(lines))))
     collections.deque(map(_put_line, columns, lines), maxlen=0)  # (a loop, without a step of Python for each)
     found = [finding_of(line) for line in reversed(behind)]
     columns.bad_lines = tuple(one for one in found if one.line is not None)
@@ -206,6 +228,17 @@ def _attributes(line: str) -> Dict[str, Any]:
         "edges": known("edges"), "crs_type": known("crs_type"), "crs": known("crs"), "crs_from": known("crs_from"), "edges_from": known("edges_from"),
         "type_from": known("type_from"), "verdicts": known("verdicts", {}), "bbox": tuple(known("bbox", ())), "epoch": known("epoch"),
         "geometry_types": tuple(known("geometry_types", ())), "orientation": known("orientation"), "findings": tuple(map(finding_of, parts_of(line)[1])) if "findings" in said else ()}
+
+
+def _member_text(line: str, wanted: str) -> str:
+    """The text of a member of the object that a line is."""
+    at = 1
+    while True:
+        key, end = _json(line, at)
+        _, behind = _json(line, end + 1)
+        if key == wanted:
+            return line[end + 1:behind]
+        at = behind + 1
 
 
 _FINDINGS = ',"findings":['

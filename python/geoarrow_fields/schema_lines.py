@@ -8,12 +8,7 @@ Line = Union[str, bytes]
 
 
 def lines(schema: Any) -> List[str]:
-    """The line of each column of an object that gives an Arrow schema, in order, as the program prints such a line; one that gives a field, a data type or an
-    array has one column. `objects.read` says which objects do, and what each is asked for.
-
-    The interface has one structure for a schema, a field and a data type, so the structure decides: one of the format `+s` without a name, without the name of
-    an extension type and without a dictionary is a schema, whose columns are its children; any other is one column. So a data type that is a struct is taken
-    for a schema, as is a field of a struct without a name, and a schema with a name for a column; but that of a stream may have a name.
+    """The line of each column of an object that gives an Arrow schema, in order; one that gives a field, a data type or an array has one column.
 
     Raises `TypeError` for an object that gives neither, an integer among them, and `SchemaError`, a `ValueError`, where what it gives is wrong.
     """

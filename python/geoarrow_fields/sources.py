@@ -1,17 +1,11 @@
-"""The bytes of a source that say what its columns are: of an Arrow or Parquet file its end, of a stream its first message, and all of
-lines (docs/FORMAT.md, 2.7)."""
+"""The bytes of a source that say what its columns are: those of the begin and the end of a file that the library asks for (docs/FORMAT.md, 2.7)."""
 import os
 from typing import Any, List, NamedTuple, Optional, Union
 
-from . import objects
+from . import library, objects
 from .capsules import shown
 from .schema_lines import lines, of_lines
 
-_HEAD = 8  # bytes that tell the format; of a stream they have the size of its first message
-# How many bytes stand behind the footer: its size in four bytes, and the magic.
-_TAILS = {b"ARROW1": 10, b"PAR1": 8, b"PARE": 8}
-_CONTINUATION = b"\xff\xff\xff\xff"
-_MOST_LOOKED_AT = 64  # bytes from which the library tells the format
 _AT_ONCE = 1 << 20  # bytes that are asked for at once: a size that a file tells is not believed
 
 
@@ -80,35 +74,36 @@ def _can_seek(file: Any) -> bool:
 
 
 def _of_file(file: Any, can_seek: bool) -> Given:
-    head = _read(file, _HEAD)
-    if head.startswith(_CONTINUATION):
-        return Given(head + _read(file, int.from_bytes(head[4:], "little")))
-    if _is_unmarked_stream(head):
-        end = 4 + int.from_bytes(head[:4], "little")
-        return Given(head + _read(file, max(end, _MOST_LOOKED_AT) - _HEAD))
-    tail = next((size for magic, size in _TAILS.items() if head.startswith(magic)), 0)
-    if not tail or not can_seek:
-        return Given(head + _read(file))
+    """What the library asks for, in rounds. The size of a file is looked at where all of one that can seek would be read; it is not believed where more was read."""
+    head, tail = b"", b""
+    size: Optional[int] = None
+    while True:
+        of_begin, of_end = library.wanted(head, tail, size)
+        if of_begin > len(head):
+            if can_seek and of_begin == library.ALL:
+                can_seek, size = False, _size_behind(file, len(head))
+                continue
+            head += _read(file, of_begin - len(head))
+            if len(head) < of_begin:  # it has ended
+                size = len(head)
+        elif of_end > len(tail) and size is not None:
+            file.seek(size - of_end)
+            tail = _read(file, of_end)
+            size -= of_end - len(tail)  # (it has become shorter, if at all)
+        else:
+            return Given(head + tail, size - len(head) - len(tail) if tail and size is not None else 0)
+
+
+def _size_behind(file: Any, place: int) -> Optional[int]:
+    """The size of a file, which stands there and then does so again; none where it tells that it ends there or before."""
     file.seek(0, os.SEEK_END)
-    length = file.tell()
-    file.seek(max(length - tail, 0))
-    wanted = int.from_bytes(_read(file, 4), "little") + tail
-    if wanted > length:  # no whole footer, whatever the rest is
-        wanted = tail
-    start = max(length - wanted, _HEAD)
-    file.seek(start)
-    return Given(head + _read(file), start - _HEAD)
+    size = int(file.tell())
+    file.seek(place)
+    return size if size > place else None
 
 
-def _is_unmarked_stream(head: bytes) -> bool:
-    """Whether bytes may be those of a stream as written before Arrow 0.15: the size of its first message, and the root of that, both small."""
-    return len(head) == _HEAD and any(head[:3]) and not head[3] and not any(head[5:])
-
-
-def _read(file: Any, size: Optional[int] = None) -> bytes:
-    """So many bytes of a file, or fewer where it ends before; all that are left where no number is given."""
-    if size is None:
-        return _bytes_read(file.read())
+def _read(file: Any, size: int) -> bytes:
+    """So many bytes of a file, or fewer where it ends before."""
     parts: List[bytes] = []
     while size > 0:
         part = _bytes_read(file.read(min(size, _AT_ONCE)))

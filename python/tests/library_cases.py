@@ -60,14 +60,17 @@ class Cases(unittest.TestCase):
         is refused."""
         real = library._call
 
-        def watched(name, numbers, texts, structures):
-            call = real(name, numbers, texts, structures)
+        def watched(name, texts, structures):
+            call = real(name, texts, structures)
 
             def watching(*given):
                 room, told = given[-3:-1]
                 self.assertGreaterEqual(ctypes.sizeof(room), told)
-                for text, length in zip(given[numbers:numbers + 2 * texts:2], given[numbers + 1:numbers + 2 * texts:2]):
-                    self.assertEqual(len(text), length)
+                parts = iter(given)
+                for is_text in texts:
+                    one = next(parts)
+                    if is_text:
+                        self.assertEqual(len(one), next(parts))
                 calls.append(told)
                 return call(*given)
 

@@ -20,6 +20,18 @@
 
 uint32_t geoarrow_version(void) { return VERSION; }
 
+/* Of a file that begins as an Arrow or Parquet file its first eight bytes and the footer whose size stands at its end, before the magic; of any other all. */
+uint8_t geoarrow_wanted(const uint8_t *head, size_t head_len, const uint8_t *tail, size_t tail_len, uint64_t size, uint64_t *head_wanted,
+                        uint64_t *tail_wanted) {
+    size_t behind = head_len < 8 || size == UINT64_MAX || size < 8 ? 0 : !memcmp(head, "ARROW1", 6) ? 10 : !memcmp(head, "PAR", 3) ? 8 : 0;
+    uint64_t told = 0;
+    for (size_t i = 0; behind && tail_len >= behind && i < 4; i++) told |= (uint64_t)tail[tail_len - behind + i] << (8 * i);
+    *head_wanted = (behind || !head_len) && size > 8 ? 8 : size;
+    *tail_wanted = behind ? told + behind : 0;
+    if (behind && *tail_wanted > size - 8) *tail_wanted = size - 8;
+    return *head_wanted > head_len || *tail_wanted > tail_len;
+}
+
 /* What the words of a call say: the numbers of those that are there, by their letters. */
 typedef struct {
     size_t number[128];

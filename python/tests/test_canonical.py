@@ -150,6 +150,26 @@ class Files(InAFolder):
             self.assertEqual(canonical(source), [])
         self.assertEqual(self.refused([""]).code, "EmptyFile")
 
+    def test_columns_as_they_stand_in_a_source(self):
+        """`lines` of each form of source, whose columns are not put in normal form."""
+        stream = write_schema([OLD, TEXT])
+        for source in ([OLD, TEXT], (OLD, TEXT), [OLD.encode(), TEXT], Schema([OLD, TEXT]), stream, io.BytesIO(stream), self.file("a", stream), f"{OLD}\n{TEXT}\n".encode()):
+            self.assertEqual(lines(source), [OLD, TEXT])
+        for source in ([], (), Schema([]), write_schema([]), b"{}\n", ["{}", "1"]):
+            self.assertEqual(lines(source), [])
+        self.assertEqual(lines(["{}", OLD, "1", "", TEXT]), [OLD, TEXT])
+        with self.assertRaises(RefusedSource) as refused:
+            lines(self.file("b", b"PAR1"))
+        self.assertEqual((refused.exception.code, refused.exception.finding.file[-1:]), ("Truncated", "b"))
+
+    def test_the_schema_of_a_file(self):
+        """Its lines make the schema that it stores, for each format; so do those of the schema that is made."""
+        for name in ("file.arrow", "stream.arrows", "stored.parquet", "plain.parquet", "geo.parquet", "columns.jsonl"):
+            found = lines(DATA / name)
+            self.assertEqual([json.loads(line)["name"] for line in found], [one.name for one in check(DATA / name)])
+            self.assertEqual(lines(Schema(found)), found)
+            self.assertEqual(lines(write_schema(found)), found)
+
     def test_what_is_no_source(self):
         for source in (3, None, object()):
             with self.assertRaises(TypeError):

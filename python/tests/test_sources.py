@@ -1,10 +1,9 @@
-"""Tests of sources: which bytes of each kind are given to the library, and what is no source. They need no library."""
+"""Tests of sources: which bytes of each kind are read and given to the library, and what is no source."""
 import array
 import io
 import mmap
 import os
 import pathlib
-import re
 import tempfile
 import threading
 import unittest
@@ -12,7 +11,7 @@ import unittest
 from geoarrow_fields import Schema, SchemaError, canon, check, read, sources, write_schema
 from geoarrow_fields.sources import given_of
 
-from .shared import DATA, POINT, TEXT, TOP
+from .shared import DATA, POINT, TEXT
 
 LINES = f"{TEXT}\n{POINT}\n".encode()
 MESSAGE = b"\xff\xff\xff\xff" + (24).to_bytes(4, "little") + bytes(range(24))
@@ -58,29 +57,69 @@ class SeeksToo(ReadsAlone):
         return self.file.tell()
 
 
-# Each content, what is given to the library of it, and how many bytes are left out.
 LARGE = bytes(3_000_000)
+XML = b"<?xml version='1.0'?>" + b" " * 3000
+
+
+def begun(whole, count=64):
+    """What is given of a content of which so many first bytes are wanted: by 64 of these its format is told (docs/FORMAT.md, 2.7)."""
+    return whole, whole[:max(count, 64)], 0
+
+
+def ended(whole, count):
+    """What is given of one of which so many last bytes are wanted, too."""
+    return whole, whole[:64] + whole[64:][-count:], max(len(whole) - 64 - count, 0)
+
+
+# Each content, what is given to the library of it, and how many bytes are left out.
 CONTENTS = {
-    "empty": (b"", b"", 0),
-    "short": (b"{}", b"{}", 0),
-    "lines": (LINES, LINES, 0),
-    "large lines": (LINES * 20_000, LINES * 20_000, 0),
-    "stream": (MESSAGE, MESSAGE, 0),
-    "stream and batches": (MESSAGE + LARGE, MESSAGE, 0),
-    "stream that is cut": (MESSAGE[:-1], MESSAGE[:-1], 0),
-    "stream that tells a size of 4 GiB": (b"\xff" * 8 + b"rest", b"\xff" * 8 + b"rest", 0),
-    "large message": (b"\xff" * 4 + len(LARGE).to_bytes(4, "little") + LARGE + b"rest", b"\xff" * 4 + len(LARGE).to_bytes(4, "little") + LARGE, 0),
-    "stream without the marker": (OLD, OLD, 0),
-    "stream without the marker and batches": (OLD + LARGE, OLD, 0),
-    "short stream without the marker": (b"\x08\0\0\0\x08" + bytes(100), b"\x08\0\0\0\x08" + bytes(59), 0),
-    "no stream without the marker": (b"\0\0\0\0\x08" + bytes(100), b"\0\0\0\0\x08" + bytes(100), 0),
-    "Arrow file": (arrow_file(b"footer"), arrow_file(b"footer"), 0),
-    "large Arrow file": (arrow_file(b"footer", LARGE), arrow_file(b"footer"), len(LARGE)),
-    "Arrow file with a footer of 3 MB": (arrow_file(LARGE, b"12345"), arrow_file(LARGE), 5),
-    "Arrow file with a footer that is too large": (b"ARROW1\0\0" + b"f" * 100 + b"\xff\xff\xff\x7fARROW1", b"ARROW1\0\0\xff\xff\xff\x7fARROW1", 100),
-    "Parquet file": (parquet_file(b"footer", b"12345678"), b"PAR11234" + parquet_file(b"footer")[4:], 4),
-    "encrypted Parquet file": (parquet_file(b"footer", LARGE, b"PARE"), b"PARE\0\0\0\0" + parquet_file(b"footer", b"", b"PARE")[4:], len(LARGE) - 4),
+    "empty": begun(b""),
+    "short": begun(b"{}"),
+    "lines": begun(LINES, len(LINES)),
+    "large lines": begun(LINES * 20_000, len(LINES) * 20_000),
+    "blanks": begun(b" " * 200, 200),
+    "stream": begun(MESSAGE, 32),
+    "stream and batches": begun(MESSAGE + LARGE, 32),
+    "stream that is cut": begun(MESSAGE[:-1], 31),
+    "stream that tells a size of 4 GiB": begun(b"\xff" * 8 + b"rest", 12),
+    "large message": begun(b"\xff" * 4 + len(LARGE).to_bytes(4, "little") + LARGE + b"rest", 8 + len(LARGE)),
+    "stream without the marker": begun(OLD, 104),
+    "stream without the marker and batches": begun(OLD + LARGE, 104),
+    "short stream without the marker": begun(b"\x08\0\0\0\x08" + bytes(100), 12),
+    "no stream without the marker": begun(b"\0\0\0\0\x08" + bytes(100)),
+    "gzip": begun(b"\x1f\x8b" + LARGE),
+    "XML": begun(XML, 1024),
+    "Arrow file": ended(arrow_file(b"footer"), 16),
+    "Arrow file that is cut": ended(arrow_file(b"footer", LARGE)[:-1], 10),
+    "short Arrow file": begun(b"ARROW1\0"),
+    "large Arrow file": ended(arrow_file(b"footer", LARGE), 16),
+    "Arrow file of 64 bytes": ended(arrow_file(b"footer", bytes(40)), 16),
+    "Arrow file of a byte more": ended(arrow_file(b"footer", bytes(41)), 16),
+    "Arrow file whose footer begins in the head": ended(arrow_file(b"f" * 60, bytes(20)), 70),
+    "Arrow file with a footer of 3 MB": ended(arrow_file(LARGE, b"12345" * 20), 10 + len(LARGE)),
+    "Arrow file with a footer that is too large": ended(b"ARROW1\0\0" + b"f" * 100 + b"\xff\xff\xff\x7fARROW1", 10),
+    "Arrow file with a footer that is as large as can be": ended(b"ARROW1\0\0" + b"f" * 100 + b"\x64\0\0\0ARROW1", 110),
+    "Arrow file with a footer of a byte more": ended(b"ARROW1\0\0" + b"f" * 100 + b"\x65\0\0\0ARROW1", 10),
+    "Parquet file": ended(parquet_file(b"footer", b"12345678"), 14),
+    "large Parquet file": ended(parquet_file(b"footer", LARGE), 14),
+    "Parquet file with a footer that is as large as can be": ended(b"PAR1" + b"f" * 100 + b"\x64\0\0\0PAR1", 108),
+    "Parquet file with a footer of a byte more": ended(b"PAR1" + b"f" * 100 + b"\x65\0\0\0PAR1", 8),
+    "encrypted Parquet file": ended(parquet_file(b"footer", LARGE, b"PARE"), 8),
 }
+
+
+class Counts(io.BytesIO):
+    """A file that notes which of its bytes are read."""
+
+    def __init__(self, found):
+        super().__init__(found)
+        self.places = []
+
+    def read(self, size=-1):
+        place = self.tell()
+        found = super().read(size)
+        self.places.append((place, place + len(found)))
+        return found
 
 
 class Files(InAFolder):
@@ -170,9 +209,43 @@ class Files(InAFolder):
         given_of(Told(b"\xff" * 8 + b"rest"))
         self.assertLessEqual(max(asked), sources._AT_ONCE)
 
-    def test_as_many_bytes_tell_the_format_as_the_library_looks_at(self):
-        form = (TOP / "crates/column_files/src/form.rt").read_text(encoding="utf-8")
-        self.assertEqual(sources._MOST_LOOKED_AT, int(re.search(r"HEAD_BYTES: usize = (\d+);", form)[1]))
+    def test_no_other_bytes_are_read(self):
+        """The bytes that are given are read, once, and those behind a footer once more, but no others."""
+        for name, (whole, wanted, left_out) in CONTENTS.items():
+            with self.subTest(name):
+                file = Counts(whole)
+                given_of(file)
+                begin = len(wanted)
+                if left_out or whole[:4] in (b"ARRO", b"PAR1", b"PARE"):
+                    begin = min(64, len(whole))
+                for start, end in file.places:
+                    self.assertTrue(end <= begin or start >= begin + left_out, (start, end))
+                read = sum(end - start for start, end in file.places)
+                self.assertIn(read - len(wanted), range(11))
+
+    def test_a_size_that_is_less_than_what_is_read(self):
+        """As of files of the system, which tell that they are empty."""
+        class Tells(io.BytesIO):
+            def seek(self, place, whence=0):
+                return super().seek(0 if whence == os.SEEK_END else place)
+
+        for whole in (LINES, b"{}" + b" " * 62, OLD):
+            self.assertEqual(given_of(Tells(whole)), (whole, 0, False, b""))
+
+    def test_a_file_that_becomes_shorter(self):
+        """What is there is given, as of a file that was so short before."""
+        class Shrinks(io.BytesIO):
+            def seek(self, place, whence=0):
+                found = super().seek(place, whence)
+                if place > 64:
+                    self.truncate(len(whole) - 3)
+                return found
+
+        whole = arrow_file(b"footer", LARGE)
+        cut = given_of(whole[:-3])
+        for found in (given_of(Shrinks(whole)), given_of(io.BytesIO(whole[:-3]))):
+            self.assertEqual(found.content, cut.content[:64] + cut.content[-10:])
+            self.assertEqual(found.left_out, len(whole) - 3 - 74)
 
     def test_files_of_text(self):
         with open(self.file(LINES), encoding="utf-8") as file:

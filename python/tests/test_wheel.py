@@ -26,9 +26,17 @@ def ran(*words, **more):
 
 
 def pythons(script):
-    """The interpreters here that run a script: that of the tests, and Debian's own."""
-    found = dict.fromkeys([sys.executable, "/usr/bin/python3"])
+    """The interpreters here, from Python 3.8 on, that run a script: that of the tests, Debian's own, and those of pyenv."""
+    versions = pathlib.Path(os.environ.get("PYENV_ROOT") or pathlib.Path.home() / ".pyenv", "versions")
+    found = dict.fromkeys([sys.executable, "/usr/bin/python3", *sorted(map(str, versions.glob("*/bin/python3")))])
+    script = f"import sys; assert sys.version_info >= (3, 8); {script}"
     return [one for one in found if os.path.exists(one) and ran(one, "-W", "ignore", "-c", script).returncode == 0]
+
+
+def held_in(wheel):
+    """The files of the package in a wheel, with what is in them."""
+    with zipfile.ZipFile(wheel) as held:
+        return {name: held.read(name) for name in held.namelist() if ".dist-info/" not in name}
 
 
 BUILDERS = pythons(TOOLS)
@@ -56,9 +64,19 @@ class Wheel(unittest.TestCase):
         (found,) = (self.folder / "wheels").iterdir()
         return found
 
+    def platform(self):
+        """That of the C library that the library needs, as readelf tells it."""
+        told = ran("readelf", "-V", os.path.realpath(library.path())).stdout.decode()
+        newest = max((2, 17), *((int(major), int(minor)) for major, minor in re.findall(r"Name: GLIBC_(\d+)\.(\d+)", told)))
+        return "manylinux_{}_{}_{}".format(*newest, os.uname().machine)
+
+    def test_that_it_needs_the_c_library_alone(self):
+        told = ran("readelf", "-d", os.path.realpath(library.path())).stdout.decode()
+        self.assertEqual(re.findall(r"\(NEEDED\).*\[(.*)\]", told), ["libc.so.6"])
+
     def test_what_it_holds(self):
         found = self.wheel()
-        self.assertRegex(found.name, rf"^geoarrow_fields-{re.escape(__version__)}-py3-none-(?!any).+\.whl$")
+        self.assertEqual(found.name, f"geoarrow_fields-{__version__}-py3-none-{self.platform()}.whl")
         with zipfile.ZipFile(found) as held:
             self.assertEqual(held.read("geoarrow_fields/libgeoarrow_c.so"), pathlib.Path(os.path.realpath(library.path())).read_bytes())
             modules = {f"geoarrow_fields/{one.name}" for one in (TOP / "python/geoarrow_fields").iterdir() if one.suffix in (".py", ".typed")}
@@ -94,7 +112,19 @@ class Wheel(unittest.TestCase):
         words = [BUILDERS[-1], "-m", "pip", "wheel", "--no-build-isolation", "--no-index", "--no-deps", "-w", str(self.folder / "none"), "."]
         said = ran(*words, cwd=self.folder / "top/python", env={**self.environment, "GEOARROW_C_LIBRARY": str(self.folder / "nowhere.so")})
         self.assertNotEqual(said.returncode, 0)
-        self.assertIn("nowhere.so is not there: bin/native builds it", said.stdout.decode())
+        self.assertIn("nowhere.so is not there: bin/native of the project's repository builds it", said.stdout.decode())
+
+    def test_of_a_source_distribution(self):
+        """A wheel of it holds what that of the repository does."""
+        with tempfile.TemporaryDirectory() as elsewhere:
+            said = ran(BUILDERS[-1], "setup.py", "-q", "sdist", "-d", elsewhere, cwd=self.folder / "top/python", env=self.environment)
+            self.assertEqual(said.returncode, 0, said.stdout.decode())
+            folder = pathlib.Path(elsewhere)
+            words = [BUILDERS[-1], "-m", "pip", "wheel", "--no-build-isolation", "--no-index", "--no-deps", "-w", f"{elsewhere}/wheels", *map(str, folder.glob("*.tar.gz"))]
+            said = ran(*words, cwd=elsewhere, env=self.environment)
+            self.assertEqual(said.returncode, 0, said.stdout.decode())
+            (made,) = (folder / "wheels").iterdir()
+            self.assertEqual(held_in(made), held_in(self.wheel()))
 
 
 if __name__ == "__main__":

@@ -1,5 +1,5 @@
--- The lines of columns in normal form: column by column, of a report, and of the bytes of a file.
-use Rattle.std.proofs.Common.{◌≡◌, false, String, Global, List, [], ◌∷◌, ◌++◌, flat_map, Ok, string_bytes, sym, subst, ap, ◌∙◌, append-nil}
+-- The lines of columns, as they are and in normal form: column by column, of a report, and of the bytes of a file.
+use Rattle.std.proofs.Common.{◌≡◌, false, String, Global, List, [], ◌∷◌, ◌++◌, flat_map, map, Ok, string_bytes, sym, subst, ap, ◌∙◌, append-nil}
 use Rattle.std.specs.List.{AllZip}
 use Rattle.std.proofs.lemmas.List.Concat.{flat_map-append}
 use Rattle.arrow_columns.specs.Types.{ColumnTree}
@@ -11,6 +11,7 @@ use Rattle.column_reports.specs.declared.file.FileReport.{FileReport}
 use Rattle.column_reports.specs.declared.report.ColumnReport.{ColumnReport}
 use Rattle.geoarrow_fields.specs.Lines.{Bytes}
 use Rattle.geoarrow_c.specs.Canonical.{line_of, AreCanonical, AreLinesOf, AreLinesOfFile, IsWritten}
+use Rattle.geoarrow_c.specs.FileLines.{AreFileLines, AreLinesAsRead, tree_of}
 
 -- of no columns there are no lines
 pub no_lines : {lines : Bytes} → lines ≡ [] → AreLinesOf [] lines
@@ -40,3 +41,12 @@ are_of_file report is_report are = record { report = report; is_report = is_repo
 -- the lines of a file by its bytes
 pub are_canonical : {bytes lines : Bytes} (opened : File) (found : String Global) → IsOpened bytes (Ok opened) → AreLinesOfFile opened (string_bytes found) → lines ≡ string_bytes found → AreCanonical bytes lines
 are_canonical opened found is_opened are is = record { opened = opened; is_opened = is_opened; are = subst (AreLinesOfFile opened) (sym is) are }
+
+-- the lines of the columns of a report of a file, as they are
+pub as_read : {opened : File} {lines : Bytes} (report : FileReport) → IsReport false (plain false) opened report → lines ≡ flat_map line_of (map tree_of report.columns.items)
+    → AreLinesAsRead opened lines
+as_read report is_report are = record { report = report; is_report = is_report; are = are }
+
+-- and by its bytes
+pub are_file_lines : {bytes lines : Bytes} (opened : File) (found : String Global) → IsOpened bytes (Ok opened) → AreLinesAsRead opened (string_bytes found) → lines ≡ string_bytes found → AreFileLines bytes lines
+are_file_lines opened found is_opened are is = record { opened = opened; is_opened = is_opened; are = subst (AreLinesAsRead opened) (sym is) are }

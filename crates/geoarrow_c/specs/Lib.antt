@@ -1,7 +1,10 @@
 pub mod Buffer
 pub mod Calls
 pub mod Canonical
+pub mod FileLines
+pub mod MadeLines
 pub mod Places
+pub mod Ranges
 pub mod Records
 pub mod Refusals
 pub mod Reports

@@ -57,10 +57,10 @@ IsReportRead o size (Ok s) text = (lines : String Global) × Reports o size s (O
 IsReportRead o size (Err refusal) text = ⊥
 
 -- the line says why there is no report
-abbrev pub IsRefusalRead : Options → ℕ → Result RecordSchema Refusal → Bytes → Type 0
-IsRefusalRead o size (Ok s) line = (fault : FileFault) × Reports o size s (Err fault) × IsLineOfFile None ArrowStream fault line
-IsRefusalRead o size (Err (refusals.Told fault)) line = line ≡ line_of None (told fault)
-IsRefusalRead o size (Err refusals.OutOfMemory) line = ⊥
+abbrev pub IsUnreported : Options → ℕ → Result RecordSchema Refusal → Bytes → Type 0
+IsUnreported o size (Ok s) line = (fault : FileFault) × Reports o size s (Err fault) × IsLineOfFile None ArrowStream fault line
+IsUnreported o size (Err (refusals.Told fault)) line = line ≡ line_of None (told fault)
+IsUnreported o size (Err refusals.OutOfMemory) line = ⊥
 
 -- ---- of a walk, after which `given` is what there is, by how it ended
 
@@ -78,5 +78,5 @@ pub record IsOfWalk (Is : Options → ℕ → Result RecordSchema Refusal → By
 abbrev pub IsSchemaReport : (Walk → Option (Result Schema Told)) → ℕ → ℕ → ℕ → Bytes → Type 0
 IsSchemaReport given size number ended lines = IsOfWalk IsReportRead given size number ended lines
 
-abbrev pub IsSchemaRefusal : (Walk → Option (Result Schema Told)) → ℕ → ℕ → ℕ → Bytes → Type 0
-IsSchemaRefusal given size number ended line = IsOfWalk IsRefusalRead given size number ended line
+abbrev pub IsSchemaUnreported : (Walk → Option (Result Schema Told)) → ℕ → ℕ → ℕ → Bytes → Type 0
+IsSchemaUnreported given size number ended line = IsOfWalk IsUnreported given size number ended line

@@ -23,11 +23,12 @@ fn command_of(number: u8) -> Option<Command>
     }
 }
 
-/// Writes the answer to one line under the command of a number, without a line feed (docs/FORMAT.md, 2.2), to the front of `out`, and
-/// its length to `len`. The numbers of the commands: 0 `read`, 1 `infer`, 2 `canon`, 3 `columns`.
+/// Writes the answer to one line under the command of a number, without a line feed
+/// (docs/FORMAT.md, 2.2), to the front of `out`, and its length to `len`. The numbers of the
+/// commands: 0 `read`, 1 `infer`, 2 `canon`, 3 `columns`.
 ///
-/// Returns 0; 1 where `out` is too small: it is then unchanged, and `len` says what is needed; 2 when out of memory; 3 where the number is
-/// that of no command. With 2 and 3 both are unchanged.
+/// Returns 0; 1 where `out` is too small: it is then unchanged, and `len` says what is needed; 2
+/// when out of memory; 3 where the number is that of no command. With 2 and 3 both are unchanged.
 #[unsafe(no_mangle)]
 pub extern "C" fn geoarrow_answer(
     alloc: Global,
@@ -61,8 +62,9 @@ fn run_over(alloc: Global, command: Command, input: &[u8], written: &mut Vec<u8>
     run(alloc, command, &mut reader, written)
 }
 
-/// Writes the answers to all lines of an input, each with its line feed, as [`geoarrow_answer`] writes that to one. Returns 4 where the
-/// input is past a limit (docs/FORMAT.md, 2.3), with `out` and `len` unchanged.
+/// Writes the answers to all lines of an input, each with its line feed, as [`geoarrow_answer`]
+/// writes that to one. Returns 4 where the input is past a limit (docs/FORMAT.md, 2.3), with `out`
+/// and `len` unchanged.
 #[unsafe(no_mangle)]
 pub extern "C" fn geoarrow_run(
     alloc: Global,

@@ -4,7 +4,8 @@ ghost use Rattle.geoarrow_c.specs.Buffer.{Fills, Lacks};
 
 use crate::status::{DONE, SHORT};
 
-/// Writes a text to the front of a buffer, if it has room, and its length in either case. Returns whether the buffer has room.
+/// Writes a text to the front of a buffer, if it has room, and its length in either case. Returns
+/// whether the buffer has room.
 pub(crate) fn fill(text: &[u8], out: &mut [u8], len: &mut usize) -> u8
     ensures done { result ≡ 0 → Fills text.now out.old out.new }
     ensures short { result ≡ 1 → Lacks text.now out.old out.new }

@@ -23,8 +23,8 @@ use std::alloc::{AllocError, Global};
 ///
 /// Returns 0; or 5 where the bytes are refused: the line that says why, with its line feed, stands
 /// in place of the columns (docs/FORMAT.md, 2.8). Returns 1 where `out` is too small for what would
-/// stand there: it is then unchanged, and `len` says what is needed; 2 when out of memory, with both
-/// unchanged.
+/// stand there: it is then unchanged, and `len` says what is needed; 2 when out of memory, with
+/// both unchanged.
 #[unsafe(no_mangle)]
 pub extern "C" fn geoarrow_canonical(
     alloc: Global,
@@ -48,8 +48,8 @@ pub extern "C" fn geoarrow_canonical(
     }
 }
 
-/// Returns the lines of the columns of a file that was opened, in normal form. Errs only when out of
-/// memory.
+/// Returns the lines of the columns of a file that was opened, in normal form. Errs only when out
+/// of memory.
 fn lines_of_file(alloc: Global, opened: File<'_>) -> Result<String, AllocError>
     ensures { IfOk result (λ lines. AreLinesOfFile opened.entry (string_bytes lines)) }
 {
@@ -61,7 +61,8 @@ fn lines_of_file(alloc: Global, opened: File<'_>) -> Result<String, AllocError>
     lines_of(alloc, report.columns)
 }
 
-/// Returns the lines of columns of which that is said, in normal form. Errs only when out of memory.
+/// Returns the lines of columns of which that is said, in normal form. Errs only when out of
+/// memory.
 fn lines_of(alloc: Global, columns: Vec<ColumnReport>) -> Result<String, AllocError>
     ensures { IfOk result (λ lines. AreLinesOf columns.items (string_bytes lines)) }
 {
@@ -87,8 +88,8 @@ fn written(
     normal_if(alloc, is_geometry, scratch, said.column)
 }
 
-/// Returns a column in normal form, if it is one of geometries, or else as it is. Errs only when out
-/// of memory.
+/// Returns a column in normal form, if it is one of geometries, or else as it is. Errs only when
+/// out of memory.
 fn normal_if(
     alloc: Global,
     is_geometry: bool,

@@ -28,9 +28,9 @@ fn is_schema_in(
     }
 }
 
-/// Tells by the record of one structure, which the bytes are, over which the walk ended so, whether it is that of a
-/// schema (docs/FORMAT.md, 6.6): writes 1 to `is` if it is, or is refused, and 0 if it is that of a
-/// column. That of a schema may have a name where `may_have_name` is not 0.
+/// Tells by the record of one structure, which the bytes are, over which the walk ended so, whether
+/// it is that of a schema (docs/FORMAT.md, 6.6): writes 1 to `is` if it is, or is refused, and 0 if
+/// it is that of a column. That of a schema may have a name where `may_have_name` is not 0.
 ///
 /// Returns 0; or 2 when out of memory, also where the walk was, and 3 where the number is that of
 /// no walk, with `is` unchanged.

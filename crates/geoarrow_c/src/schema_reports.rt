@@ -7,8 +7,8 @@ ghost use Rattle.parquet_columns.specs.Findings.{geo_key};
 ghost use Rattle.geoarrow_c.specs.Buffer.{Fills, Lacks, Makes};
 ghost use Rattle.geoarrow_c.specs.Records.{schema_in, field_in};
 ghost use Rattle.geoarrow_c.specs.SchemaReports.{IsOpenedAs, Reports};
-ghost use Rattle.geoarrow_c.specs.SchemaReports.{IsReportRead, IsRefusalRead};
-ghost use Rattle.geoarrow_c.specs.SchemaReports.{IsSchemaReport, IsSchemaRefusal};
+ghost use Rattle.geoarrow_c.specs.SchemaReports.{IsReportRead, IsUnreported};
+ghost use Rattle.geoarrow_c.specs.SchemaReports.{IsSchemaReport, IsSchemaUnreported};
 ghost use Rattle.geoarrow_c.specs.Walks.{place_in};
 
 use crate::buffer::fill;
@@ -78,8 +78,8 @@ fn report_schema(
     len: &mut usize,
 ) -> u8
     ensures done { result ≡ 0 → Makes (IsReportRead asked size (Ok schema)) len.new (λ lines. Fills lines out.old out.new) }
-    ensures refused { result ≡ 5 → Makes (IsRefusalRead asked size (Ok schema)) len.new (λ line. Fills line out.old out.new) }
-    ensures short { result ≡ 1 → Makes (λ text. IsReportRead asked size (Ok schema) text ⊎ IsRefusalRead asked size (Ok schema) text) len.new (λ text. Lacks text out.old out.new) }
+    ensures refused { result ≡ 5 → Makes (IsUnreported asked size (Ok schema)) len.new (λ line. Fills line out.old out.new) }
+    ensures short { result ≡ 1 → Makes (λ text. IsReportRead asked size (Ok schema) text ⊎ IsUnreported asked size (Ok schema) text) len.new (λ text. Lacks text out.old out.new) }
     ensures unchanged { result ≡ 2 → (out.new ≡ out.old) × (len.new ≡ len.old) }
     ensures status { (result ≤ 2) ⊎ (result ≡ 5) }
 {
@@ -99,8 +99,8 @@ fn report_read(
     len: &mut usize,
 ) -> u8
     ensures done { result ≡ 0 → Makes (IsReportRead asked size read) len.new (λ lines. Fills lines out.old out.new) }
-    ensures refused { result ≡ 5 → Makes (IsRefusalRead asked size read) len.new (λ line. Fills line out.old out.new) }
-    ensures short { result ≡ 1 → Makes (λ text. IsReportRead asked size read text ⊎ IsRefusalRead asked size read text) len.new (λ text. Lacks text out.old out.new) }
+    ensures refused { result ≡ 5 → Makes (IsUnreported asked size read) len.new (λ line. Fills line out.old out.new) }
+    ensures short { result ≡ 1 → Makes (λ text. IsReportRead asked size read text ⊎ IsUnreported asked size read text) len.new (λ text. Lacks text out.old out.new) }
     ensures unchanged { result ≡ 2 → (out.new ≡ out.old) × (len.new ≡ len.old) }
     ensures status { (result ≤ 2) ⊎ (result ≡ 5) }
 {
@@ -134,8 +134,8 @@ pub extern "C" fn schema_report(
     len: &mut usize,
 ) -> u8
     ensures done { result ≡ 0 → Makes (IsSchemaReport (schema_in (place_in column) records.now) (length records.now) options walk) len.new (λ lines. Fills lines out.old out.new) }
-    ensures refused { result ≡ 5 → Makes (IsSchemaRefusal (schema_in (place_in column) records.now) (length records.now) options walk) len.new (λ line. Fills line out.old out.new) }
-    ensures short { result ≡ 1 → Makes (λ text. IsSchemaReport (schema_in (place_in column) records.now) (length records.now) options walk text ⊎ IsSchemaRefusal (schema_in (place_in column) records.now) (length records.now) options walk text) len.new (λ text. Lacks text out.old out.new) }
+    ensures refused { result ≡ 5 → Makes (IsSchemaUnreported (schema_in (place_in column) records.now) (length records.now) options walk) len.new (λ line. Fills line out.old out.new) }
+    ensures short { result ≡ 1 → Makes (λ text. IsSchemaReport (schema_in (place_in column) records.now) (length records.now) options walk text ⊎ IsSchemaUnreported (schema_in (place_in column) records.now) (length records.now) options walk text) len.new (λ text. Lacks text out.old out.new) }
     ensures unchanged { (result ≡ 2) ⊎ (result ≡ 3) → (out.new ≡ out.old) × (len.new ≡ len.old) }
     ensures unknown { (result ≡ 3) ↔ ((3 < options) ⊎ (9 < walk)) }
     ensures status { (result ≤ 3) ⊎ (result ≡ 5) }
@@ -162,8 +162,8 @@ pub extern "C" fn field_report(
     len: &mut usize,
 ) -> u8
     ensures done { result ≡ 0 → Makes (IsSchemaReport (field_in records.now) (length records.now) options walk) len.new (λ lines. Fills lines out.old out.new) }
-    ensures refused { result ≡ 5 → Makes (IsSchemaRefusal (field_in records.now) (length records.now) options walk) len.new (λ line. Fills line out.old out.new) }
-    ensures short { result ≡ 1 → Makes (λ text. IsSchemaReport (field_in records.now) (length records.now) options walk text ⊎ IsSchemaRefusal (field_in records.now) (length records.now) options walk text) len.new (λ text. Lacks text out.old out.new) }
+    ensures refused { result ≡ 5 → Makes (IsSchemaUnreported (field_in records.now) (length records.now) options walk) len.new (λ line. Fills line out.old out.new) }
+    ensures short { result ≡ 1 → Makes (λ text. IsSchemaReport (field_in records.now) (length records.now) options walk text ⊎ IsSchemaUnreported (field_in records.now) (length records.now) options walk text) len.new (λ text. Lacks text out.old out.new) }
     ensures unchanged { (result ≡ 2) ⊎ (result ≡ 3) → (out.new ≡ out.old) × (len.new ≡ len.old) }
     ensures unknown { (result ≡ 3) ↔ ((3 < options) ⊎ (9 < walk)) }
     ensures status { (result ≤ 3) ⊎ (result ≡ 5) }

@@ -14,11 +14,12 @@ pub(crate) const UNKNOWN: u8 = 3;
 pub(crate) const LIMIT: u8 = 4;
 /// The bytes are refused. The line that says why stands at the front of the buffer.
 pub(crate) const REFUSED: u8 = 5;
-/// The bytes of the first of two files are refused. The line that says why stands at the front of the
-/// buffer.
+/// The bytes of the first of two files are refused. The line that says why stands at the front of
+/// the buffer.
 pub(crate) const FIRST_REFUSED: u8 = 6;
 
-/// The version: ten thousand times the first number, a hundred times the second, and the third. Allocates nothing.
+/// Returns the version: ten thousand times the first number, a hundred times the second, and the
+/// third. Allocates nothing.
 #[unsafe(no_mangle)]
 pub extern "C" fn geoarrow_version() -> u32
     ensures { result ≡ 20000 }

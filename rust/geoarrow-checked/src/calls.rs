@@ -2,10 +2,11 @@
 //! `unsafe`. Nothing compares these declarations with the header but the tests.
 use crate::error::{error_of, Error};
 use crate::filled::{filled, DONE};
-use crate::{number_of, text, Options};
+use crate::{number_of, text, NewField, Options};
 #[cfg(feature = "arrow-schema")]
 use arrow_schema::ffi::FFI_ArrowSchema;
 use std::ffi::{c_char, c_void};
+use std::mem::MaybeUninit;
 #[cfg(feature = "arrow-schema")]
 use std::ptr;
 
@@ -89,9 +90,40 @@ unsafe extern "C" {
         out_len: usize,
         len: *mut usize,
     ) -> u8;
+    fn geoarrow_lines(
+        bytes: *const u8,
+        bytes_len: usize,
+        out: *mut u8,
+        out_len: usize,
+        len: *mut usize,
+    ) -> u8;
     fn geoarrow_write_schema(
         lines: *const u8,
         lines_len: usize,
+        out: *mut u8,
+        out_len: usize,
+        len: *mut usize,
+    ) -> u8;
+    fn geoarrow_make(
+        name: *const u8,
+        name_len: usize,
+        kind: *const u8,
+        kind_len: usize,
+        nullable: u8,
+        crs: *const u8,
+        crs_len: usize,
+        crs_type: *const u8,
+        crs_type_len: usize,
+        edges: *const u8,
+        edges_len: usize,
+        out: *mut u8,
+        out_len: usize,
+        len: *mut usize,
+    ) -> u8;
+    fn geoarrow_schema_of_lines(
+        lines: *const u8,
+        lines_len: usize,
+        schema: *mut ArrowSchema,
         out: *mut u8,
         out_len: usize,
         len: *mut usize,
@@ -136,7 +168,7 @@ pub(crate) fn version() -> u32 {
     unsafe { geoarrow_version() }
 }
 
-// SAFETY, of the six calls below: the pointers and lengths are those of slices, of a text and of a
+// SAFETY, of the seven calls below: the pointers and lengths are those of slices, of a text and of a
 // `usize` that are borrowed for the call. None is null, also of an empty one, and none of them is
 // longer than `isize::MAX`. `out` and `len` are borrowed mutably, so they overlap nothing, and
 // nobody else uses them.
@@ -211,6 +243,18 @@ pub(crate) fn canonical(bytes: &[u8]) -> Result<Vec<u8>, Error> {
     })
 }
 
+pub(crate) fn lines(bytes: &[u8]) -> Result<Vec<u8>, Error> {
+    filled(bytes.len(), |out, len| unsafe {
+        geoarrow_lines(
+            bytes.as_ptr(),
+            bytes.len(),
+            out.as_mut_ptr(),
+            out.len(),
+            len,
+        )
+    })
+}
+
 pub(crate) fn write_schema(lines: &[u8]) -> Result<Vec<u8>, Error> {
     filled(lines.len(), |out, len| unsafe {
         geoarrow_write_schema(
@@ -221,6 +265,61 @@ pub(crate) fn write_schema(lines: &[u8]) -> Result<Vec<u8>, Error> {
             len,
         )
     })
+}
+
+pub(crate) fn make(
+    new: &NewField<'_>,
+    kind: &str,
+    crs_type: &str,
+    edges: &str,
+) -> Result<Vec<u8>, Error> {
+    filled(new.crs.len(), |out, len| unsafe {
+        geoarrow_make(
+            new.name.as_ptr(),
+            new.name.len(),
+            kind.as_ptr(),
+            kind.len(),
+            u8::from(new.nullable),
+            new.crs.as_ptr(),
+            new.crs.len(),
+            crs_type.as_ptr(),
+            crs_type.len(),
+            edges.as_ptr(),
+            edges.len(),
+            out.as_mut_ptr(),
+            out.len(),
+            len,
+        )
+    })
+}
+
+/// Makes the schema whose columns the lines denote, one a line, in memory, without metadata of its
+/// own (docs/FORMAT.md, 2.7): blank lines are passed over. It is the caller's to release, or to
+/// hand on; dropping it releases nothing.
+///
+/// # Errors
+///
+/// [`Error::Refused`] where a line denotes no column, and where no structures can have the columns,
+/// with the code `BadSchema`; [`Error::OutOfMemory`].
+pub fn schema_of_lines(lines: &[u8]) -> Result<ArrowSchema, Error> {
+    let mut made = MaybeUninit::uninit();
+    let schema = made.as_mut_ptr();
+    filled(0, |out, len| {
+        // SAFETY: the lines, `out` and `len` are as in the calls above; `schema` leads to room for a
+        // structure that nothing else uses, and the call does not read it.
+        unsafe {
+            geoarrow_schema_of_lines(
+                lines.as_ptr(),
+                lines.len(),
+                schema,
+                out.as_mut_ptr(),
+                out.len(),
+                len,
+            )
+        }
+    })?;
+    // SAFETY: the status is that at which the call has written all of the structure.
+    Ok(unsafe { made.assume_init() })
 }
 
 /// A guess at half of what is written of a schema: 64 bytes for each of its columns.

@@ -29,17 +29,22 @@ mod error;
 mod facts;
 mod filled;
 mod finding;
+mod made;
 mod members;
 
 #[cfg(feature = "arrow-schema")]
 pub mod arrow;
 
 pub use calls::{
-    check_field, check_schema, field_line, is_schema, schema_lines, schema_stream, ArrowSchema,
+    check_field, check_schema, field_line, is_schema, schema_lines, schema_of_lines, schema_stream,
+    ArrowSchema,
 };
 pub use error::Error;
 pub use facts::{column_facts, Facts, Source, Verdict};
 pub use finding::{bad_lines, column_findings, findings, Finding, Severity};
+pub use made::{
+    make_line, CoordType, CrsType, Dimension, Edges, GeometryType, Kind, NewField, Serialized,
+};
 
 /// What is asked of a line.
 #[derive(Debug, Clone, Copy, PartialEq, Eq, Hash)]
@@ -192,6 +197,25 @@ pub fn same_named(
 /// [`Error::Refused`] where the bytes are refused, with why and where; [`Error::OutOfMemory`].
 pub fn canonical(source: &[u8]) -> Result<String, Error> {
     Ok(text(calls::canonical(source)?))
+}
+
+/// Returns the columns of a file, from its bytes, as lines, each with a line feed, in their order, as
+/// `geoarrow_check --lines` prints them (docs/FORMAT.md, 2.7): those of [`canonical`], as they stand
+/// in the file.
+///
+/// ```
+/// use geoarrow_checked::{lines, write_schema};
+///
+/// let line = br#"{"name":"g","nullable":true,"type":"binary"}"#;
+/// assert_eq!(lines(&write_schema(line)?)?.trim_end().as_bytes(), line);
+/// # Ok::<(), geoarrow_checked::Error>(())
+/// ```
+///
+/// # Errors
+///
+/// [`Error::Refused`] where the bytes are refused, with why and where; [`Error::OutOfMemory`].
+pub fn lines(source: &[u8]) -> Result<String, Error> {
+    Ok(text(calls::lines(source)?))
 }
 
 /// Returns an Arrow stream of the schema whose columns the lines denote, one a line
