@@ -45,7 +45,8 @@ def read(given: Any, reads: "Reads[Found]") -> Found:
     giver = _giver_of(given)
     if giver is None:
         raise TypeError(f"{shown(type(given).__name__)} gives no Arrow schema")
-    return giver(reads)
+    found: Found = giver(reads)
+    return found
 
 
 def _giver_of(given: Any) -> Optional[Callable[["Reads[Any]"], Any]]:
