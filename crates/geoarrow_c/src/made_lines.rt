@@ -210,21 +210,23 @@ fn fill_line(alloc: Global, column: SchemaColumn, out: &mut [u8], len: &mut usiz
 fn unmade_fault(error: MakeError) -> Option<Fault<'static>>
     ensures { option_map told result ≡ unmade_told error }
 {
-    let (found, expected) = match error {
-        MakeError::NotProjjson => (
-            "a CRS that is no PROJJSON",
-            "an object of JSON that nests at most 126 levels",
-        ),
-        MakeError::TypeWithoutCrs => ("a CRS type without a CRS", "a CRS, or no type"),
-        MakeError::OutOfMemory => return None,
-    };
-    Some(Fault {
-        code: "BadSchema",
-        place: Place::Column(0),
-        found,
-        expected,
-        help: None,
-    })
+    match error {
+        MakeError::NotProjjson => Some(Fault {
+            code: "BadSchema",
+            place: Place::Column(0),
+            found: "a CRS that is no PROJJSON",
+            expected: "an object of JSON that nests at most 126 levels",
+            help: None,
+        }),
+        MakeError::TypeWithoutCrs => Some(Fault {
+            code: "BadSchema",
+            place: Place::Column(0),
+            found: "a CRS type without a CRS",
+            expected: "a CRS, or no type",
+            help: None,
+        }),
+        MakeError::OutOfMemory => None,
+    }
 }
 
 /// Writes the line that says why a column is not made, as `refuse` does.
