@@ -171,8 +171,8 @@ fn asked_of<'a>(
     })
 }
 
-/// Returns the column with the type of its CRS, or the one that the form of its CRS tells. Errs only
-/// when out of memory.
+/// Returns the column with the type of its CRS, or the one that the form of its CRS tells. Errs
+/// only when out of memory.
 fn with_type<'a>(alloc: Global, asked: NewColumn<'a>) -> Result<NewColumn<'a>, AllocError>
     ensures { IfOk result (λ new. new ≡ with_type asked.entry) }
 {
@@ -245,10 +245,10 @@ fn refuse_made(alloc: Global, error: MakeError, out: &mut [u8], len: &mut usize)
 /// Writes the line of a column of geometries (docs/FORMAT.md, 2.7 and 2.11) to the front of `out`,
 /// with its line feed, and its length to `len`. `name` is its name; `kind` the words of its kind in
 /// a report, as `point interleaved XY` (2.5); `nullable` 1 where values may be null, and 0 where
-/// not. `crs` is none where it has no bytes, the text of a PROJJSON where `{` is its first byte that
-/// is no blank, and any other text as it is. `crs_type` is a word of 1.6, or has no bytes: then it
-/// is the type that the form of the CRS tells, if one is. `edges` is a word of 1.6; `planar` and no
-/// bytes stand for none.
+/// not. `crs` is none where it has no bytes, the text of a PROJJSON where `{` is its first byte
+/// that is no blank, and any other text as it is. `crs_type` is a word of 1.6, or has no bytes:
+/// then it is the type that the form of the CRS tells, if one is. `edges` is a word of 1.6;
+/// `planar` and no bytes stand for none.
 ///
 /// Returns 0; or 5 where no such column is made: the line that says why, with its line feed, stands
 /// in place of its line (docs/FORMAT.md, 2.8). Returns 1 where `out` is too small for what would
