@@ -171,8 +171,8 @@ fn asked_of<'a>(
     })
 }
 
-/// Returns the column with the type of its CRS, or the one that the form of its CRS tells. Errs only
-/// when out of memory.
+/// Returns the column with the type of its CRS, or the one that the form of its CRS tells. Errs
+/// only when out of memory.
 fn with_type<'a>(alloc: Global, asked: NewColumn<'a>) -> Result<NewColumn<'a>, AllocError>
     ensures { IfOk result (λ new. new ≡ with_type asked.entry) }
 {
@@ -210,21 +210,23 @@ fn fill_line(alloc: Global, column: SchemaColumn, out: &mut [u8], len: &mut usiz
 fn unmade_fault(error: MakeError) -> Option<Fault<'static>>
     ensures { option_map told result ≡ unmade_told error }
 {
-    let (found, expected) = match error {
-        MakeError::NotProjjson => (
-            "a CRS that is no PROJJSON",
-            "an object of JSON that nests at most 126 levels",
-        ),
-        MakeError::TypeWithoutCrs => ("a CRS type without a CRS", "a CRS, or no type"),
-        MakeError::OutOfMemory => return None,
-    };
-    Some(Fault {
-        code: "BadSchema",
-        place: Place::Column(0),
-        found,
-        expected,
-        help: None,
-    })
+    match error {
+        MakeError::NotProjjson => Some(Fault {
+            code: "BadSchema",
+            place: Place::Column(0),
+            found: "a CRS that is no PROJJSON",
+            expected: "an object of JSON that nests at most 126 levels",
+            help: None,
+        }),
+        MakeError::TypeWithoutCrs => Some(Fault {
+            code: "BadSchema",
+            place: Place::Column(0),
+            found: "a CRS type without a CRS",
+            expected: "a CRS, or no type",
+            help: None,
+        }),
+        MakeError::OutOfMemory => None,
+    }
 }
 
 /// Writes the line that says why a column is not made, as `refuse` does.
@@ -243,10 +245,10 @@ fn refuse_made(alloc: Global, error: MakeError, out: &mut [u8], len: &mut usize)
 /// Writes the line of a column of geometries (docs/FORMAT.md, 2.7 and 2.11) to the front of `out`,
 /// with its line feed, and its length to `len`. `name` is its name; `kind` the words of its kind in
 /// a report, as `point interleaved XY` (2.5); `nullable` 1 where values may be null, and 0 where
-/// not. `crs` is none where it has no bytes, the text of a PROJJSON where `{` is its first byte that
-/// is no blank, and any other text as it is. `crs_type` is a word of 1.6, or has no bytes: then it
-/// is the type that the form of the CRS tells, if one is. `edges` is a word of 1.6; `planar` and no
-/// bytes stand for none.
+/// not. `crs` is none where it has no bytes, the text of a PROJJSON where `{` is its first byte
+/// that is no blank, and any other text as it is. `crs_type` is a word of 1.6, or has no bytes:
+/// then it is the type that the form of the CRS tells, if one is. `edges` is a word of 1.6;
+/// `planar` and no bytes stand for none.
 ///
 /// Returns 0; or 5 where no such column is made: the line that says why, with its line feed, stands
 /// in place of its line (docs/FORMAT.md, 2.8). Returns 1 where `out` is too small for what would

@@ -1,4 +1,4 @@
-use Rattle.std.proofs.Common.{rules, ◌≡◌, ◌↔◌, ◌++◌, ◌∙◌, ℕ, List, codes, IsTrue, Option, None, Some, Bor, option_map, sym, ap, append_assoc}
+use Rattle.std.proofs.Common.{rules, ◌≡◌, ◌↔◌, ◌++◌, ◌∙◌, ℕ, List, codes, Option, None, Some, Bor, option_map, sym, ap, append_assoc}
 use Rattle.std.proofs.lemmas.Option.{same_Some}
 use Rattle.std.proofs.lemmas.Slice.Eq.{slice_eq-Decides}
 use Rattle.std.proofs.lemmas.Bool.Decides.{Decides-eqb}
@@ -41,7 +41,7 @@ returns-in_default-behind c =
     let k = c.args.kind in
     let word : c.kind_word.result.now ≡ kind_word k = search rules in
     let first : (c.args.words.now ≡ c.kind_word.result.now ++ (codes " " ++ typed k)) ↔ (c.in-Some.rest.now ≡ codes " " ++ typed k)
-        = next c.args.words.now c.kind_word.result.now (codes " " ++ typed k) c.behind.result c.in-Some.rest c.in-Some.is c.behind.ensures in
+    = next c.args.words.now c.kind_word.result.now (codes " " ++ typed k) c.behind.result c.in-Some.rest c.in-Some.is c.behind.ensures in
     (λ e. cc, λ e. absurd (ends c.in-Some.rest.now (codes " ") (typed k) c.behind-2.result c.in_default-behind.is c.behind-2.ensures (first.0 (rw word (e ∙ spelled k)))))
 
 pub returns-in_default-behind-2 : goal.returns-in_default-behind-2
@@ -50,11 +50,11 @@ returns-in_default-behind-2 c =
     let word : c.kind_word.result.now ≡ kind_word k = search rules in
     let type_word : c.coord_type_word.result.now ≡ coord_type_word (coord_type_of k) = search rules in
     let first : (c.args.words.now ≡ c.kind_word.result.now ++ (codes " " ++ typed k)) ↔ (c.in-Some.rest.now ≡ codes " " ++ typed k)
-        = next c.args.words.now c.kind_word.result.now (codes " " ++ typed k) c.behind.result c.in-Some.rest c.in-Some.is c.behind.ensures in
+    = next c.args.words.now c.kind_word.result.now (codes " " ++ typed k) c.behind.result c.in-Some.rest c.in-Some.is c.behind.ensures in
     let second : (c.in-Some.rest.now ≡ codes " " ++ typed k) ↔ (c.in-Some-behind.rest.now ≡ typed k)
-        = next c.in-Some.rest.now (codes " ") (typed k) c.behind-2.result c.in-Some-behind.rest c.in-Some-behind.is c.behind-2.ensures in
+    = next c.in-Some.rest.now (codes " ") (typed k) c.behind-2.result c.in-Some-behind.rest c.in-Some-behind.is c.behind-2.ensures in
     let third : c.in-Some-behind.rest.now ≡ c.coord_type_word.result.now ++ sized k → ⊥
-        = ends c.in-Some-behind.rest.now c.coord_type_word.result.now (sized k) c.behind-3.result c.in_default-behind-2.is c.behind-3.ensures in
+    = ends c.in-Some-behind.rest.now c.coord_type_word.result.now (sized k) c.behind-3.result c.in_default-behind-2.is c.behind-3.ensures in
     (λ e. cc, λ e. absurd (third (rw type_word (second.0 (first.0 (rw word (e ∙ spelled k)))))))
 
 pub returns-in_default-behind-3 : goal.returns-in_default-behind-3
@@ -63,13 +63,13 @@ returns-in_default-behind-3 c =
     let word : c.kind_word.result.now ≡ kind_word k = search rules in
     let type_word : c.coord_type_word.result.now ≡ coord_type_word (coord_type_of k) = search rules in
     let first : (c.args.words.now ≡ c.kind_word.result.now ++ (codes " " ++ typed k)) ↔ (c.in-Some.rest.now ≡ codes " " ++ typed k)
-        = next c.args.words.now c.kind_word.result.now (codes " " ++ typed k) c.behind.result c.in-Some.rest c.in-Some.is c.behind.ensures in
+    = next c.args.words.now c.kind_word.result.now (codes " " ++ typed k) c.behind.result c.in-Some.rest c.in-Some.is c.behind.ensures in
     let second : (c.in-Some.rest.now ≡ codes " " ++ typed k) ↔ (c.in-Some-behind.rest.now ≡ typed k)
-        = next c.in-Some.rest.now (codes " ") (typed k) c.behind-2.result c.in-Some-behind.rest c.in-Some-behind.is c.behind-2.ensures in
+    = next c.in-Some.rest.now (codes " ") (typed k) c.behind-2.result c.in-Some-behind.rest c.in-Some-behind.is c.behind-2.ensures in
     let third : (c.in-Some-behind.rest.now ≡ c.coord_type_word.result.now ++ sized k) ↔ (c.in-Some-behind-2.rest.now ≡ sized k)
-        = next c.in-Some-behind.rest.now c.coord_type_word.result.now (sized k) c.behind-3.result c.in-Some-behind-2.rest c.in-Some-behind-2.is c.behind-3.ensures in
+    = next c.in-Some-behind.rest.now c.coord_type_word.result.now (sized k) c.behind-3.result c.in-Some-behind-2.rest c.in-Some-behind-2.is c.behind-3.ensures in
     let fourth : c.in-Some-behind-2.rest.now ≡ sized k → ⊥
-        = ends c.in-Some-behind-2.rest.now (codes " ") (dimension_word (dimension_of k)) c.behind-4.result c.in_default-behind-3.is c.behind-4.ensures in
+    = ends c.in-Some-behind-2.rest.now (codes " ") (dimension_word (dimension_of k)) c.behind-4.result c.in_default-behind-3.is c.behind-4.ensures in
     (λ e. cc, λ e. absurd (fourth (third.0 (rw type_word (second.0 (first.0 (rw word (e ∙ spelled k))))))))
 
 pub returns : goal.returns
@@ -79,13 +79,14 @@ returns c =
     let type_word : c.coord_type_word.result.now ≡ coord_type_word (coord_type_of k) = search rules in
     let last_word : c.as_bytes.result.now ≡ dimension_word (dimension_of k) = search rules in
     let first : (c.args.words.now ≡ c.kind_word.result.now ++ (codes " " ++ typed k)) ↔ (c.in-Some.rest.now ≡ codes " " ++ typed k)
-        = next c.args.words.now c.kind_word.result.now (codes " " ++ typed k) c.behind.result c.in-Some.rest c.in-Some.is c.behind.ensures in
+    = next c.args.words.now c.kind_word.result.now (codes " " ++ typed k) c.behind.result c.in-Some.rest c.in-Some.is c.behind.ensures in
     let second : (c.in-Some.rest.now ≡ codes " " ++ typed k) ↔ (c.in-Some-behind.rest.now ≡ typed k)
-        = next c.in-Some.rest.now (codes " ") (typed k) c.behind-2.result c.in-Some-behind.rest c.in-Some-behind.is c.behind-2.ensures in
+    = next c.in-Some.rest.now (codes " ") (typed k) c.behind-2.result c.in-Some-behind.rest c.in-Some-behind.is c.behind-2.ensures in
     let third : (c.in-Some-behind.rest.now ≡ c.coord_type_word.result.now ++ sized k) ↔ (c.in-Some-behind-2.rest.now ≡ sized k)
-        = next c.in-Some-behind.rest.now c.coord_type_word.result.now (sized k) c.behind-3.result c.in-Some-behind-2.rest c.in-Some-behind-2.is c.behind-3.ensures in
+    = next c.in-Some-behind.rest.now c.coord_type_word.result.now (sized k) c.behind-3.result c.in-Some-behind-2.rest c.in-Some-behind-2.is c.behind-3.ensures in
     let fourth : (c.in-Some-behind-2.rest.now ≡ sized k) ↔ (c.in-Some-behind-3.rest.now ≡ dimension_word (dimension_of k))
-        = next c.in-Some-behind-2.rest.now (codes " ") (dimension_word (dimension_of k)) c.behind-4.result c.in-Some-behind-3.rest c.in-Some-behind-3.is c.behind-4.ensures in
-    let same = slice_eq-Decides Decides-eqb c.in-Some-behind-3.rest.now c.as_bytes.result.now c.eq.result c.eq.ensures in
-    (λ t. rw word at (first.1 (second.1 (rw type_word at (third.1 (fourth.1 (same.0 t ∙ last_word)))))) ∙ sym (spelled k),
-      λ e. same.1 (fourth.0 (third.0 (rw type_word (second.0 (first.0 (rw word (e ∙ spelled k)))))) ∙ sym last_word))
+    = next c.in-Some-behind-2.rest.now (codes " ") (dimension_word (dimension_of k)) c.behind-4.result c.in-Some-behind-3.rest c.in-Some-behind-3.is c.behind-4.ensures in
+    let same = slice_eq-Decides Decides-eqb c.in-Some-behind-3.rest.now c.as_bytes.result.now c.eq.result c.eq.ensures in (
+      λ t. rw word at (first.1 (second.1 (rw type_word at (third.1 (fourth.1 (same.0 t ∙ last_word)))))) ∙ sym (spelled k),
+      λ e. same.1 (fourth.0 (third.0 (rw type_word (second.0 (first.0 (rw word (e ∙ spelled k)))))) ∙ sym last_word),
+    )

@@ -1,4 +1,4 @@
-use Rattle.std.proofs.Common.{rules, ◌≡◌, ◌∙◌, inl, inr, ap, subst}
+use Rattle.std.proofs.Common.{arith, ◌≡◌, ◌≤◌, ◌∙◌, inl, inr, ap, subst}
 use Rattle.arrow_columns.specs.Types.{ColumnTree}
 use Rattle.field_makers.specs.Made.{CanBeMade, IsRefusedFor, made}
 use Rattle.field_makers.specs.declared.error.MakeError.{MakeError}
@@ -43,14 +43,19 @@ returns-in-Ok-make_column-clause-short c =
     (λ line is. inl (is_made _ c.in-Some.asked c.in-Ok.new c.in-Some.ensures.0 c.in-Ok.ensures c.in-Ok-make_column.ensures is))
     (c.fill_line.ensures.short short)
 
-pub returns-clause-refused : goal.returns-clause-refused
-returns-clause-refused c =
-    λ refused. makes_as
-    (λ line is. is_unmade c.in-Err.error c.in-Some.asked c.in-Ok.new c.in-Some.ensures.0 c.in-Ok.ensures c.in-Err.ensures is)
-    (c.refuse_made.ensures.refused refused)
+pub returns-in-Ok-make_column-clause-unknown : goal.returns-in-Ok-make_column-clause-unknown
+returns-in-Ok-make_column-clause-unknown c =
+    let small : c.fill_line.result ≤ 2 = c.fill_line.ensures.status in
+    (λ e. absurd (omega arith), λ none. absurd (c.in-Some.ensures.1 none))
 
-pub returns-clause-short : goal.returns-clause-short
-returns-clause-short c =
+pub returns-in-Err-clause-short : goal.returns-in-Err-clause-short
+returns-in-Err-clause-short c =
     λ short. makes_as
     (λ line is. inr (is_unmade c.in-Err.error c.in-Some.asked c.in-Ok.new c.in-Some.ensures.0 c.in-Ok.ensures c.in-Err.ensures is))
     (c.refuse_made.ensures.short short)
+
+pub returns-in-Err-clause-refused : goal.returns-in-Err-clause-refused
+returns-in-Err-clause-refused c =
+    λ refused. makes_as
+    (λ line is. is_unmade c.in-Err.error c.in-Some.asked c.in-Ok.new c.in-Some.ensures.0 c.in-Ok.ensures c.in-Err.ensures is)
+    (c.refuse_made.ensures.refused refused)
