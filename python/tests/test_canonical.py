@@ -158,9 +158,10 @@ class Files(InAFolder):
         for source in ([], (), Schema([]), write_schema([]), b"{}\n", ["{}", "1"]):
             self.assertEqual(lines(source), [])
         self.assertEqual(lines(["{}", OLD, "1", "", TEXT]), [OLD, TEXT])
+        name = self.file("b", b"PAR1")
         with self.assertRaises(RefusedSource) as refused:
-            lines(self.file("b", b"PAR1"))
-        self.assertEqual((refused.exception.code, refused.exception.finding.file[-1:]), ("Truncated", "b"))
+            lines(name)
+        self.assertEqual((refused.exception.code, json.loads(refused.exception.finding.json)["file"]), ("Truncated", str(name)))
 
     def test_the_schema_of_a_file(self):
         """Its lines make the schema that it stores, for each format; so do those of the schema that is made."""
