@@ -82,7 +82,7 @@ uint8_t geoarrow_schema_of_lines(const uint8_t *lines, size_t lines_len, struct 
 const char *geoarrow_status_text(uint8_t status) {
     static const char *const texts[] = {
         "done", "out is too small", "out of memory",
-        "no such command, or no such options, or a name that is not UTF-8",
+        "no such command, no such options or no such word, or a name or a CRS that is not UTF-8",
         "more than 1,000,000 lines, or a line of more than 1,048,576 bytes",
         "the bytes, or the schema, are refused", "of two files the first is refused"};
     return status < sizeof texts / sizeof *texts ? texts[status] : "no status";
