@@ -73,7 +73,7 @@ class Cases(unittest.TestCase):
 
     def test_what_only_an_address_would_take(self):
         for of in (Older.Schema, Older.Field, Older.DataType, Older.RecordBatch, Older.RecordBatchReader, Older.Table, Older.Array, Older.DictionaryArray):
-            self.refused(of(TWO), TypeError, f"^{of.__name__} gives no Arrow schema$")
+            self.refused(of(TWO), TypeError, f"^{of.__name__} is no source: ")
             with self.assertRaises(TypeError):
                 check(of(TWO))
 
@@ -162,7 +162,7 @@ class Cases(unittest.TestCase):
         self.assertEqual(check(Other.Schema(Type("z", "g", metadata=POINT)))[0].extension, "geoarrow.point")
 
     def test_an_export_of_that_name_that_is_not_of_pyarrow(self):
-        self.refused(Other.Exporter(TWO), TypeError, "gives no Arrow schema")
+        self.refused(Other.Exporter(TWO), TypeError, "is no source: ")
 
     def test_pairs_that_are_none(self):
         for pair in (None, (), (1,), "ab", (1, 2), [1, 2]):
@@ -172,7 +172,7 @@ class Cases(unittest.TestCase):
 
     def test_integers_are_no_addresses(self):
         for given in (3, 0, -1, True, 2**70):
-            self.refused(given, TypeError, "gives no Arrow schema")
+            self.refused(given, TypeError, "is no source: ")
 
     def test_objects_that_give_no_schema(self):
         class OfAText:
@@ -183,7 +183,7 @@ class Cases(unittest.TestCase):
             def schema(self):
                 return self
 
-        for given in (None, object(), 1.5, "", b"", [], {"a": 1}, OfAText(), OfItself(), Newer.Schema, lambda: 1):
+        for given in (None, object(), 1.5, {"a": 1}, OfAText(), OfItself(), Newer.Schema, lambda: 1):
             with self.assertRaises(TypeError):
                 lines(given)
 
