@@ -41,7 +41,7 @@ typedef struct request {
     uint8_t *text;
 } request_t;
 
-enum { GUARD = 64, THREADS = 8, ROUNDS = 6, LONG = 100000 };
+enum { GUARD = 64, THREADS = 8, ROUNDS = 6, LONG = 100000, REPORT_LIMIT = 1 << 20 };
 static const size_t UNSET = (size_t)0x5a5a5a5a;
 
 static uint8_t answer_line(const request_t *of, uint8_t *out, size_t out_len, size_t *len) {
@@ -251,7 +251,7 @@ static void answers(request_t *of) {
     for (size_t size = 0; size < least; size = size + step < least ? size + step : size + 1 < least ? least - 1 : least) {
         judge(is_kept(of, size, &status, &len) && status == GEOARROW_SHORT && len == of->len, of, "a buffer that is too small");
     }
-    if (of->call == report && of->size <= LONG) { /* (the limit of a report grows with the bytes that are given) */
+    if (of->call == report && of->size <= LONG && least <= REPORT_LIMIT) { /* (which is more where more bytes are given) */
         judge(is_fed(of, 0), of, "another report of the bytes that are wanted");
         judge(is_fed(of, 1), of, "another report of the bytes that are wanted of a pipe");
     }
