@@ -74,8 +74,9 @@ def _can_seek(file: Any) -> bool:
 
 
 def _of_file(file: Any, can_seek: bool) -> Given:
-    """What the library asks for, in rounds. The size of a file is looked at where all of one that can seek would be read; it is not believed where more was read."""
-    head, tail = b"", b""
+    """What the library asks for, in rounds. The size of a file is looked at where all of one that can seek would be read; it is not believed where more was read, and where
+    its end lacks bytes a second time what is there is given."""
+    head, tail, has_shrunk = b"", b"", False
     size: Optional[int] = None
     while True:
         of_begin, of_end = library.wanted(head, tail, size)
@@ -89,7 +90,11 @@ def _of_file(file: Any, can_seek: bool) -> Given:
         elif of_end > len(tail) and size is not None:
             file.seek(size - of_end)
             tail = _read(file, of_end)
-            size -= of_end - len(tail)  # (it has become shorter, if at all)
+            lacking = of_end - len(tail)  # (it has become shorter, if any)
+            size -= lacking
+            if lacking and has_shrunk:
+                return Given(head + tail, max(size - len(head) - len(tail), 0))
+            has_shrunk = has_shrunk or lacking > 0
         else:
             return Given(head + tail, size - len(head) - len(tail) if tail and size is not None else 0)
 

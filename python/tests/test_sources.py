@@ -232,6 +232,27 @@ class Files(InAFolder):
         for whole in (LINES, b"{}" + b" " * 62, OLD):
             self.assertEqual(given_of(Tells(whole)), (whole, 0, False, b""))
 
+    def test_a_size_that_no_bytes_come_up_to(self):
+        """What is there is given, in a few reads, however many bytes the file says that it has."""
+        class Claims(Counts):
+            def tell(self):
+                return 10**15 if self.at_end else super().tell()
+
+            def seek(self, place, whence=0):
+                self.at_end = whence == os.SEEK_END
+                return super().seek(place, whence)
+
+            def read(self, size=-1):
+                if len(self.places) == 100:
+                    raise AssertionError("the reads have no end")
+                return super().read(size)
+
+        for magic in (b"PAR1", b"ARROW1\0\0"):
+            file = Claims(magic + b"\0" * 200)
+            file.at_end = False
+            self.assertEqual(given_of(file).content, magic + b"\0" * (64 - len(magic)))
+            self.assertLess(len(file.places), 5)
+
     def test_a_file_that_becomes_shorter(self):
         """What is there is given, as of a file that was so short before."""
         class Shrinks(io.BytesIO):
